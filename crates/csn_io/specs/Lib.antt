@@ -1,0 +1,4 @@
+pub mod Faults
+pub mod Got
+pub mod Put
+pub mod ShelfFault
