@@ -19,7 +19,7 @@ digits_of-read [] None s = refl
 digits_of-read [] (Some tail) s = refl
 digits_of-read (d ∷ digits) tail s = rw (digit_no_slash d s.0) (ap (λ (l : List ℕ). d ∷ l) (digits_of-read digits tail s.1))
 
-tail_of-read : (digits : List ℕ) (tail : Option (List ℕ)) → AreDigits digits → tail_of (digits ++ tail_text tail) ≡ tail
+pub tail_of-read : (digits : List ℕ) (tail : Option (List ℕ)) → AreDigits digits → tail_of (digits ++ tail_text tail) ≡ tail
 tail_of-read [] None s = refl
 tail_of-read [] (Some tail) s = refl
 tail_of-read (d ∷ digits) tail s = rw (digit_no_slash d s.0) (tail_of-read digits tail s.1)

@@ -4,3 +4,5 @@ pub mod Digits
 pub mod Faults
 pub mod Feeding
 pub mod Written
+pub mod ReadBack
+pub mod Decided

@@ -21,7 +21,7 @@ spelled_well byte =
 spelled_below : (byte : ℕ) → byte < 103 → spelled_well byte ≡ true
 spelled_below byte low = agree_below_at spelled_well (λ _. true) 103 byte refl low
 
-digit_spelled : (byte : ℕ) → is_hex_digit byte ≡ true → (value_of byte < 16) × (upper byte ≡ slice_index upper_digits (value_of byte))
+pub digit_spelled : (byte : ℕ) → is_hex_digit byte ≡ true → (value_of byte < 16) × (upper byte ≡ slice_index upper_digits (value_of byte))
 digit_spelled byte h = elim (cases_lt byte 103) [
   | inl low ↦ (
       let well = rw h at (spelled_below byte low) in
@@ -57,7 +57,7 @@ encode_upper-octets_of_digits (h ∷ l ∷ rest) (sh, (sl, s)) even =
     (ap (λ (x : List ℕ). slice_index upper_digits (value_of h) ∷ slice_index upper_digits (value_of l) ∷ x) later)
 
 -- the octets of digits are octets
-AreOctets-octets_of_digits : (digits : List ℕ) → AreOctets (octets_of_digits digits)
+pub AreOctets-octets_of_digits : (digits : List ℕ) → AreOctets (octets_of_digits digits)
 AreOctets-octets_of_digits [] k = omega arith
 AreOctets-octets_of_digits (d ∷ []) k = omega arith
 AreOctets-octets_of_digits (h ∷ l ∷ rest) zero = let a = value_small h in let b = value_small l in omega arith
@@ -83,14 +83,14 @@ octets_of-last octet (suc (suc (suc (suc (suc (suc (suc (suc (suc n))))))))) som
 octets_of-last octet used some few h = ap (λ (m : ℕ). m ∷ []) (omega arith)
 
 -- what is written for some bits, where there are any
-written-some : (bits : List ℕ) → 1 ≤ length bits → written bits ≡ encode_upper (octets_of bits) ++ tail_written (length bits % 8)
+pub written-some : (bits : List ℕ) → 1 ≤ length bits → written bits ≡ encode_upper (octets_of bits) ++ tail_written (length bits % 8)
 written-some [] some = absurd (omega arith)
 written-some (bit ∷ rest) some = refl
 
 -- ---- the tail
 
 -- a byte below `a` stands in upper case
-upper_low : (byte : ℕ) → byte < 97 → upper byte ≡ byte
+pub upper_low : (byte : ℕ) → byte < 97 → upper byte ≡ byte
 upper_low byte low = rw (and_left (nat_le 97 byte) (nat_le byte 102) (lt-leb 97 byte low)) refl
 
 pub tail_written-some : (n : ℕ) → 1 ≤ n → tail_written n ≡ 47 ∷ (48 + n) ∷ []
@@ -98,7 +98,7 @@ tail_written-some zero some = absurd (omega arith)
 tail_written-some (suc n) some = refl
 
 -- a byte that counts bits
-counting_byte : (byte used : ℕ) → bits_of_tail (Some (byte ∷ [])) ≡ Some used → (49 ≤ byte) × (byte ≤ 55) × (used ≡ byte - 48)
+pub counting_byte : (byte used : ℕ) → bits_of_tail (Some (byte ∷ [])) ≡ Some used → (49 ≤ byte) × (byte ≤ 55) × (used ≡ byte - 48)
 counting_byte byte used counts = elim (cases_Bool (nat_le 49 byte && nat_le byte 55)) [
   | inl within ↦ (
       let (low, high) = and_parts (nat_le 49 byte) (nat_le byte 55) within in
@@ -125,7 +125,7 @@ tail_in_upper (Some (a ∷ b ∷ rest)) used before counts = absurd (cc)
 -- ---- block lines
 
 -- the digits that a line of digits and a tail begins with
-leading-read : (digits : List ℕ) (tail : Option (List ℕ)) → AreDigits digits → leading_digits (digits ++ tail_text tail) ≡ digits
+pub leading-read : (digits : List ℕ) (tail : Option (List ℕ)) → AreDigits digits → leading_digits (digits ++ tail_text tail) ≡ digits
 leading-read digits None s = rw (append-nil digits) (leading-all digits s)
 leading-read digits (Some tail) s = leading-stop digits 47 tail s refl
 

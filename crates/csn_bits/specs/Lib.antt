@@ -2,3 +2,4 @@ pub mod Octets
 pub mod Line
 pub mod Feed
 pub mod Fault
+pub mod Laws

@@ -3,9 +3,10 @@
 --
 -- `.` is the block without bits. Any other block has two digits for each octet, the high four bits
 -- first, and `/n` after them where only the first n bits of the last octet belong to the block.
-use Rattle.std.specs.Prelude.{◌≡◌, ℕ, zero, suc, ◌+◌, ◌-◌, ◌*◌, ◌%◌, ◌≤◌, ◌==◌, nat_le, nat_lt, Bool, false, ◌&&◌, ◌||◌, not, if◌then◌else◌, List, [], ◌∷◌, ◌++◌, length, drop, map, sum, codes, Option, Some, None, unwrap_or, is_none, option_map}
+use Rattle.std.specs.Prelude.{◌≡◌, refl, ℕ, zero, suc, ◌+◌, ◌-◌, ◌*◌, ◌%◌, ◌≤◌, ◌==◌, nat_le, nat_lt, Bool, false, ◌&&◌, ◌||◌, not, if◌then◌else◌, List, [], ◌∷◌, ◌++◌, length, drop, map, sum, codes, Option, Some, None, unwrap_or, is_none, option_map}
 use Rattle.std.specs.List.{position_from}
-use Rattle.hex.specs.Hex.{encode_upper, hex_digit_value, is_hex_digit}
+use Rattle.std.proofs.Common.{lit≤}
+use Rattle.hex.specs.Hex.{encode_upper, encode_with, hex_digit_value, is_hex_digit}
 use Rattle.csn_bits.specs.Octets.{IsBits, bits_of_octet, octets_of}
 use Rattle.csn_bits.specs.declared.fault.LineWhy.{LineWhy}
 use Rattle.csn_bits.specs.declared.fault.LineWhy.TheVariants.{BadDigit, BadLength, BadFill, TooManyBits}
@@ -119,3 +120,37 @@ fault_of_parts digits tail =
 -- why a line is no block line, and None where it is one
 abbrev pub fault_of : List ℕ → Option LineWhy
 fault_of line = if is_dot line then None else fault_of_parts (digits_of line) (tail_of line)
+
+-- ---- examples
+
+pub written_octet : written (1 ∷ 0 ∷ 1 ∷ 0 ∷ 0 ∷ 1 ∷ 0 ∷ 1 ∷ []) ≡ codes "A5"
+unfolding encode_with
+written_octet = refl
+
+pub written_bits : written (1 ∷ 0 ∷ 1 ∷ []) ≡ codes "A0/3"
+unfolding encode_with
+written_bits = refl
+
+-- a line is read with small letters too
+pub spelled_small : BlockLine (codes "f8/5") (1 ∷ 1 ∷ 1 ∷ 1 ∷ 1 ∷ [])
+unfolding encode_with
+spelled_small = record { zeros_and_ones = (lit≤ tt, (lit≤ tt, (lit≤ tt, (lit≤ tt, (lit≤ tt, tt))))); few = lit≤ tt; spelled = refl }
+
+-- the order of faults: a bad digit stands before a bad tail, and this before an unused bit
+pub bad_digit_first : fault_of (codes "A0GG/9") ≡ Some (BadDigit 2)
+bad_digit_first = refl
+
+pub dots : fault_of (codes "..") ≡ Some (BadDigit 0)
+dots = refl
+
+pub empty_line : fault_of [] ≡ Some BadLength
+empty_line = refl
+
+pub bad_tail : fault_of (codes "A1/0") ≡ Some BadLength
+bad_tail = refl
+
+pub unused_one : fault_of (codes "A1/3") ≡ Some BadFill
+unused_one = refl
+
+pub no_fault : fault_of (codes "A0/3") ≡ None
+no_fault = refl

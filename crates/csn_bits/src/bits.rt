@@ -1,4 +1,4 @@
-ghost use Rattle.std.specs.Prelude.{◌≡◌, ◌≢◌, ◌+◌, ◌*◌, ◌<◌, ◌≤◌, ◌↔◌, [], ◌∷◌, ◌++◌, length, slice_index, take, ◌⊎◌, IfOk, IfErr, OnOk, OnErr, IsErrOf, vec_len};
+ghost use Rattle.std.specs.Prelude.{◌≡◌, ◌≢◌, ◌+◌, ◌*◌, ◌/◌, ◌<◌, ◌≤◌, ◌↔◌, [], ◌∷◌, ◌++◌, length, slice_index, take, ◌⊎◌, IfOk, IfErr, OnOk, OnErr, IsErrOf, vec_len};
 ghost use Rattle.csn_bits.specs.Fault.{IsLineFault};
 ghost use Rattle.csn_bits.specs.Line.{BlockLine, written};
 ghost use Rattle.csn_bits.specs.Octets.{IsBits, bits_of_octets, octets_of};
@@ -162,7 +162,9 @@ impl Bits {
     /// The octets that hold the bits, eight to an octet, the first bit of each octet its most
     /// significant one. In the last octet what is unused is 0.
     pub fn octets(&self) -> &[u8]
-        ensures { result.now ≡ octets_of self.now }
+        ensures exact { result.now ≡ octets_of self.now }
+        ensures count { length result.now ≡ (length self.now + 7) / 8 }
+        ensures bits { take (length self.now) (bits_of_octets result.now) ≡ self.now }
     {
         &self.octets
     }

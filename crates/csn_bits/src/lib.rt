@@ -4,6 +4,7 @@
 mod bits;
 mod fault;
 mod feed;
+pub mod laws;
 mod pattern;
 
 pub use bits::{Bits, MOST_BITS};
