@@ -1,0 +1,13 @@
+pub mod Splits
+pub mod BitFacts
+pub mod Prefixes
+pub mod MeantBits
+pub mod Empties
+pub mod Numbering
+pub mod WalkFacts
+pub mod OneWalk
+pub mod Nodewise
+pub mod ExampleFacts
+pub mod RefusedExample
+pub mod LabelFacts
+pub mod NumberFacts
