@@ -58,11 +58,6 @@ bits_of_tail (Some tail) = None
 abbrev pub value_of : ℕ → ℕ
 value_of digit = unwrap_or (hex_digit_value digit) 0
 
--- the octet of two digits, if both are digits
-abbrev pub octet_of_pair : ℕ → ℕ → Option ℕ
-octet_of_pair high low =
-    if is_hex_digit high && is_hex_digit low then Some (16 * value_of high + value_of low) else None
-
 -- the octets of the whole pairs of digits
 abbrev pub octets_of_digits : List ℕ → List ℕ
 octets_of_digits (high ∷ low ∷ rest) = (16 * value_of high + value_of low) ∷ octets_of_digits rest
