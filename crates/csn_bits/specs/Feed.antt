@@ -1,7 +1,7 @@
 -- A block line that is read byte by byte.
 use Rattle.std.specs.Prelude.{◌≡◌, ℕ, ◌-◌, ◌≤◌, true, false, ◌==◌, ◌&&◌, if◌then◌else◌, List, [], ◌∷◌, ◌++◌, length, take, codes, Option, Some, None}
 use Rattle.hex.specs.Hex.{is_hex_digit}
-use Rattle.csn_bits.specs.Octets.{bits_of_octet, bits_of_octets, octets_of}
+use Rattle.csn_bits.specs.Octets.{bits_of_octet, bits_of_octets, most_octets, octets_of}
 use Rattle.csn_bits.specs.Line.{BlockLine, bits_of_tail, fault_of, is_dot, last_of, octets_of_digits, value_of}
 use Rattle.csn_bits.specs.declared.fault.LineWhy.{LineWhy}
 use Rattle.csn_bits.specs.declared.feed.HexFeed.{HexFeed}
@@ -26,12 +26,16 @@ all_but_last xs = take (length xs - 1) xs
 -- the octets that a feed of this line has given: those of its whole pairs of digits but the last
 -- pair, which the end of the line decides about, and no more than a block has
 abbrev pub octets_given : List ℕ → List ℕ
-octets_given line = take 65536 (all_but_last (octets_of_digits (leading_digits line)))
+octets_given line = take most_octets (all_but_last (octets_of_digits (leading_digits line)))
 
 -- the octets of a step
 abbrev pub octets_of_step : HexStep → List ℕ
 octets_of_step Nothing = []
 octets_of_step (Octet octet) = octet ∷ []
+
+-- a step gives what one more byte of the line adds
+abbrev pub Gives : List ℕ → ℕ → HexStep → Type 0
+Gives line byte step = octets_given (line ++ byte ∷ []) ≡ octets_given line ++ octets_of_step step
 
 -- the fault that the end of a line tells
 abbrev pub fault_of_end : HexEnd → Option LineWhy

@@ -5,7 +5,7 @@ use crate::digit::{counted_bits, digit_value};
 use crate::fault::LineWhy;
 
 /// The most octets of a block.
-const MOST_OCTETS: u32 = 65_536;
+pub(crate) const MOST_OCTETS: u32 = 65_536;
 
 /// A block line that is read byte by byte. It takes no memory.
 #[derive(Debug, Drop)]
@@ -57,7 +57,7 @@ pub enum HexEnd {
 
 impl HexFeed {
     ghost use Rattle.hex.specs.Hex.{hex_digit_value};
-    ghost use Rattle.csn_bits.specs.Feed.{EndsDigits, EndsLine, Fed, Keeps, fault_of_end, octets_given, octets_of_step, seen_of};
+    ghost use Rattle.csn_bits.specs.Feed.{EndsDigits, EndsLine, Fed, Gives, Keeps, fault_of_end, seen_of};
     ghost use Rattle.csn_bits.specs.Line.{fault_of};
 
     /// A feed that was given nothing yet.
@@ -85,7 +85,7 @@ impl HexFeed {
     pub fn byte(&mut self, byte: u8) -> HexStep
         requires { seen_of self.old < 16777216 }
         ensures fed { (line : List ℕ) → Fed self.old line → Fed self.new (line ++ byte ∷ []) }
-        ensures given { (line : List ℕ) → Fed self.old line → octets_given (line ++ byte ∷ []) ≡ octets_given line ++ octets_of_step result }
+        ensures given { (line : List ℕ) → Fed self.old line → Gives line byte result }
         ensures seen { seen_of self.new ≡ seen_of self.old + 1 }
     {
         let column = self.seen;
@@ -104,8 +104,11 @@ impl HexFeed {
     fn digit(&mut self, value: u8) -> HexStep
         requires digits { self.old.stage ≡ Stage.Digits }
         requires small { value < 16 }
-        ensures keeps { (line : List ℕ) (digit : ℕ) → Keeps self.old line → hex_digit_value digit ≡ Some value → Keeps self.new (line ++ digit ∷ []) }
-        ensures given { (line : List ℕ) (digit : ℕ) → Keeps self.old line → hex_digit_value digit ≡ Some value → self.old.seen ≡ length line + 1 → octets_given (line ++ digit ∷ []) ≡ octets_given line ++ octets_of_step result }
+        ensures keeps { (line : List ℕ) (digit : ℕ) → Keeps self.old line
+            → hex_digit_value digit ≡ Some value → Keeps self.new (line ++ digit ∷ []) }
+        ensures given { (line : List ℕ) (digit : ℕ) → Keeps self.old line
+            → hex_digit_value digit ≡ Some value → self.old.seen ≡ length line + 1
+            → Gives line digit result }
         ensures seen { self.new.seen ≡ self.old.seen }
     {
         let Some(high) = self.waiting else {
