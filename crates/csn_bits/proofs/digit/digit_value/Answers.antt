@@ -1,9 +1,13 @@
 use Rattle.std.proofs.Common.{arith}
-use Rattle.csn_bits.proofs.HexDigits.{table_none, table_value}
+use Rattle.csn_bits.proofs.HexDigits.{reads_digit, value_small}
 use Rattle.csn_bits.proofs.digit.digit_value.Goals as goal
 
-pub returns-then-value-lt16-clause-value : goal.returns-then-value-lt16-clause-value
-returns-then-value-lt16-clause-value c = table_value c.args.byte (omega arith) c.if-value-lt16.true
+pub returns-in-Ok-clause-value : goal.returns-in-Ok-clause-value
+returns-in-Ok-clause-value c = rw (← c.in-Ok.ensures) at (reads_digit c.args.byte)
 
-pub returns-else-value-lt16-clause-value : goal.returns-else-value-lt16-clause-value
-returns-else-value-lt16-clause-value c = table_none c.args.byte (omega arith) c.if-value-lt16.false
+pub returns-in-Ok-clause-small : goal.returns-in-Ok-clause-small
+returns-in-Ok-clause-small c =
+    rw (← (rw (← c.in-Ok.ensures) at (reads_digit c.args.byte))) at (value_small c.args.byte (omega arith))
+
+pub returns-in-Err-clause-value : goal.returns-in-Err-clause-value
+returns-in-Err-clause-value c = rw (← c.in-Err.ensures) at (reads_digit c.args.byte)
