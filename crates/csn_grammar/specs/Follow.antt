@@ -104,6 +104,6 @@ module _ (rules : RulesV) (r : Reading) where
           → b ≡ b1 ++ b2 → ItemsMean rules r tail.items o [] env b1 ts
           → Begins b2 (spelled tail.end.again.run (o + length b1)) → TailFollows tail o env b
       tail_turns : {tail : TailV} {o : ℕ} {env : Env} {b : List ℕ} {ts : Trees} (b1 b2 b3 : List ℕ)
-          → b ≡ b1 ++ b2 ++ b3 → ItemsMean rules r tail.items o [] env b1 ts
+          → b ≡ b1 ++ (b2 ++ b3) → ItemsMean rules r tail.items o [] env b1 ts
           → b2 ≡ spelled tail.end.again.run (o + length b1)
           → TailFollows tail (o + length b1 + length b2) env b3 → TailFollows tail o env b

@@ -10,3 +10,10 @@ pub mod Void
 pub mod Meaning
 pub mod Follow
 pub mod Strings
+pub mod Formed
+pub mod Laws
+pub mod TokenV
+pub mod Writing
+pub mod Counts
+pub mod Grammar
+pub mod Place

@@ -142,7 +142,7 @@ module _ (rules : RulesV) (r : Reading) where
           → b2 ≡ spelled tail.end.stop.run (o + length b1) → TailMeans tail o env b ts none
       tail_again : {tail : TailV} {o : ℕ} {env : Env} {b : List ℕ}
           {ts next turns : Trees} (b1 b2 b3 : List ℕ)
-          → b ≡ b1 ++ b2 ++ b3 → ItemsMean tail.items o [] env b1 ts
+          → b ≡ b1 ++ (b2 ++ b3) → ItemsMean tail.items o [] env b1 ts
           → b2 ≡ spelled tail.end.again.run (o + length b1)
           → TailMeans tail (o + length b1 + length b2) env b3 next turns
           → TailMeans tail o env b ts (more (row (more empty next)) turns)

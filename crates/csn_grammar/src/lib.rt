@@ -4,6 +4,7 @@
 mod exponent;
 mod expr;
 mod fault;
+pub mod laws;
 mod rules;
 
 pub use exponent::Exponent;

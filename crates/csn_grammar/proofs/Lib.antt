@@ -1,0 +1,4 @@
+pub mod MeantBits
+pub mod VoidFacts
+pub mod Prefixes
+pub mod Empties
