@@ -24,13 +24,17 @@ l = lit≤ tt
 
 module _ {rules : RulesV} {r : Reading} where
   -- a field, a labelled one, and a literal
-  a_field : {at : ℕ} {env : Env} {k : Exponent} (n : ℕ) (b : List ℕ) → count_of env k ≡ Some n → length b ≡ 1 * n → IsBits b → Means rules r (bits_by k) at env b (bits b)
+  a_field : {at : ℕ} {env : Env} {k : Exponent} (n : ℕ) (b : List ℕ) → count_of env k ≡ Some n
+      → length b ≡ 1 * n → IsBits b → Means rules r (bits_by k) at env b (bits b)
   a_field n b counts wide are = means_field 1 n refl counts wide are
 
-  labelled_field : {at : ℕ} {env : Env} {label : List ℕ} {k : Exponent} (n : ℕ) (b : List ℕ) → count_of env k ≡ Some n → length b ≡ 1 * n → IsBits b → Means rules r (field label k) at env b (leaf label b)
+  labelled_field : {at : ℕ} {env : Env} {label : List ℕ} {k : Exponent} (n : ℕ) (b : List ℕ)
+      → count_of env k ≡ Some n → length b ≡ 1 * n → IsBits b
+      → Means rules r (field label k) at env b (leaf label b)
   labelled_field n b counts wide are = means_labelled (a_field n b counts wide are)
 
-  literal : {at : ℕ} {env : Env} {run : List Symbol} (b : List ℕ) → b ≡ spelled run at → Means rules r (word run) at env b empty
+  literal : {at : ℕ} {env : Env} {run : List Symbol} (b : List ℕ) → b ≡ spelled run at
+      → Means rules r (word run) at env b empty
   literal b spells = means_lits spells
 
 pub a5_has_its_tree : A5HasItsTree
@@ -114,7 +118,8 @@ truncations_take_first_parts = (
 )
 
 -- one repetition: a 1 and a field of one bit
-turn : {rules : RulesV} {r : Reading} {at : ℕ} {env : Env} (value : ℕ) → value ≤ 1 → Means rules r (braces (sequence (word (One ∷ []) ∷ field A (Number 1) ∷ []))) at env (1 ∷ value ∷ []) (row_of (empty ∷ leaf A (value ∷ []) ∷ []))
+turn : {rules : RulesV} {r : Reading} {at : ℕ} {env : Env} (value : ℕ) → value ≤ 1
+    → Means rules r (braces (sequence (word (One ∷ []) ∷ field A (Number 1) ∷ []))) at env (1 ∷ value ∷ []) (row_of (empty ∷ leaf A (value ∷ []) ∷ []))
 turn value is =
     means_group (means_seq
     (items_next (1 ∷ []) _ refl (literal (1 ∷ []) refl)

@@ -14,19 +14,23 @@ use Rattle.csn_grammar.specs.Strings.{Strings, Followed}
 use Rattle.csn_grammar.specs.Examples.{M, one_rule}
 
 module _ (rules : RulesV) (r : Reading) where
-  pub plain_means : {rule : Rule} {o : ℕ} {env : Env} {b : List ℕ} {t : TreeV} → tail_of rule ≡ None → RuleMeans rules r rule o env b t → Means rules r rule.body o env b t
+  pub plain_means : {rule : Rule} {o : ℕ} {env : Env} {b : List ℕ} {t : TreeV} → tail_of rule ≡ None
+      → RuleMeans rules r rule o env b t → Means rules r rule.body o env b t
   plain_means none (rule_plain is h) = h
   plain_means none (rule_tail tail is h) = cc
 
-  pub plain_follows : {rule : Rule} {o : ℕ} {env : Env} {b : List ℕ} → tail_of rule ≡ None → RuleFollows rules r rule o env b → Follow rules r rule.body o env b
+  pub plain_follows : {rule : Rule} {o : ℕ} {env : Env} {b : List ℕ} → tail_of rule ≡ None
+      → RuleFollows rules r rule o env b → Follow rules r rule.body o env b
   plain_follows none (follows_plain is h) = h
   plain_follows none (follows_tail tail is h) = cc
 
 module _ (r : Reading) (body : ExprV) (none : tail_of_body M body ≡ None) where
-  pub body_means : (b : List ℕ) (t : TreeV) → Strings (one_rule body) M r b t → Means (one_rule body) r body 0 [] b t
+  pub body_means : (b : List ℕ) (t : TreeV) → Strings (one_rule body) M r b t
+      → Means (one_rule body) r body 0 [] b t
   body_means b t h = found h.0 h.1 h.2
     where
-      found : (rule : Rule) → rule_of (one_rule body) M ≡ Some rule → RuleMeans (one_rule body) r rule 0 [] b t → Means (one_rule body) r body 0 [] b t
+      found : (rule : Rule) → rule_of (one_rule body) M ≡ Some rule
+          → RuleMeans (one_rule body) r rule 0 [] b t → Means (one_rule body) r body 0 [] b t
       found rule at h =
           let name_is : rule.name ≡ M = cc in
           let body_is : rule.body ≡ body = cc in
@@ -36,7 +40,8 @@ module _ (r : Reading) (body : ExprV) (none : tail_of_body M body ≡ None) wher
   pub body_follows : (b : List ℕ) → Followed (one_rule body) M r b → Follow (one_rule body) r body 0 [] b
   body_follows b h = found h.0 h.1 h.2
     where
-      found : (rule : Rule) → rule_of (one_rule body) M ≡ Some rule → RuleFollows (one_rule body) r rule 0 [] b → Follow (one_rule body) r body 0 [] b
+      found : (rule : Rule) → rule_of (one_rule body) M ≡ Some rule
+          → RuleFollows (one_rule body) r rule 0 [] b → Follow (one_rule body) r body 0 [] b
       found rule at h =
           let name_is : rule.name ≡ M = cc in
           let body_is : rule.body ≡ body = cc in

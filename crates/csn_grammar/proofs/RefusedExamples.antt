@@ -17,28 +17,34 @@ use Rattle.csn_grammar.proofs.ExampleFacts.{a5_has_its_tree}
 use Rattle.csn_grammar.proofs.OneRule.{body_means, body_follows}
 
 -- the field of A has three bits
-field_has_three : {o : ℕ} {env : Env} {b : List ℕ} {t : TreeV} → Means fields Received (bits_by (Number 3)) o env b t → length b ≡ 3
+field_has_three : {o : ℕ} {env : Env} {b : List ℕ} {t : TreeV}
+    → Means fields Received (bits_by (Number 3)) o env b t → length b ≡ 3
 field_has_three (means_field unit n is counts wide are) = let three : 3 ≡ n = cc in let one : 1 ≡ unit = cc in let product : unit * n ≡ 1 * n = ap (λ k. k * n) (sym one) in omega arith
 field_has_three (means_times n is counts h) = cc
 
-a_has_three : {o : ℕ} {env : Env} {b : List ℕ} {t : TreeV} → Means fields Received (field A (Number 3)) o env b t → length b ≡ 3
+a_has_three : {o : ℕ} {env : Env} {b : List ℕ} {t : TreeV}
+    → Means fields Received (field A (Number 3)) o env b t → length b ≡ 3
 a_has_three (means_labelled h) = field_has_three h
 
-field_at_most_three : {o : ℕ} {env : Env} {b : List ℕ} → Follow fields Received (bits_by (Number 3)) o env b → length b ≤ 3
+field_at_most_three : {o : ℕ} {env : Env} {b : List ℕ} → Follow fields Received (bits_by (Number 3)) o env b
+    → length b ≤ 3
 field_at_most_three (follows_whole t h) = omega (arith, field_has_three h)
 field_at_most_three {b = b} (follows_leaf whole rest leaf joins h) = omega (arith, field_has_three h, ap length joins, length-append b rest)
 field_at_most_three (follows_times n is counts h) = cc
 
-a_at_most_three : {o : ℕ} {env : Env} {b : List ℕ} → Follow fields Received (field A (Number 3)) o env b → length b ≤ 3
+a_at_most_three : {o : ℕ} {env : Env} {b : List ℕ} → Follow fields Received (field A (Number 3)) o env b
+    → length b ≤ 3
 a_at_most_three (follows_whole t h) = omega (arith, a_has_three h)
 a_at_most_three (follows_leaf whole rest leaf joins h) = cc
 a_at_most_three (follows_labelled h) = field_at_most_three h
 
 -- the literal is a 0
-literal_is_zero : {o : ℕ} {env : Env} {b : List ℕ} {t : TreeV} → Means fields Received (word (Zero ∷ [])) o env b t → b ≡ 0 ∷ []
+literal_is_zero : {o : ℕ} {env : Env} {b : List ℕ} {t : TreeV}
+    → Means fields Received (word (Zero ∷ [])) o env b t → b ≡ 0 ∷ []
 literal_is_zero (means_lits h) = h
 
-literal_begins_zero : {o bit : ℕ} {env : Env} {b : List ℕ} → Follow fields Received (word (Zero ∷ [])) o env (bit ∷ b) → bit ≡ 0
+literal_begins_zero : {o bit : ℕ} {env : Env} {b : List ℕ}
+    → Follow fields Received (word (Zero ∷ [])) o env (bit ∷ b) → bit ≡ 0
 literal_begins_zero (follows_whole t h) = let zero_bit = literal_is_zero h in cc
 literal_begins_zero {bit = bit} {b = b} (follows_leaf whole rest leaf joins h) =
     let both : bit ∷ (b ++ rest) ≡ 0 ∷ [] = sym joins ∙ literal_is_zero h in cc
@@ -52,12 +58,18 @@ one_behind (x ∷ y ∷ z ∷ []) b2 joins three = cc
 one_behind (x ∷ y ∷ z ∷ w ∷ b) b2 joins three = absurd (omega arith)
 
 -- the items behind A do not begin with a 1
-no_one_means : {o : ℕ} {frame : Frame} {env : Env} {b : List ℕ} {ts : Trees} → ItemsMean fields Received (item (word (Zero ∷ [])) (item (field B (Number 4)) no_item)) o frame env b ts → b ≡ 1 ∷ [] → ⊥
+no_one_means : {o : ℕ} {frame : Frame} {env : Env} {b : List ℕ} {ts : Trees}
+    → ItemsMean fields Received (item (word (Zero ∷ []))
+    (item (field B (Number 4)) no_item)) o frame env b ts
+    → b ≡ 1 ∷ [] → ⊥
 no_one_means (items_next c1 c2 joins h others) is =
     let first : c1 ≡ 0 ∷ [] = literal_is_zero h in
     let both : 0 ∷ c2 ≡ 1 ∷ [] = ap (λ c. c ++ c2) (sym first) ∙ sym joins ∙ is in cc
 
-no_one_follows : {o : ℕ} {frame : Frame} {env : Env} {b : List ℕ} → ItemsFollow fields Received (item (word (Zero ∷ [])) (item (field B (Number 4)) no_item)) o frame env b → b ≡ 1 ∷ [] → ⊥
+no_one_follows : {o : ℕ} {frame : Frame} {env : Env} {b : List ℕ}
+    → ItemsFollow fields Received (item (word (Zero ∷ []))
+    (item (field B (Number 4)) no_item)) o frame env b
+    → b ≡ 1 ∷ [] → ⊥
 no_one_follows {o} {frame} {env} {b} (items_here h) is =
     let P : List ℕ → Type 0 = λ c. Follow fields Received (word (Zero ∷ [])) o (frame ∷ env) c in
     let one : 1 ≡ 0 = literal_begins_zero (subst P is h) in absurd (omega (arith, one))
@@ -94,7 +106,8 @@ b5_is_refused_at_three = (
 )
 
 -- the third bit of the padding pattern is a 1
-not_padding : (t : TreeV) → Means padding Sent (part (name (codes "spare padding"))) 0 [] (0 ∷ 0 ∷ 0 ∷ []) t → ⊥
+not_padding : (t : TreeV) → Means padding Sent (part (name (codes "spare padding"))) 0 [] (0 ∷ 0 ∷ 0 ∷ []) t
+    → ⊥
 not_padding t (means_spare_bit is one h) = absurd (omega arith)
 not_padding t (means_spare_low is one h) = absurd (omega arith)
 not_padding t (means_padding is some h) = cc

@@ -88,7 +88,7 @@ LettersGoByPlace =
 abbrev pub padding : RulesV
 padding = one_rule (part (name (codes "spare padding")))
 
--- a receiver takes any bits, a sender writes the pattern alone, and neither takes none
+-- a receiver takes any bits, and a sender writes the pattern alone
 abbrev pub PaddingGoesByReading : Type 0
 PaddingGoesByReading =
     Strings padding M Received (0 ∷ 0 ∷ 0 ∷ []) (bits (0 ∷ 0 ∷ 0 ∷ []))
