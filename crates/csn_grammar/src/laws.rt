@@ -41,5 +41,4 @@ pub fn empty_bits_are_followed()
 /// A block has at most one place up to which it can be followed.
 pub fn blocks_have_one_place()
     ensures { BlocksHaveOnePlace }
-{
-}
+{}
