@@ -2,6 +2,17 @@ pub mod ExprV
 pub mod ExprCode
 pub mod FormView
 pub mod RulesV
+pub mod Names
+pub mod Environment
+pub mod Forms
+pub mod TailForm
+pub mod Void
+pub mod Meaning
+pub mod Follow
+pub mod Strings
+pub mod Formed
+pub mod Laws
+pub mod Examples
 pub mod TokenV
 pub mod Writing
 pub mod Counts
