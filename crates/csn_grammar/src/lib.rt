@@ -4,6 +4,8 @@
 mod exponent;
 mod expr;
 mod fault;
+pub mod laws;
+mod reader;
 mod rules;
 
 pub use exponent::Exponent;

@@ -1,0 +1,9 @@
+pub mod Labels
+pub mod Spelled
+pub mod Run
+pub mod Members
+pub mod Complete
+pub mod CompleteWords
+pub mod CompleteExpr
+pub mod CompleteRules
+pub mod SoundWords
