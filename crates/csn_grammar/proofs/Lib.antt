@@ -7,3 +7,7 @@ pub mod CompleteWords
 pub mod CompleteExpr
 pub mod CompleteRules
 pub mod SoundWords
+pub mod SoundExponents
+pub mod SoundExpr
+pub mod SoundBody
+pub mod SoundRules
