@@ -1,11 +1,10 @@
 -- Bits that an expression means are zeros and ones, and so are bits that it follows.
-use Rattle.std.proofs.Common.{◌≡◌, ℕ, List, [], ◌∷◌, ◌++◌, sym}
+use Rattle.std.proofs.Common.{◌≡◌, ℕ, List, ◌++◌, sym}
 use Rattle.csn_bits.specs.Octets.{IsBits}
 use Rattle.csn_bits.proofs.Packing.{IsBits-append}
 use Rattle.csn_desc.specs.declared.reading.Reading.{Reading}
 use Rattle.csn_desc.specs.declared.symbol.Symbol.TheVariants.{Zero, Low}
 use Rattle.csn_desc.specs.TreeV.{TreeV, Trees}
-use Rattle.csn_desc.specs.Spelled.{spelled}
 use Rattle.csn_desc.proofs.BitFacts.{IsBits-front, IsBits-along, IsBits-spelled, IsBits-spare}
 use Rattle.csn_grammar.specs.declared.rules.Rule.{Rule}
 use Rattle.csn_grammar.specs.ExprV.{ExprV, ExprsV}
@@ -13,7 +12,7 @@ use Rattle.csn_grammar.specs.RulesV.{RulesV}
 use Rattle.csn_grammar.specs.Environment.{Frame, Env}
 use Rattle.csn_grammar.specs.TailForm.{TailV}
 use Rattle.csn_grammar.specs.Meaning.{Means, ItemsMean, TimesMean, ManyMean, LeadMean, RuleMeans, TailMeans, means_lits, means_null, means_bit, means_octet, means_field, means_rest, means_spare_bit, means_spare_low, means_padding, means_seq, means_choice, means_only, means_times, means_many, means_cut_all, means_cut, means_window, means_labelled, means_name, means_group, means_received, means_sent, items_end, items_next, times_end, times_next, many_end, many_next, lead_last, lead_next, rule_plain, rule_tail, tail_stop, tail_again}
-use Rattle.csn_grammar.specs.Follow.{Begins, Follow, ItemsFollow, TimesFollow, ManyFollow, RuleFollows, TailFollows, follows_whole, follows_leaf, follows_seq, follows_choice, follows_times, follows_many, follows_cut, follows_window, follows_labelled, follows_name, follows_group, follows_received, follows_sent, items_here, items_later, times_here, times_later, many_here, many_later, follows_plain, follows_tail, tail_items, tail_stops, tail_goes_on, tail_turns}
+use Rattle.csn_grammar.specs.Follow.{Follow, ItemsFollow, TimesFollow, ManyFollow, RuleFollows, TailFollows, follows_whole, follows_leaf, follows_seq, follows_choice, follows_times, follows_many, follows_cut, follows_window, follows_labelled, follows_name, follows_group, follows_received, follows_sent, items_here, items_later, times_here, times_later, many_here, many_later, follows_plain, follows_tail, tail_items, tail_stops, tail_goes_on, tail_turns}
 
 IsBits-split : {w : List ℕ} (b1 b2 : List ℕ) → w ≡ b1 ++ b2 → IsBits b1 → IsBits b2 → IsBits w
 IsBits-split b1 b2 e p q = IsBits-along e (IsBits-append b1 b2 p q)

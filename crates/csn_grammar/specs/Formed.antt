@@ -1,7 +1,7 @@
 -- Which expressions are well formed: each name means a rule, and a rule names itself in tail form alone; an
 -- exponent stands on labels that are seen; `&` has a window; and nothing is empty of strings but alternatives
 -- that are dropped, and sides of `=` that are not taken. This is the project's own choice.
-use Rattle.std.specs.Prelude.{◌≡◌, ℕ, ⊤, IsTrue, IsFalse, List, [], ◌∷◌, Option, Some, None, IsSome}
+use Rattle.std.specs.Prelude.{◌≡◌, ℕ, ⊤, IsTrue, IsFalse, List, [], ◌∷◌, codes, Option, Some, None, IsSome}
 use Rattle.std.specs.List.{Contains}
 use Rattle.csn_desc.specs.declared.reading.Reading.{Reading}
 use Rattle.csn_desc.specs.declared.reading.Reading.TheVariants.{Received, Sent}
@@ -12,7 +12,7 @@ use Rattle.csn_grammar.specs.declared.rules.Rule.{Rule}
 use Rattle.csn_grammar.specs.ExprV.{ExprV, expr, lits, null, bit, octet, name, labelled, group, seq, choice, power, cut, both, sends, ExprsV, no_item, item, BranchesV}
 use Rattle.csn_grammar.specs.RulesV.{RulesV}
 use Rattle.csn_grammar.specs.Names.{rule_of}
-use Rattle.csn_grammar.specs.Forms.{unit_of, is_bit, is_spare_name, WindowV, window_of}
+use Rattle.csn_grammar.specs.Forms.{unit_of, is_bit, WindowV, window_of}
 use Rattle.csn_grammar.specs.Environment.{Env, value_of, label_of}
 use Rattle.csn_grammar.specs.TailForm.{TailV, tail_of}
 use Rattle.csn_grammar.specs.Void.{Kept}
@@ -32,7 +32,9 @@ module _ (rules : RulesV) (r : Reading) where
   mutual
     -- the expression x, where these labels are seen, is well formed
     pub data Formed : List (List ℕ) → ExprV → Type 0 where
-      formed_lits : {s e : ℕ} {run : List Symbol} {seen : List (List ℕ)} → Formed seen (expr s e (lits run))
+      formed_lits :
+          {s e : ℕ} {run : List Symbol} {seen : List (List ℕ)}
+          → Formed seen (expr s e (lits run))
       formed_null : {s e : ℕ} {seen : List (List ℕ)} → Formed seen (expr s e null)
       formed_bit : {s e : ℕ} {seen : List (List ℕ)} → Formed seen (expr s e bit)
       formed_octet : {s e : ℕ} {seen : List (List ℕ)} → Formed seen (expr s e octet)
@@ -40,7 +42,17 @@ module _ (rules : RulesV) (r : Reading) where
           → unit_of x ≡ Some unit → IsCount seen k → Formed seen (expr s e (power x k))
       formed_rest : {s e : ℕ} {x : ExprV} {seen : List (List ℕ)} → IsTrue (is_bit x)
           → Formed seen (expr s e (power x Any))
-      formed_spare : {s e : ℕ} {n : List ℕ} {seen : List (List ℕ)} → IsTrue (is_spare_name n)
+      formed_spare_bit :
+          {s e : ℕ} {n : List ℕ} {seen : List (List ℕ)}
+          → n ≡ codes "spare bit"
+          → Formed seen (expr s e (name n))
+      formed_spare_low :
+          {s e : ℕ} {n : List ℕ} {seen : List (List ℕ)}
+          → n ≡ codes "spare L"
+          → Formed seen (expr s e (name n))
+      formed_padding :
+          {s e : ℕ} {n : List ℕ} {seen : List (List ℕ)}
+          → n ≡ codes "spare padding"
           → Formed seen (expr s e (name n))
       formed_seq : {s e : ℕ} {xs : ExprsV} {seen : List (List ℕ)} → ItemsFormed seen xs
           → Formed seen (expr s e (seq xs))
@@ -53,7 +65,10 @@ module _ (rules : RulesV) (r : Reading) where
           → Formed seen (expr s e (power x Any))
       formed_cut : {s e : ℕ} {xs : ExprsV} {seen : List (List ℕ)} → ItemsFormed seen xs
           → Formed seen (expr s e (cut xs))
-      formed_window : {s e : ℕ} {x y : ExprV} {seen : List (List ℕ)} (w : WindowV) → window_of x y ≡ Some w
+      formed_window :
+          {s e : ℕ} {x y : ExprV} {seen : List (List ℕ)}
+          (w : WindowV)
+          → window_of x y ≡ Some w
           → IsCount seen w.width.count → Formed seen w.part → Formed seen (expr s e (both x y))
       formed_labelled : {s e : ℕ} {label : List ℕ} {x : ExprV} {seen : List (List ℕ)} → Formed seen x
           → Formed seen (expr s e (labelled label x))
@@ -74,7 +89,10 @@ module _ (rules : RulesV) (r : Reading) where
 
     pub data EachFormed : List (List ℕ) → List ExprV → Type 0 where
       each_end : {seen : List (List ℕ)} → EachFormed seen []
-      each_next : {seen : List (List ℕ)} {x : ExprV} {xs : List ExprV} → Formed seen x → EachFormed seen xs
+      each_next :
+          {seen : List (List ℕ)} {x : ExprV} {xs : List ExprV}
+          → Formed seen x
+          → EachFormed seen xs
           → EachFormed seen (x ∷ xs)
 
     -- a rule sees the labels round the place where its name stands

@@ -1,5 +1,5 @@
 -- Laws over the definitions.
-use Rattle.std.specs.Prelude.{◌≡◌, ℕ, List, [], ◌++◌, Option, Some}
+use Rattle.std.specs.Prelude.{◌≡◌, ℕ, List, [], ◌++◌, Some}
 use Rattle.csn_bits.specs.Octets.{IsBits}
 use Rattle.csn_desc.specs.declared.reading.Reading.{Reading}
 use Rattle.csn_desc.specs.TreeV.{TreeV}
@@ -14,41 +14,55 @@ use Rattle.csn_grammar.specs.Follow.{Follow}
 use Rattle.csn_grammar.specs.Strings.{Strings, Followed}
 use Rattle.csn_grammar.specs.Formed.{Formed, RuleFormed, HaveValues}
 
-module _ (rules : RulesV) (r : Reading) where
-  abbrev pub PrefixesAreFollowed : Type 0
-  PrefixesAreFollowed =
-      (x : ExprV) (o : ℕ) (env : Env) (b c : List ℕ) → Follow rules r x o env (b ++ c) → Follow rules r x o env b
+abbrev pub PrefixesAreFollowed : Type 0
+PrefixesAreFollowed =
+    (rules : RulesV) (r : Reading) (x : ExprV) (o : ℕ) (env : Env) (b c : List ℕ)
+    → Follow rules r x o env (b ++ c) → Follow rules r x o env b
 
-  abbrev pub BlockPrefixesAreFollowed : Type 0
-  BlockPrefixesAreFollowed = (n b c : List ℕ) → Followed rules n r (b ++ c) → Followed rules n r b
+abbrev pub BlockPrefixesAreFollowed : Type 0
+BlockPrefixesAreFollowed =
+    (rules : RulesV) (r : Reading) (n b c : List ℕ) → Followed rules n r (b ++ c) → Followed rules n r b
 
-  abbrev pub MeaningsAreFollowed : Type 0
-  MeaningsAreFollowed =
-      (x : ExprV) (o : ℕ) (env : Env) (b : List ℕ) (t : TreeV) → Means rules r x o env b t → Follow rules r x o env b
+abbrev pub MeaningsAreFollowed : Type 0
+MeaningsAreFollowed =
+    (rules : RulesV) (r : Reading) (x : ExprV) (o : ℕ) (env : Env) (b : List ℕ) (t : TreeV)
+    → Means rules r x o env b t → Follow rules r x o env b
 
-  abbrev pub StringsAreFollowed : Type 0
-  StringsAreFollowed = (n b : List ℕ) (t : TreeV) → Strings rules n r b t → Followed rules n r b
+abbrev pub StringsAreFollowed : Type 0
+StringsAreFollowed =
+    (rules : RulesV) (r : Reading) (n b : List ℕ) (t : TreeV) → Strings rules n r b t → Followed rules n r b
 
-  abbrev pub MeaningsAreBits : Type 0
-  MeaningsAreBits = (x : ExprV) (o : ℕ) (env : Env) (b : List ℕ) (t : TreeV) → Means rules r x o env b t → IsBits b
+abbrev pub MeaningsAreBits : Type 0
+MeaningsAreBits =
+    (rules : RulesV) (r : Reading) (x : ExprV) (o : ℕ) (env : Env) (b : List ℕ) (t : TreeV)
+    → Means rules r x o env b t → IsBits b
 
-  abbrev pub FollowedAreBits : Type 0
-  FollowedAreBits = (x : ExprV) (o : ℕ) (env : Env) (b : List ℕ) → Follow rules r x o env b → IsBits b
+abbrev pub FollowedAreBits : Type 0
+FollowedAreBits =
+    (rules : RulesV) (r : Reading) (x : ExprV) (o : ℕ) (env : Env) (b : List ℕ)
+    → Follow rules r x o env b → IsBits b
 
-  abbrev pub VoidMeansNothing : Type 0
-  VoidMeansNothing =
-      (x : ExprV) (o : ℕ) (env : Env) (b : List ℕ) (t : TreeV) → Void rules r x → ¬ Means rules r x o env b t
+abbrev pub VoidMeansNothing : Type 0
+VoidMeansNothing =
+    (rules : RulesV) (r : Reading) (x : ExprV) (o : ℕ) (env : Env) (b : List ℕ) (t : TreeV)
+    → Void rules r x → ¬ Means rules r x o env b t
 
-  abbrev pub VoidFollowsNothing : Type 0
-  VoidFollowsNothing = (x : ExprV) (o : ℕ) (env : Env) (b : List ℕ) → Void rules r x → ¬ Follow rules r x o env b
+abbrev pub VoidFollowsNothing : Type 0
+VoidFollowsNothing =
+    (rules : RulesV) (r : Reading) (x : ExprV) (o : ℕ) (env : Env) (b : List ℕ)
+    → Void rules r x → ¬ Follow rules r x o env b
 
-  abbrev pub KeptOnce : Type 0
-  KeptOnce = (bs : BranchesV) (xs ys : List ExprV) → Kept rules r bs xs → Kept rules r bs ys → xs ≡ ys
+abbrev pub AlternativesAreKeptOnce : Type 0
+AlternativesAreKeptOnce =
+    (rules : RulesV) (r : Reading) (bs : BranchesV) (xs ys : List ExprV)
+    → Kept rules r bs xs → Kept rules r bs ys → xs ≡ ys
 
-  abbrev pub EmptyBitsAreFollowed : Type 0
-  EmptyBitsAreFollowed =
-      (seen : List (List ℕ)) (x : ExprV) (o : ℕ) (env : Env) → Formed rules r seen x → HaveValues env seen → Follow rules r x o env []
+abbrev pub EmptyBitsAreFollowed : Type 0
+EmptyBitsAreFollowed =
+    (rules : RulesV) (r : Reading) (seen : List (List ℕ)) (x : ExprV) (o : ℕ) (env : Env)
+    → Formed rules r seen x → HaveValues env seen → Follow rules r x o env []
 
-  abbrev pub EmptyBlocksAreFollowed : Type 0
-  EmptyBlocksAreFollowed =
-      (n : List ℕ) (rule : Rule) → rule_of rules n ≡ Some rule → RuleFormed rules r [] rule → Followed rules n r []
+abbrev pub EmptyBlocksAreFollowed : Type 0
+EmptyBlocksAreFollowed =
+    (rules : RulesV) (r : Reading) (n : List ℕ) (rule : Rule)
+    → rule_of rules n ≡ Some rule → RuleFormed rules r [] rule → Followed rules n r []
