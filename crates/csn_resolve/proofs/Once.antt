@@ -13,7 +13,7 @@ use Rattle.csn_resolve.specs.Seen.{Frame, Seen, with_labelled}
 use Rattle.csn_resolve.specs.Resolved.{NameGives, IsResolved}
 use Rattle.csn_resolve.specs.Gives.{Placed, Gives, ItemsGive, EachGives, RuleGives, gives_lits, gives_null, gives_bit, gives_octet, gives_field, gives_rest, gives_spare_bit, gives_spare_low, gives_padding, gives_seq, gives_choice, gives_only, gives_times, gives_many, gives_cut, gives_window, gives_labelled, gives_name, gives_group, gives_received, gives_sent, items_end, items_next, each_end, each_next, rule_plain, rule_tail}
 
-same_tail : (rule : Rule) {a b : TailV} → tail_of rule ≡ Some a → tail_of rule ≡ Some b → a ≡ b
+pub same_tail : (rule : Rule) {a b : TailV} → tail_of rule ≡ Some a → tail_of rule ≡ Some b → a ≡ b
 same_tail rule p q = cc
 
 not_two : {xs : List ExprV} {x : ExprV} → 2 ≤ length xs → xs ≡ x ∷ [] → ⊥
