@@ -5,10 +5,10 @@ use Rattle.csn_grammar.specs.declared.rules.Rule.{Rule}
 use Rattle.csn_grammar.specs.ExprV.{ExprV, ExprsV}
 use Rattle.csn_grammar.specs.RulesV.{RulesV}
 use Rattle.csn_grammar.specs.Forms.{WindowV}
-use Rattle.csn_grammar.specs.Void.{Void, SomeVoid, void_none, void_name, void_group, void_labelled, void_window, void_seq, void_choice, void_received, void_sent, void_here, void_later, all_end, all_next, all_error}
+use Rattle.csn_grammar.specs.Void.{Void, SomeVoid, void_none, void_name, void_group, void_labelled, void_window, void_seq, void_choice, void_received, void_sent, void_here, void_later}
 use Rattle.csn_grammar.proofs.VoidFacts.{same_window, same_rule, none_kept, tail_void, spare_bit_full, spare_low_full, padding_full, no_string_full}
 use Rattle.csn_resolve.specs.Seen.{Frame, Seen}
-use Rattle.csn_resolve.specs.Gives.{Placed, Gives, ItemsGive, EachGives, RuleGives, gives_lits, gives_null, gives_bit, gives_octet, gives_field, gives_rest, gives_spare_bit, gives_spare_low, gives_padding, gives_seq, gives_choice, gives_only, gives_times, gives_many, gives_cut, gives_window, gives_labelled, gives_name, gives_group, gives_received, gives_sent, items_end, items_next, rule_plain, rule_tail}
+use Rattle.csn_resolve.specs.Gives.{Placed, Gives, ItemsGive, RuleGives, gives_lits, gives_null, gives_bit, gives_octet, gives_field, gives_rest, gives_spare_bit, gives_spare_low, gives_padding, gives_seq, gives_choice, gives_only, gives_times, gives_many, gives_cut, gives_window, gives_labelled, gives_name, gives_group, gives_received, gives_sent, items_end, items_next, rule_plain, rule_tail}
 
 module _ (rules : RulesV) (r : Reading) where
   mutual
@@ -52,7 +52,7 @@ module _ (rules : RulesV) (r : Reading) where
     items_full (items_next first rest h others p q) (void_here v) = gives_full h v
     items_full (items_next first rest h others p q) (void_later v) = items_full others v
 
-    rule_full : {rule : Rule} {at : ℕ} {seen : Seen ℕ} {nodes : List Placed} → RuleGives rules r rule at seen nodes → Void rules r rule.body → ⊥
+    pub rule_full : {rule : Rule} {at : ℕ} {seen : Seen ℕ} {nodes : List Placed} → RuleGives rules r rule at seen nodes → Void rules r rule.body → ⊥
     rule_full (rule_plain is h) v = gives_full h v
     rule_full {rule = rule} (rule_tail tail many stop parts turn_parts items turn is i m t s p) v =
         items_full i (tail_void rules r rule.name rule.body tail is v)

@@ -1,5 +1,5 @@
 -- What an expression gives is one list of nodes.
-use Rattle.std.proofs.Common.{◌≡◌, ℕ, suc, ◌+◌, ◌≤◌, List, [], ◌∷◌, ◌++◌, length, refl, sym, ◌∙◌, ap, subst, arith, Some, None}
+use Rattle.std.proofs.Common.{◌≡◌, ℕ, suc, ◌+◌, ◌≤◌, List, [], ◌∷◌, length, refl, ap, subst, arith, Some}
 use Rattle.csn_desc.specs.declared.reading.Reading.{Reading}
 use Rattle.csn_desc.specs.Nodes.{DescV}
 use Rattle.csn_grammar.specs.declared.rules.Rule.{Rule}
@@ -9,7 +9,7 @@ use Rattle.csn_grammar.specs.Names.{is_built_in}
 use Rattle.csn_grammar.specs.Forms.{WindowV}
 use Rattle.csn_grammar.specs.TailForm.{TailV, tail_of}
 use Rattle.csn_grammar.proofs.VoidFacts.{no_rule, same_window, same_rule, kept_once}
-use Rattle.csn_resolve.specs.Seen.{Frame, Seen, with_labelled}
+use Rattle.csn_resolve.specs.Seen.{Frame, Seen}
 use Rattle.csn_resolve.specs.Resolved.{NameGives, IsResolved}
 use Rattle.csn_resolve.specs.Gives.{Placed, Gives, ItemsGive, EachGives, RuleGives, gives_lits, gives_null, gives_bit, gives_octet, gives_field, gives_rest, gives_spare_bit, gives_spare_low, gives_padding, gives_seq, gives_choice, gives_only, gives_times, gives_many, gives_cut, gives_window, gives_labelled, gives_name, gives_group, gives_received, gives_sent, items_end, items_next, each_end, each_next, rule_plain, rule_tail}
 

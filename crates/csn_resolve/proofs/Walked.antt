@@ -1,12 +1,10 @@
 -- The walk through an expression has one list of steps, and a named rule one list of refusals.
-use Rattle.std.proofs.Common.{◌≡◌, ℕ, Bool, true, false, List, [], ◌∷◌, ◌++◌, sym, ◌∙◌, ap, subst, arith, Option, Some, None}
-use Rattle.std.specs.Prelude.{slice_get}
+use Rattle.std.proofs.Common.{◌≡◌, ℕ, Bool, true, false, List, [], sym, ◌∙◌, subst, arith, Option, Some, None}
 use Rattle.csn_desc.specs.declared.reading.Reading.{Reading}
 use Rattle.csn_grammar.specs.declared.exponent.Exponent.{Exponent}
 use Rattle.csn_grammar.specs.declared.rules.Rule.{Rule}
 use Rattle.csn_grammar.specs.ExprV.{ExprV, ExprsV, BranchesV}
 use Rattle.csn_grammar.specs.RulesV.{RulesV}
-use Rattle.csn_grammar.specs.Names.{is_built_in, rule_of}
 use Rattle.csn_grammar.specs.Forms.{WidthV, width_of}
 use Rattle.csn_grammar.specs.TailForm.{TailV}
 use Rattle.csn_grammar.proofs.VoidFacts.{no_rule, same_rule}
@@ -14,7 +12,7 @@ use Rattle.csn_resolve.specs.Seen.{Frame, Seen, seen_of}
 use Rattle.csn_resolve.specs.Steps.{Step}
 use Rattle.csn_resolve.specs.Why.{Refusal}
 use Rattle.csn_resolve.specs.Overfull.{IsFirstOverfull}
-use Rattle.csn_resolve.specs.Resolved.{ResolveSteps, asked_unknown, asked_rule, NameGives, nodes_of, FullRefusals, not_overfull, overfull, AreRefusals}
+use Rattle.csn_resolve.specs.Resolved.{ResolveSteps, asked_unknown, asked_rule, nodes_of, FullRefusals, not_overfull, overfull, AreRefusals}
 use Rattle.csn_resolve.specs.Counts.{Narrow, CountSteps, count_number, count_unknown, count_wide, count_narrow}
 use Rattle.csn_resolve.specs.Gives.{Placed, start_of}
 use Rattle.csn_resolve.specs.Walk.{Around, inside, putting_in, outermost, PartLeft, BranchLeft, TurnLeft, left_void, left_full, left_plain, left_error, left_sendable, left_void_turn, left_full_turn, Walk, ItemsWalk, ComponentsWalk, BranchesWalk, RuleWalk, walk_lits, walk_null, walk_bit, walk_octet, walk_field, walk_rest, walk_built_in, walk_undefined, walk_recursive, walk_name, walk_group, walk_labelled, walk_seq, walk_choice, walk_times, walk_many, walk_cut, walk_window, walk_window_behind, walk_no_window, walk_sends, items_end, items_next, components_end, components_next, branches_end, branches_next, rule_plain, rule_tail}

@@ -174,8 +174,8 @@ module _ (rules : RulesV) (r : Reading) where
           → ItemsGive tail.items (many + 3) [] seen turn_parts turn
           → stop ≡ many + 3 + length turn
           → nodes ≡ placed (Seq (parts ++ many ∷ stop ∷ [])) (start_of rule.body)
-              ∷ (items ++ placed (Many (many + 1)) tail.end.braces
-              ∷ placed (Seq ((many + 2) ∷ turn_parts)) tail.end.again.at
-              ∷ placed (Lits tail.end.again.run) tail.end.again.at
-              ∷ (turn ++ placed (Lits tail.end.stop.run) tail.end.stop.at ∷ []))
+          ∷ (items ++ placed (Many (many + 1)) tail.end.braces
+          ∷ placed (Seq ((many + 2) ∷ turn_parts)) tail.end.again.at
+          ∷ placed (Lits tail.end.again.run) tail.end.again.at
+          ∷ (turn ++ placed (Lits tail.end.stop.run) tail.end.stop.at ∷ []))
           → RuleGives rule at seen nodes

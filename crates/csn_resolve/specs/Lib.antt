@@ -7,3 +7,4 @@ pub mod Walk
 pub mod Overfull
 pub mod Resolved
 pub mod Laws
+pub mod Examples

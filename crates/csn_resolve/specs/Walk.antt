@@ -156,8 +156,8 @@ module _ (rules : RulesV) (r : Reading) where
           → ItemsWalk (inside (inside (inside (inside a)))) [] tail.items turn
           → TurnLeft tail left
           → steps ≡ node_at a (start_of rule.body) ++ (items
-              ++ (node_at (inside a) tail.end.braces ++ (entering (inside (inside a)) tail.end.braces
-              ++ (node_at (inside (inside (inside a))) tail.end.again.at
-              ++ (node_at (inside (inside (inside (inside a)))) tail.end.again.at
-              ++ (turn ++ (left ++ node_at (inside a) tail.end.stop.at)))))))
+          ++ (node_at (inside a) tail.end.braces ++ (entering (inside (inside a)) tail.end.braces
+          ++ (node_at (inside (inside (inside a))) tail.end.again.at
+          ++ (node_at (inside (inside (inside (inside a)))) tail.end.again.at
+          ++ (turn ++ (left ++ node_at (inside a) tail.end.stop.at)))))))
           → RuleWalk a rule steps

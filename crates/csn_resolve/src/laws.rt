@@ -9,14 +9,12 @@ use csn_grammar::Rules;
 pub fn descriptions_are_one(rules: &Rules, reading: Reading)
     ensures expression { NodesAreGivenOnce rules.now reading }
     ensures name { ResolvedOnce rules.now reading }
-{
-}
+{}
 
 /// An expression that is empty of strings gives no nodes.
 pub fn void_gives_nothing(rules: &Rules, reading: Reading)
     ensures { VoidGivesNothing rules.now reading }
-{
-}
+{}
 
 /// The walk through an expression has one list of steps, and a named rule one list of refusals; so it is
 /// refused in one way, and not where it has a description.
@@ -24,5 +22,4 @@ pub fn refusals_are_one(rules: &Rules, reading: Reading)
     ensures walk { StepsAreWalkedOnce rules.now reading }
     ensures name { RefusedOnce rules.now reading }
     ensures or_resolved { RefusedOrResolved rules.now reading }
-{
-}
+{}
