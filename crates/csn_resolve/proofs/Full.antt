@@ -12,7 +12,9 @@ use Rattle.csn_resolve.specs.Gives.{Placed, Gives, ItemsGive, RuleGives, gives_l
 
 module _ (rules : RulesV) (r : Reading) where
   mutual
-    pub gives_full : {x : ExprV} {at : ℕ} {seen : Seen ℕ} {nodes : List Placed} → Gives rules r x at seen nodes → Void rules r x → ⊥
+    pub gives_full :
+        {x : ExprV} {at : ℕ} {seen : Seen ℕ} {nodes : List Placed}
+        → Gives rules r x at seen nodes → Void rules r x → ⊥
     gives_full (gives_lits p) v = elim v [ ]
     gives_full (gives_null p) v = elim v [ ]
     gives_full (gives_bit p) v = elim v [ ]
@@ -52,7 +54,9 @@ module _ (rules : RulesV) (r : Reading) where
     items_full (items_next first rest h others p q) (void_here v) = gives_full h v
     items_full (items_next first rest h others p q) (void_later v) = items_full others v
 
-    pub rule_full : {rule : Rule} {at : ℕ} {seen : Seen ℕ} {nodes : List Placed} → RuleGives rules r rule at seen nodes → Void rules r rule.body → ⊥
+    pub rule_full :
+        {rule : Rule} {at : ℕ} {seen : Seen ℕ} {nodes : List Placed}
+        → RuleGives rules r rule at seen nodes → Void rules r rule.body → ⊥
     rule_full (rule_plain is h) v = gives_full h v
     rule_full {rule = rule} (rule_tail tail many stop parts turn_parts items turn is i m t s p) v =
         items_full i (tail_void rules r rule.name rule.body tail is v)

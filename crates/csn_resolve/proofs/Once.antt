@@ -26,7 +26,8 @@ module _ (rules : RulesV) (r : Reading) where
   mutual
     pub gives_once :
         {x : ExprV} {at bt : ℕ} {seen other : Seen ℕ} {nodes others : List Placed}
-        → at ≡ bt → seen ≡ other → Gives rules r x at seen nodes → Gives rules r x bt other others → nodes ≡ others
+        → at ≡ bt → seen ≡ other → Gives rules r x at seen nodes → Gives rules r x bt other others
+        → nodes ≡ others
     gives_once e f (gives_lits p) (gives_lits q) = cc
     gives_once e f (gives_null p) (gives_null q) = cc
     gives_once e f (gives_bit p) (gives_bit q) = cc
@@ -134,5 +135,7 @@ module _ (rules : RulesV) (r : Reading) where
       let Q : Rule → Type 0 = λ z. RuleGives rules r z 0 [] others in
       rule_once refl refl h.gives (subst Q (same_rule rules n g.found h.found) g.gives)
 
-  pub resolved_once : {n : List ℕ} {d other : DescV} → IsResolved rules n r d → IsResolved rules n r other → d ≡ other
+  pub resolved_once :
+      {n : List ℕ} {d other : DescV}
+      → IsResolved rules n r d → IsResolved rules n r other → d ≡ other
   resolved_once h g = let same = name_once h.given g.given in let is = h.is in let is' = g.is in cc

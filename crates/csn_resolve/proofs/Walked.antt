@@ -15,7 +15,7 @@ use Rattle.csn_resolve.specs.Overfull.{IsFirstOverfull}
 use Rattle.csn_resolve.specs.Resolved.{ResolveSteps, asked_unknown, asked_rule, nodes_of, FullRefusals, not_overfull, overfull, AreRefusals}
 use Rattle.csn_resolve.specs.Counts.{Narrow, CountSteps, count_number, count_unknown, count_wide, count_narrow}
 use Rattle.csn_resolve.specs.Gives.{Placed, start_of}
-use Rattle.csn_resolve.specs.Walk.{Around, inside, putting_in, outermost, PartLeft, BranchLeft, TurnLeft, left_void, left_full, left_plain, left_error, left_sendable, left_void_turn, left_full_turn, Walk, ItemsWalk, ComponentsWalk, BranchesWalk, RuleWalk, walk_lits, walk_null, walk_bit, walk_octet, walk_field, walk_rest, walk_built_in, walk_undefined, walk_recursive, walk_name, walk_group, walk_labelled, walk_seq, walk_choice, walk_times, walk_many, walk_cut, walk_window, walk_window_behind, walk_no_window, walk_sends, items_end, items_next, components_end, components_next, branches_end, branches_next, rule_plain, rule_tail}
+use Rattle.csn_resolve.specs.Walk.{Around, inside, in_turn, putting_in, outermost, PartLeft, BranchLeft, TurnLeft, left_void, left_full, left_plain, left_error, left_sendable, left_void_turn, left_full_turn, Walk, ItemsWalk, ComponentsWalk, BranchesWalk, RuleWalk, walk_lits, walk_null, walk_bit, walk_octet, walk_field, walk_rest, walk_built_in, walk_undefined, walk_recursive, walk_name, walk_group, walk_labelled, walk_seq, walk_choice, walk_times, walk_many, walk_cut, walk_window, walk_window_behind, walk_no_window, walk_sends, items_end, items_next, components_end, components_next, branches_end, branches_next, rule_plain, rule_tail}
 use Rattle.csn_resolve.proofs.Once.{same_tail, name_once}
 
 no_both : {b : Bool} → b ≡ true → b ≡ false → ⊥
@@ -30,7 +30,9 @@ same_width x p q = cc
 no_width : (x : ExprV) {w : WidthV} → width_of x ≡ Some w → width_of x ≡ None → ⊥
 no_width x p q = cc
 
-same_seen : (seen : Seen ExprV) (label : List ℕ) {x y : ExprV} → seen_of seen label ≡ Some x → seen_of seen label ≡ Some y → x ≡ y
+same_seen :
+    (seen : Seen ExprV) (label : List ℕ) {x y : ExprV}
+    → seen_of seen label ≡ Some x → seen_of seen label ≡ Some y → x ≡ y
 same_seen seen label p q = cc
 
 module _ (rules : RulesV) (r : Reading) where
@@ -52,7 +54,9 @@ module _ (rules : RulesV) (r : Reading) where
       absurd (wide (subst P (same_seen seen label is is') narrow))
   count_once (count_narrow x is narrow p) (count_narrow y is' narrow' q) = cc
 
-  pub part_left_once : {x : ExprV} {steps others : List Step} → PartLeft rules r x steps → PartLeft rules r x others → steps ≡ others
+  pub part_left_once :
+      {x : ExprV} {steps others : List Step}
+      → PartLeft rules r x steps → PartLeft rules r x others → steps ≡ others
   part_left_once (left_void v p) (left_void v' q) = cc
   part_left_once (left_void v p) (left_full full q) = absurd (full v)
   part_left_once (left_full full p) (left_void v q) = absurd (full v)
@@ -67,14 +71,18 @@ module _ (rules : RulesV) (r : Reading) where
   branch_left_once (left_sendable full p) (left_error v q) = absurd (full v)
   branch_left_once (left_sendable full p) (left_sendable full' q) = cc
 
-  turn_left_once : {tail : TailV} {steps others : List Step} → TurnLeft rules r tail steps → TurnLeft rules r tail others → steps ≡ others
+  turn_left_once :
+      {tail : TailV} {steps others : List Step}
+      → TurnLeft rules r tail steps → TurnLeft rules r tail others → steps ≡ others
   turn_left_once (left_void_turn v p) (left_void_turn v' q) = cc
   turn_left_once (left_void_turn v p) (left_full_turn full q) = absurd (full v)
   turn_left_once (left_full_turn full p) (left_void_turn v q) = absurd (full v)
   turn_left_once (left_full_turn full p) (left_full_turn full' q) = cc
 
   mutual
-    pub walk_once : {a : Around} {x : ExprV} {steps others : List Step} → Walk rules r a x steps → Walk rules r a x others → steps ≡ others
+    pub walk_once :
+        {a : Around} {x : ExprV} {steps others : List Step}
+        → Walk rules r a x steps → Walk rules r a x others → steps ≡ others
     walk_once (walk_lits p) (walk_lits q) = p ∙ sym q
     walk_once (walk_null p) (walk_null q) = p ∙ sym q
     walk_once (walk_bit p) (walk_bit q) = p ∙ sym q
@@ -168,14 +176,16 @@ module _ (rules : RulesV) (r : Reading) where
     rule_walk_once {a} {rule} (rule_tail tail is i t left p) (rule_tail {items = items} {turn = turn} {left = lefts} tail' is' i' t' left' q) =
         let same : tail' ≡ tail = same_tail rule is' is in
         let Items : TailV → Type 0 = λ z. ItemsWalk rules r (inside a) [] z.items items in
-        let Turn : TailV → Type 0 = λ z. ItemsWalk rules r (inside (inside (inside (inside a)))) [] z.items turn in
+        let Turn : TailV → Type 0 = λ z. ItemsWalk rules r (in_turn (inside a)) [] z.items turn in
         let Left : TailV → Type 0 = λ z. TurnLeft rules r z lefts in
         let first = items_walk_once i (subst Items same i') in
         let second = items_walk_once t (subst Turn same t') in
         let third = turn_left_once left (subst Left same left') in
         cc
 
-  steps_once : {n : List ℕ} {steps others : List Step} → ResolveSteps rules n r steps → ResolveSteps rules n r others → steps ≡ others
+  steps_once :
+      {n : List ℕ} {steps others : List Step}
+      → ResolveSteps rules n r steps → ResolveSteps rules n r others → steps ≡ others
   steps_once (asked_unknown none p) (asked_unknown none' q) = p ∙ sym q
   steps_once (asked_unknown none p) (asked_rule rule is h left q) = absurd (no_none is none)
   steps_once (asked_rule rule is h left p) (asked_unknown none q) = absurd (no_none is none)
@@ -188,13 +198,17 @@ module _ (rules : RulesV) (r : Reading) where
       cc
 
   -- a description has one first field with 64 such fields before it
-  first_once : {nodes others : List Placed} {i j : ℕ} → nodes ≡ others → IsFirstOverfull (nodes_of nodes) i → IsFirstOverfull (nodes_of others) j → i ≡ j
+  first_once :
+      {nodes others : List Placed} {i j : ℕ}
+      → nodes ≡ others → IsFirstOverfull (nodes_of nodes) i → IsFirstOverfull (nodes_of others) j → i ≡ j
   first_once {nodes} {others} {i} {j} same h g =
       let Q : List Placed → Type 0 = λ z. IsFirstOverfull (nodes_of z) j in
       let along : IsFirstOverfull (nodes_of nodes) j = subst Q (sym same) g in
       omega (arith, h.first j along.overfull, along.first i h.overfull)
 
-  full_once : {n : List ℕ} {refusals others : List Refusal} → FullRefusals rules n r refusals → FullRefusals rules n r others → refusals ≡ others
+  full_once :
+      {n : List ℕ} {refusals others : List Refusal}
+      → FullRefusals rules n r refusals → FullRefusals rules n r others → refusals ≡ others
   full_once (not_overfull none p) (not_overfull none' q) = p ∙ sym q
   full_once (not_overfull none p) (overfull nodes i field given first at q) = absurd (none nodes i given first)
   full_once (overfull nodes i field given first at p) (not_overfull none q) = absurd (none nodes i given first)
@@ -203,7 +217,9 @@ module _ (rules : RulesV) (r : Reading) where
       let one : i ≡ j = first_once same first first' in
       cc
 
-  pub refusals_once : {n : List ℕ} {refusals others : List Refusal} → AreRefusals rules n r refusals → AreRefusals rules n r others → refusals ≡ others
+  pub refusals_once :
+      {n : List ℕ} {refusals others : List Refusal}
+      → AreRefusals rules n r refusals → AreRefusals rules n r others → refusals ≡ others
   refusals_once h g =
       let steps = steps_once h.walked g.walked in let full = full_once h.counted g.counted in
       let p = h.are in let q = g.are in cc

@@ -32,7 +32,8 @@ rule_M start end body = record { name = M; span = record { start = start; end = 
 -- `<label : bit (exponent)>`, with a label of one letter and a field of so many bytes
 abbrev pub field : List ℕ → ℕ → ℕ → Exponent → ExprV
 field label start long k =
-    expr start (start + (6 + long)) (labelled label (expr (start + 5) (start + (5 + long)) (power (expr (start + 5) (start + 8) bit) k)))
+    expr start (start + (6 + long))
+    (labelled label (expr (start + 5) (start + (5 + long)) (power (expr (start + 5) (start + 8) bit) k)))
 
 abbrev pub zero : ℕ → ExprV
 zero start = expr start (start + 1) (lits (Zero ∷ []))
