@@ -31,14 +31,21 @@ B = 66 ∷ []
 -- ---- <A : bit (3)> 0 <B : bit (4)>
 
 abbrev pub fields : DescV
-fields = received (Seq (1 ∷ 3 ∷ 4 ∷ []) ∷ Named A 2 ∷ Field 1 (Fixed 3) ∷ Lits (Zero ∷ []) ∷ Named B 5 ∷ Field 1 (Fixed 4) ∷ [])
+fields =
+    received
+    (Seq (1 ∷ 3 ∷ 4 ∷ [])
+    ∷ Named A 2 ∷ Field 1 (Fixed 3)
+    ∷ Lits (Zero ∷ [])
+    ∷ Named B 5 ∷ Field 1 (Fixed 4)
+    ∷ [])
 
 -- the bits of the octet A5, and their tree
 abbrev pub octet_A5 : List ℕ
 octet_A5 = 1 ∷ 0 ∷ 1 ∷ 0 ∷ 0 ∷ 1 ∷ 0 ∷ 1 ∷ []
 
 abbrev pub tree_of_A5 : TreeV
-tree_of_A5 = row (trees_of (named A (bits (1 ∷ 0 ∷ 1 ∷ [])) ∷ empty ∷ named B (bits (0 ∷ 1 ∷ 0 ∷ 1 ∷ [])) ∷ []))
+tree_of_A5 =
+    row (trees_of (named A (bits (1 ∷ 0 ∷ 1 ∷ [])) ∷ empty ∷ named B (bits (0 ∷ 1 ∷ 0 ∷ 1 ∷ [])) ∷ []))
 
 abbrev pub A5HasItsTree : Type 0
 A5HasItsTree = NMeans fields 0 0 [] octet_A5 tree_of_A5
@@ -82,7 +89,9 @@ PaddingGoesByReading =
 -- ---- <A : bit (2)> <B : bit (val (A) + 1)>
 
 abbrev pub counted : DescV
-counted = received (Seq (1 ∷ 3 ∷ []) ∷ Named A 2 ∷ Field 1 (Fixed 2) ∷ Named B 4 ∷ Field 1 (Counted 1 1 1) ∷ [])
+counted =
+    received
+    (Seq (1 ∷ 3 ∷ []) ∷ Named A 2 ∷ Field 1 (Fixed 2) ∷ Named B 4 ∷ Field 1 (Counted 1 1 1) ∷ [])
 
 -- where A is 3, B has 4 bits
 abbrev pub CountsGoByValue : Type 0
@@ -93,7 +102,12 @@ CountsGoByValue =
 -- ---- <A : bit (2)> { bit (2) & { L H } }
 
 abbrev pub window : DescV
-window = received (Seq (1 ∷ 3 ∷ []) ∷ Named A 2 ∷ Field 1 (Fixed 2) ∷ Window 1 (Fixed 2) 4 ∷ Lits (Low ∷ High ∷ []) ∷ [])
+window =
+    received
+    (Seq (1 ∷ 3 ∷ [])
+    ∷ Named A 2 ∷ Field 1 (Fixed 2)
+    ∷ Window 1 (Fixed 2) 4 ∷ Lits (Low ∷ High ∷ [])
+    ∷ [])
 
 -- in a window the octet positions go on from those outside
 abbrev pub PlacesGoOnInWindows : Type 0
@@ -103,7 +117,9 @@ PlacesGoOnInWindows =
 -- ---- { <A : bit (2)> <B : bit (2)> } //
 
 abbrev pub truncated : DescV
-truncated = received (Trunc (1 ∷ 3 ∷ []) ∷ Named A 2 ∷ Field 1 (Fixed 2) ∷ Named B 4 ∷ Field 1 (Fixed 2) ∷ [])
+truncated =
+    received
+    (Trunc (1 ∷ 3 ∷ []) ∷ Named A 2 ∷ Field 1 (Fixed 2) ∷ Named B 4 ∷ Field 1 (Fixed 2) ∷ [])
 
 abbrev pub TruncationsTakeFirstParts : Type 0
 TruncationsTakeFirstParts =
@@ -115,9 +131,14 @@ TruncationsTakeFirstParts =
 -- ---- { 1 <A : bit> } **
 
 abbrev pub repeated : DescV
-repeated = received (Many 1 ∷ Seq (2 ∷ 3 ∷ []) ∷ Lits (One ∷ []) ∷ Named A 4 ∷ Field 1 (Fixed 1) ∷ [])
+repeated =
+    received
+    (Many 1 ∷ Seq (2 ∷ 3 ∷ []) ∷ Lits (One ∷ []) ∷ Named A 4 ∷ Field 1 (Fixed 1) ∷ [])
 
 abbrev pub RepetitionsHaveARow : Type 0
 RepetitionsHaveARow =
     NMeans repeated 0 0 [] (1 ∷ 0 ∷ 1 ∷ 1 ∷ [])
-    (row (trees_of (row (trees_of (empty ∷ named A (bits (0 ∷ [])) ∷ [])) ∷ row (trees_of (empty ∷ named A (bits (1 ∷ [])) ∷ [])) ∷ [])))
+    (row (trees_of
+    (row (trees_of (empty ∷ named A (bits (0 ∷ [])) ∷ []))
+    ∷ row (trees_of (empty ∷ named A (bits (1 ∷ [])) ∷ []))
+    ∷ [])))

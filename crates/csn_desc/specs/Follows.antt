@@ -42,14 +42,17 @@ module _ (d : DescV) where
           {unit : ℕ} {count : Count} {o : ℕ} {v : Values} {b : List ℕ} {t : TreeV}
           (whole rest : List ℕ) → whole ≡ b ++ rest → NodeMeans d (Field unit count) o v whole t
           → NodeFollows (Field unit count) o v b
+      -- of a sequence: trees for its first parts, and then bits that the next part follows
       follows_seq :
           {parts : List ℕ} {o : ℕ} {v : Values} {b : List ℕ}
           → PartsFollow parts o v b
           → NodeFollows (Seq parts) o v b
+      -- of a choice: what an alternative follows
       follows_choice :
           {parts : List ℕ} {i o : ℕ} {v : Values} {b : List ℕ}
           (j : ℕ) → slice_get parts j ≡ Some i → NFollow i o v b
           → NodeFollows (Choice parts) o v b
+      -- of repetitions: trees for the first turns, and then bits that the next turn follows
       follows_times :
           {count : Count} {i o : ℕ} {v : Values} {b : List ℕ}
           (n : ℕ) → count_of v count ≡ Some n → TimesFollow n i o v b
@@ -58,15 +61,17 @@ module _ (d : DescV) where
           {i o : ℕ} {v : Values} {b : List ℕ}
           → ManyFollow i o v b
           → NodeFollows (Many i) o v b
+      -- of a truncation: as of a sequence
       follows_trunc :
           {parts : List ℕ} {o : ℕ} {v : Values} {b : List ℕ}
           → PartsFollow parts o v b
           → NodeFollows (Trunc parts) o v b
-      -- no more bits than the window has, which what is inside follows
+      -- of a window: no more bits than it has, which what is inside follows
       follows_window :
           {unit : ℕ} {count : Count} {i o : ℕ} {v : Values} {b : List ℕ}
           (n : ℕ) → count_of v count ≡ Some n → length b ≤ unit * n → NFollow i o v b
           → NodeFollows (Window unit count i) o v b
+      -- of a labelled part: what it follows
       follows_named :
           {label : List ℕ} {i o : ℕ} {v : Values} {b : List ℕ}
           → NFollow i o v b

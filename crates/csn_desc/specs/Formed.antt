@@ -20,6 +20,7 @@ abbrev pub counts_on : ℕ → Count → Bool
 counts_on field (Fixed n) = false
 counts_on field (Counted m other c) = other == field
 
+-- does the count of this node, where it has one, stand on that field?
 abbrev pub node_counts_on : ℕ → Node → Bool
 node_counts_on field (Field unit count) = counts_on field count
 node_counts_on field (Times count part) = counts_on field count
@@ -30,10 +31,12 @@ node_counts_on field _ = false
 abbrev pub is_counted : List Node → ℕ → Bool
 is_counted nodes field = list_any (node_counts_on field) nodes
 
+-- how many bits a field of constant width has
 abbrev pub width_of : Option Node → Option ℕ
 width_of (Some (Field unit (Fixed n))) = Some (unit * n)
 width_of _ = None
 
+-- what a label stands before
 abbrev pub labelled_part : Option Node → Option ℕ
 labelled_part (Some (Named label part)) = Some part
 labelled_part _ = None
@@ -70,6 +73,7 @@ IsCount nodes seen (Fixed n) = (1 ≤ n) × (n ≤ 65536)
 IsCount nodes seen (Counted m field c) =
     (1 ≤ m) × (c ≤ 65535) × Contains seen field × IsSomeAnd (value_width nodes field) (λ width. (1 ≤ width) × (width ≤ 16))
 
+-- fields and windows are counted in bits or in octets
 abbrev pub IsUnit : ℕ → Type 0
 IsUnit unit = (unit ≡ 1) ⊎ (unit ≡ 8)
 

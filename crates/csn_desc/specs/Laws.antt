@@ -1,49 +1,84 @@
 -- Laws over the definitions.
-use Rattle.std.specs.Prelude.{◌≡◌, ℕ, List, [], ◌++◌}
+use Rattle.std.specs.Prelude.{◌≡◌, ℕ, ◌^◌, ◌<◌, List, [], ◌∷◌, ◌++◌, length, Some}
 use Rattle.csn_bits.specs.Octets.{IsBits}
+use Rattle.csn_lexer.specs.Word.{IsWord}
 use Rattle.csn_desc.specs.declared.moves.Move.{Move}
 use Rattle.csn_desc.specs.TreeV.{TreeV}
 use Rattle.csn_desc.specs.Nodes.{DescV}
-use Rattle.csn_desc.specs.Values.{Values}
+use Rattle.csn_desc.specs.Label.{IsLabel}
+use Rattle.csn_desc.specs.Values.{Values, number_of}
 use Rattle.csn_desc.specs.Means.{NMeans}
 use Rattle.csn_desc.specs.Follows.{NFollow}
 use Rattle.csn_desc.specs.Walks.{bits_of, Walk}
-use Rattle.csn_desc.specs.Formed.{Spans, Formed, HaveValues, IsDescription}
+use Rattle.csn_desc.specs.Formed.{value_width, Spans, Formed, HaveValues, IsDescription}
 
+-- the first few of followed bits are followed
 abbrev pub PrefixesAreFollowed : Type 0
 PrefixesAreFollowed =
     (d : DescV) (i o : ℕ) (v : Values) (b c : List ℕ) → NFollow d i o v (b ++ c)
     → NFollow d i o v b
 
+-- bits with a tree are followed
 abbrev pub StringsAreFollowed : Type 0
 StringsAreFollowed =
     (d : DescV) (i o : ℕ) (v : Values) (b : List ℕ) (t : TreeV) → NMeans d i o v b t
     → NFollow d i o v b
 
+-- bits with a tree are zeros and ones
 abbrev pub MeaningsAreBits : Type 0
 MeaningsAreBits =
     (d : DescV) (i o : ℕ) (v : Values) (b : List ℕ) (t : TreeV) → NMeans d i o v b t
     → IsBits b
 
+-- followed bits are zeros and ones
 abbrev pub FollowedAreBits : Type 0
 FollowedAreBits = (d : DescV) (i o : ℕ) (v : Values) (b : List ℕ) → NFollow d i o v b → IsBits b
 
+-- no bits are followed, where a node is well formed and what it sees has values
 abbrev pub EmptyBitsAreFollowed : Type 0
 EmptyBitsAreFollowed =
     (d : DescV) (seen : List ℕ) (round i o : ℕ) (v : Values) → Formed d.nodes seen round i
     → HaveValues v seen
     → NFollow d i o v []
 
+-- the empty block is followed
 abbrev pub EmptyBlocksAreFollowed : Type 0
 EmptyBlocksAreFollowed = (d : DescV) → IsDescription d → NFollow d 0 0 [] []
 
+-- a tree of some bits has moves, which take these bits
 abbrev pub TreesHaveMoves : Type 0
 TreesHaveMoves =
     (d : DescV) (i o : ℕ) (v : Values) (b : List ℕ) (t : TreeV) → NMeans d i o v b t
     → (moves : List Move) × Walk d i o t moves × (bits_of moves ≡ b)
 
+-- equal moves are those of equal trees, where the parts of a node are distinct
 abbrev pub MovesAreOfOneTree : Type 0
 MovesAreOfOneTree =
     (d : DescV) (i o end : ℕ) (t u : TreeV) (moves : List Move) → Spans d.nodes i end
     → Walk d i o t moves → Walk d i o u moves
     → t ≡ u
+
+-- a tree has no two lists of moves
+abbrev pub TreesHaveOneListOfMoves : Type 0
+TreesHaveOneListOfMoves =
+    (d : DescV) (i o : ℕ) (t : TreeV) (moves others : List Move) → Walk d i o t moves → Walk d i o t others
+    → moves ≡ others
+
+-- a labelled field of constant width has bits of that width
+abbrev pub ValuesHaveTheirWidth : Type 0
+ValuesHaveTheirWidth =
+    (d : DescV) (i o : ℕ) (v : Values) (b : List ℕ) (t : TreeV) (width : ℕ) → value_width d.nodes i ≡ Some width
+    → NMeans d i o v b t
+    → length b ≡ width
+
+-- bits write a number below the power of two with their width
+abbrev pub NumbersFitTheirWidth : Type 0
+NumbersFitTheirWidth = (b : List ℕ) → IsBits b → number_of b < 2 ^ length b
+
+-- one word is a label
+abbrev pub WordsAreLabels : Type 0
+WordsAreLabels = (word : List ℕ) → IsWord word → IsLabel word
+
+-- a word, a space and a label are a label
+abbrev pub WordsStandBeforeLabels : Type 0
+WordsStandBeforeLabels = (word label : List ℕ) → IsWord word → IsLabel label → IsLabel (word ++ 32 ∷ label)

@@ -38,6 +38,7 @@ module _ (d : DescV) where
           {o : ℕ} {v : Values} {b : List ℕ}
           → 0 < length b → IsSpare d.reading Low o b
           → NodeMeans Pad o v b (bits b)
+      -- no bits
       means_null : {o : ℕ} {v : Values} {b : List ℕ} → b ≡ [] → NodeMeans Null o v b empty
       -- a field: as many units as counted, of any bits
       means_field :
@@ -46,19 +47,22 @@ module _ (d : DescV) where
           → NodeMeans (Field unit count) o v b (bits b)
       -- any number of any bits
       means_rest : {o : ℕ} {v : Values} {b : List ℕ} → IsBits b → NodeMeans Rest o v b (bits b)
+      -- a sequence: each part once
       means_seq :
           {parts : List ℕ} {o : ℕ} {v : Values} {b : List ℕ} {ts : Trees}
           → PartsMean parts o v b ts
           → NodeMeans (Seq parts) o v b (row ts)
-      -- the alternative with the number j
+      -- a choice: its alternative with the number j, from 0
       means_choice :
           {parts : List ℕ} {j i o : ℕ} {v : Values} {b : List ℕ} {t : TreeV}
           → slice_get parts j ≡ Some i → NMeans i o v b t
           → NodeMeans (Choice parts) o v b (alt j t)
+      -- a part as many times as counted
       means_times :
           {count : Count} {i o : ℕ} {v : Values} {b : List ℕ} {ts : Trees}
           (n : ℕ) → count_of v count ≡ Some n → TimesMean n i o v b ts
           → NodeMeans (Times count i) o v b (row ts)
+      -- a part any number of times
       means_many :
           {i o : ℕ} {v : Values} {b : List ℕ} {ts : Trees}
           → ManyMean i o v b ts
@@ -77,6 +81,7 @@ module _ (d : DescV) where
           {unit : ℕ} {count : Count} {i o : ℕ} {v : Values} {b : List ℕ} {t : TreeV}
           (n : ℕ) → count_of v count ≡ Some n → length b ≡ unit * n → NMeans i o v b t
           → NodeMeans (Window unit count i) o v b t
+      -- a labelled part
       means_named :
           {label : List ℕ} {i o : ℕ} {v : Values} {b : List ℕ} {t : TreeV}
           → NMeans i o v b t

@@ -8,6 +8,7 @@ use Rattle.csn_desc.specs.declared.node.Node.TheVariants.{Lits, Spare, Pad, Null
 use Rattle.csn_desc.specs.declared.node.Head.{Head}
 use Rattle.csn_desc.specs.declared.node.Head.TheVariants as head
 
+-- a description in one reading
 pub record DescV : Type 0 where
   pub reading : Reading
   pub nodes : List Node

@@ -20,10 +20,12 @@ mutual
     none : Trees
     more : TreeV → Trees → Trees
 
+-- the trees as a list
 abbrev pub list_of : Trees → List TreeV
 list_of none = []
 list_of (more t ts) = t ∷ list_of ts
 
+-- a list as trees
 abbrev pub trees_of : List TreeV → Trees
 trees_of [] = none
 trees_of (t ∷ ts) = more t (trees_of ts)

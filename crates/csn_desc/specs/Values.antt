@@ -28,6 +28,7 @@ abbrev pub count_of : Values → Count → Option ℕ
 count_of values (Fixed n) = Some n
 count_of values (Counted m field c) = option_map (λ value. m * value + c) (value_of values field)
 
+-- is the node, where there is one, a labelled part?
 abbrev pub is_labelled : Option Node → Bool
 is_labelled (Some (Named label part)) = true
 is_labelled _ = false

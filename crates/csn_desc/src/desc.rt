@@ -43,7 +43,7 @@ impl Desc {
     /// How many nodes there are.
     pub fn len(&self) -> u16
         ensures len { result ≡ length self.now.nodes }
-        ensures bound { result ≤ 16384 }
+        ensures bound { result ≤ MOST_NODES }
         ensures description { IsDescription self.now }
     {
         self.nodes.len() as u16

@@ -34,8 +34,7 @@ pub enum Node {
     Times { count: Count, part: u16 },
     /// The part any number of times, each time with a bit at least.
     Many(u16),
-    /// The first few of the parts: the others are cut off, and with them every part at the end of
-    /// those few that has no bits.
+    /// The first few of the parts, also none; the last of them has a bit at least.
     Trunc(Parts),
     /// The part, with as many bits as counted: `unit` is 1 or 8.
     Window { unit: u8, count: Count, part: u16 },

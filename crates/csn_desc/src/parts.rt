@@ -1,5 +1,6 @@
 ghost use Rattle.std.specs.Prelude.{◌≡◌, ◌<◌, ◌≤◌, [], ◌∷◌, ◌++◌, length, slice_get, OnOk, OnErr};
 
+use crate::desc::MOST_NODES;
 use csn_bits::NoMemory;
 use std::alloc::Global;
 use std::marker::Model;
@@ -11,13 +12,14 @@ pub struct Parts {
 }
 
 impl Model for Parts {
+    ghost use Rattle.csn_desc.specs.declared.desc.TheConstants.{MOST_NODES};
     ghost use Rattle.std.specs.Prelude.{List, ℕ, ◌≤◌, length};
 
     ghost Value = { List ℕ };
 
     ghost view = { λ p. p.numbers.items };
 
-    ghost invariant = { λ p. length p.numbers.items ≤ 16384 };
+    ghost invariant = { λ p. length p.numbers.items ≤ MOST_NODES };
 }
 
 impl Parts {
@@ -32,7 +34,7 @@ impl Parts {
 
     /// Adds a part at the end.
     pub(crate) fn push(&mut self, part: u16) -> Result<(), NoMemory>
-        requires { length self.old < 16384 }
+        requires { length self.old < MOST_NODES }
         ensures ok { OnOk result (self.new ≡ self.old ++ part ∷ []) }
         ensures err { OnErr result (self.new ≡ self.old) }
     {
@@ -45,7 +47,7 @@ impl Parts {
     /// How many parts there are.
     pub fn len(&self) -> u16
         ensures len { result ≡ length self.now }
-        ensures bound { result ≤ 16384 }
+        ensures bound { result ≤ MOST_NODES }
     {
         self.numbers.len() as u16
     }

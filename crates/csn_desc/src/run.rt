@@ -15,6 +15,7 @@ pub struct Run {
 }
 
 impl Model for Run {
+    ghost use Rattle.csn_desc.specs.declared.run.TheConstants.{MOST_SYMBOLS};
     ghost use Rattle.std.specs.Prelude.{List, ◌≤◌, length};
     ghost use Rattle.csn_desc.specs.declared.symbol.Symbol.{Symbol};
 
@@ -22,7 +23,7 @@ impl Model for Run {
 
     ghost view = { λ r. r.symbols.items };
 
-    ghost invariant = { λ r. length r.symbols.items ≤ 262144 };
+    ghost invariant = { λ r. length r.symbols.items ≤ MOST_SYMBOLS };
 }
 
 impl Run {
@@ -37,7 +38,7 @@ impl Run {
 
     /// Adds a symbol at the end.
     pub fn push(&mut self, symbol: Symbol) -> Result<(), NoMemory>
-        requires { length self.old < 262144 }
+        requires { length self.old < MOST_SYMBOLS }
         ensures ok { OnOk result (self.new ≡ self.old ++ symbol ∷ []) }
         ensures err { OnErr result (self.new ≡ self.old) }
     {
@@ -50,7 +51,7 @@ impl Run {
     /// How many symbols there are.
     pub fn len(&self) -> u32
         ensures len { result ≡ length self.now }
-        ensures bound { result ≤ 262144 }
+        ensures bound { result ≤ MOST_SYMBOLS }
     {
         self.symbols.len() as u32
     }

@@ -58,6 +58,7 @@ impl Model for Tree {
 }
 
 impl Model for Rows {
+    ghost use Rattle.csn_desc.specs.declared.tree.TheConstants.{MOST_TREES};
     ghost use Rattle.std.specs.Prelude.{List, ◌≤◌, length};
     ghost use Rattle.csn_desc.specs.TreeV.{TreeV};
     ghost use Rattle.csn_desc.specs.TreeCode.{rows_code, rows_size, most_le-rows_size};
@@ -69,7 +70,7 @@ impl Model for Rows {
 
     ghost view = { λ r. r.trees.items };
 
-    ghost invariant = { λ r. length r.trees.items ≤ 16777216 };
+    ghost invariant = { λ r. length r.trees.items ≤ MOST_TREES };
 
     ghost size = { rows_size };
 
@@ -88,7 +89,7 @@ impl Rows {
 
     /// Adds a tree at the end. For want of memory it hands the tree back.
     pub fn push(&mut self, tree: Tree) -> Result<(), Tree>
-        requires { length self.old < 16777216 }
+        requires { length self.old < MOST_TREES }
         ensures ok { OnOk result (self.new ≡ self.old ++ tree ∷ []) }
         ensures err { OnErr result (self.new ≡ self.old) }
         ensures handed_back { IfErr result (λ given. given ≡ tree) }
@@ -102,7 +103,7 @@ impl Rows {
     /// How many trees there are.
     pub fn len(&self) -> u32
         ensures len { result ≡ length self.now }
-        ensures bound { result ≤ 16777216 }
+        ensures bound { result ≤ MOST_TREES }
     {
         self.trees.len() as u32
     }

@@ -11,12 +11,14 @@ IsLaidOut nodes counted = IsDescription (record { reading = Sent; nodes = nodes 
 
 one_node : IsLaidOut (Null ∷ []) (false ∷ [])
 unfolding IsLaidOut
-one_node =
-    (record {
-      few = lit≤ tt;
-      numbered = spans _ refl (span_end refl);
-      well_formed = formed _ refl (lit< tt) tt refl (λ h. cc) formed_end },
-    refl)
+one_node = (
+  record {
+    few = lit≤ tt;
+    numbered = spans _ refl (span_end refl);
+    well_formed = formed _ refl (lit< tt) tt refl (λ h. cc) formed_end;
+  },
+  refl,
+)
 
 along : {nodes : List Node} {counted : List Bool} → nodes ≡ Null ∷ [] → counted ≡ false ∷ [] → IsLaidOut nodes counted
 along {counted = counted} nodes_are counted_are =
