@@ -34,12 +34,14 @@ is_spare Received s o = IsBits-spelled (s ∷ []) o
 is_spare Sent s o = refl
 
 -- an exponent on labels that have values is a number
-has_count : (seen : List (List ℕ)) (env : Env) (k : Exponent) → HaveValues env seen → IsCount seen k → (n : ℕ) × (count_of env k ≡ Some n)
+has_count : (seen : List (List ℕ)) (env : Env) (k : Exponent) → HaveValues env seen → IsCount seen k
+    → (n : ℕ) × (count_of env k ≡ Some n)
 has_count seen env Any values is = elim is [ ]
 has_count seen env (Number n) values is = (n, refl)
 has_count seen env (Linear m label c) values is = found (value_of env label) refl (values label is)
   where
-    found : (value : _) → value_of env label ≡ value → IsSome value → (n : ℕ) × (count_of env (Linear m label c) ≡ Some n)
+    found : (value : _) → value_of env label ≡ value → IsSome value
+        → (n : ℕ) × (count_of env (Linear m label c) ≡ Some n)
     found None e some = cc
     found (Some x) e some = (m * x + c, rw e refl)
 
@@ -77,29 +79,34 @@ module _ (rules : RulesV) (r : Reading) where
     formed_full (formed_sent is h) (void_received q v) = cc
     formed_full (formed_sent is h) (void_sent q v) = formed_full h v
 
-    items_formed_full : {seen : List (List ℕ)} {xs : ExprsV} → ItemsFormed rules r seen xs → SomeVoid rules r xs → ⊥
+    items_formed_full : {seen : List (List ℕ)} {xs : ExprsV} → ItemsFormed rules r seen xs
+        → SomeVoid rules r xs → ⊥
     items_formed_full formed_end v = elim v [ ]
     items_formed_full (formed_next h others) (void_here v) = formed_full h v
     items_formed_full (formed_next h others) (void_later v) = items_formed_full others v
 
-    rule_formed_full : {seen : List (List ℕ)} {rule : Rule} → RuleFormed rules r seen rule → Void rules r rule.body → ⊥
+    rule_formed_full : {seen : List (List ℕ)} {rule : Rule} → RuleFormed rules r seen rule
+        → Void rules r rule.body → ⊥
     rule_formed_full (formed_plain is h) v = formed_full h v
     rule_formed_full (formed_tail {rule = rule} tail is h) v = items_formed_full h (tail_void rules r rule.name rule.body tail is v)
 
   -- ---- the empty bits
 
-  times_empty : {s e : ℕ} (x : ExprV) (k : Exponent) (env : Env) (o n : ℕ) → unit_of x ≡ None → count_of env k ≡ Some n → Follow rules r x o env [] → Follow rules r (expr s e (power x k)) o env []
+  times_empty : {s e : ℕ} (x : ExprV) (k : Exponent) (env : Env) (o n : ℕ) → unit_of x ≡ None
+      → count_of env k ≡ Some n → Follow rules r x o env [] → Follow rules r (expr s e (power x k)) o env []
   times_empty x k env o zero is count first = follows_whole (row none) (means_times 0 is count (times_end refl refl))
   times_empty x k env o (suc n) is count first = follows_times (suc n) is count (times_here (omega arith) first)
 
-  field_empty : (s e : ℕ) (x : ExprV) (k : Exponent) (env : Env) (o unit n : ℕ) → unit_of x ≡ Some unit → count_of env k ≡ Some n → Follow rules r (expr s e (power x k)) o env []
+  field_empty : (s e : ℕ) (x : ExprV) (k : Exponent) (env : Env) (o unit n : ℕ) → unit_of x ≡ Some unit
+      → count_of env k ≡ Some n → Follow rules r (expr s e (power x k)) o env []
   field_empty s e x k env o unit n is count =
       let zeros = replicate (unit * n) 0 in
       follows_leaf zeros zeros (field_leaf s e x k env unit n is count) refl
       (means_field unit n is count (length-replicate (unit * n) 0) (IsBits-zeros (unit * n)))
 
   mutual
-    pub empty_followed : {seen : List (List ℕ)} {x : ExprV} (o : ℕ) (env : Env) → HaveValues env seen → Formed rules r seen x → Follow rules r x o env []
+    pub empty_followed : {seen : List (List ℕ)} {x : ExprV} (o : ℕ) (env : Env) → HaveValues env seen
+        → Formed rules r seen x → Follow rules r x o env []
     empty_followed o env values (formed_lits {run = run}) = follows_leaf (spelled run o) (spelled run o) refl refl (means_lits refl)
     empty_followed o env values formed_null = follows_whole empty (means_null refl)
     empty_followed o env values formed_bit = follows_leaf (0 ∷ []) (0 ∷ []) refl refl (means_bit refl (omega arith, tt))
@@ -130,13 +137,15 @@ module _ (rules : RulesV) (r : Reading) where
     empty_followed o env values (formed_received is h) = follows_received is (empty_followed o env values h)
     empty_followed o env values (formed_sent is h) = follows_sent is (empty_followed o env values h)
 
-    pub empty_rule_followed : {seen : List (List ℕ)} {rule : Rule} (o : ℕ) (env : Env) → HaveValues env seen → RuleFormed rules r seen rule → RuleFollows rules r rule o env []
+    pub empty_rule_followed : {seen : List (List ℕ)} {rule : Rule} (o : ℕ) (env : Env) → HaveValues env seen
+        → RuleFormed rules r seen rule → RuleFollows rules r rule o env []
     empty_rule_followed o env values (formed_plain is h) = follows_plain is (empty_followed o env values h)
     empty_rule_followed o env values (formed_tail tail is h) =
         follows_tail tail is (begun rules r [] (items_formed_full h) (empty_items_begun o env values h))
 
     -- of the items of a sequence
-    empty_items_begun : {seen : List (List ℕ)} {xs : ExprsV} (o : ℕ) (env : Env) → HaveValues env seen → ItemsFormed rules r seen xs → ItemsBegun rules r xs o [] env []
+    empty_items_begun : {seen : List (List ℕ)} {xs : ExprsV} (o : ℕ) (env : Env) → HaveValues env seen
+        → ItemsFormed rules r seen xs → ItemsBegun rules r xs o [] env []
     empty_items_begun o env values formed_end = inr (none, items_end refl)
     empty_items_begun o env values (formed_next first others) = inl (items_here (empty_followed o ([] ∷ env) values first))
 

@@ -23,7 +23,8 @@ IsBits-cut b rest e p = IsBits-front b rest (IsBits-along (sym e) p)
 
 module _ (rules : RulesV) (r : Reading) where
   mutual
-    pub meant_bits : {x : ExprV} {o : ℕ} {env : Env} {b : List ℕ} {t : TreeV} → Means rules r x o env b t → IsBits b
+    pub meant_bits : {x : ExprV} {o : ℕ} {env : Env} {b : List ℕ} {t : TreeV} → Means rules r x o env b t
+        → IsBits b
     meant_bits {o = o} (means_lits {run = run} h) = IsBits-along h (IsBits-spelled run o)
     meant_bits (means_null h) = IsBits-along h tt
     meant_bits (means_bit one h) = h
@@ -47,27 +48,33 @@ module _ (rules : RulesV) (r : Reading) where
     meant_bits (means_received is h) = meant_bits h
     meant_bits (means_sent is h) = meant_bits h
 
-    pub items_bits : {xs : ExprsV} {o : ℕ} {frame : Frame} {env : Env} {b : List ℕ} {ts : Trees} → ItemsMean rules r xs o frame env b ts → IsBits b
+    pub items_bits : {xs : ExprsV} {o : ℕ} {frame : Frame} {env : Env} {b : List ℕ} {ts : Trees}
+        → ItemsMean rules r xs o frame env b ts → IsBits b
     items_bits (items_end h) = IsBits-along h tt
     items_bits (items_next b1 b2 cut h others) = IsBits-split b1 b2 cut (meant_bits h) (items_bits others)
 
-    times_bits : {n o : ℕ} {x : ExprV} {env : Env} {b : List ℕ} {ts : Trees} → TimesMean rules r n x o env b ts → IsBits b
+    times_bits : {n o : ℕ} {x : ExprV} {env : Env} {b : List ℕ} {ts : Trees}
+        → TimesMean rules r n x o env b ts → IsBits b
     times_bits (times_end zero h) = IsBits-along h tt
     times_bits (times_next m is b1 b2 cut h others) = IsBits-split b1 b2 cut (meant_bits h) (times_bits others)
 
-    many_bits : {x : ExprV} {o : ℕ} {env : Env} {b : List ℕ} {ts : Trees} → ManyMean rules r x o env b ts → IsBits b
+    many_bits : {x : ExprV} {o : ℕ} {env : Env} {b : List ℕ} {ts : Trees} → ManyMean rules r x o env b ts
+        → IsBits b
     many_bits (many_end h) = IsBits-along h tt
     many_bits (many_next b1 b2 cut some h others) = IsBits-split b1 b2 cut (meant_bits h) (many_bits others)
 
-    lead_bits : {xs : ExprsV} {o : ℕ} {frame : Frame} {env : Env} {b : List ℕ} {ts : Trees} → LeadMean rules r xs o frame env b ts → IsBits b
+    lead_bits : {xs : ExprsV} {o : ℕ} {frame : Frame} {env : Env} {b : List ℕ} {ts : Trees}
+        → LeadMean rules r xs o frame env b ts → IsBits b
     lead_bits (lead_last some h) = meant_bits h
     lead_bits (lead_next b1 b2 cut h others) = IsBits-split b1 b2 cut (meant_bits h) (lead_bits others)
 
-    pub rule_bits : {rule : Rule} {o : ℕ} {env : Env} {b : List ℕ} {t : TreeV} → RuleMeans rules r rule o env b t → IsBits b
+    pub rule_bits : {rule : Rule} {o : ℕ} {env : Env} {b : List ℕ} {t : TreeV}
+        → RuleMeans rules r rule o env b t → IsBits b
     rule_bits (rule_plain is h) = meant_bits h
     rule_bits (rule_tail tail is h) = tail_bits h
 
-    tail_bits : {tail : TailV} {o : ℕ} {env : Env} {b : List ℕ} {ts turns : Trees} → TailMeans rules r tail o env b ts turns → IsBits b
+    tail_bits : {tail : TailV} {o : ℕ} {env : Env} {b : List ℕ} {ts turns : Trees}
+        → TailMeans rules r tail o env b ts turns → IsBits b
     tail_bits {tail = tail} {o = o} (tail_stop b1 b2 cut items stop) =
         IsBits-split b1 b2 cut (items_bits items) (IsBits-along stop (IsBits-spelled tail.end.stop.run _))
     tail_bits {tail = tail} (tail_again b1 b2 b3 cut items again next) =
@@ -90,23 +97,28 @@ module _ (rules : RulesV) (r : Reading) where
     followed_bits (follows_received is h) = followed_bits h
     followed_bits (follows_sent is h) = followed_bits h
 
-    items_followed_bits : {xs : ExprsV} {o : ℕ} {frame : Frame} {env : Env} {b : List ℕ} → ItemsFollow rules r xs o frame env b → IsBits b
+    items_followed_bits : {xs : ExprsV} {o : ℕ} {frame : Frame} {env : Env} {b : List ℕ}
+        → ItemsFollow rules r xs o frame env b → IsBits b
     items_followed_bits (items_here h) = followed_bits h
     items_followed_bits (items_later b1 b2 cut h others) = IsBits-split b1 b2 cut (meant_bits h) (items_followed_bits others)
 
-    times_followed_bits : {n o : ℕ} {x : ExprV} {env : Env} {b : List ℕ} → TimesFollow rules r n x o env b → IsBits b
+    times_followed_bits : {n o : ℕ} {x : ExprV} {env : Env} {b : List ℕ} → TimesFollow rules r n x o env b
+        → IsBits b
     times_followed_bits (times_here some h) = followed_bits h
     times_followed_bits (times_later m is b1 b2 cut h others) = IsBits-split b1 b2 cut (meant_bits h) (times_followed_bits others)
 
-    many_followed_bits : {x : ExprV} {o : ℕ} {env : Env} {b : List ℕ} → ManyFollow rules r x o env b → IsBits b
+    many_followed_bits : {x : ExprV} {o : ℕ} {env : Env} {b : List ℕ} → ManyFollow rules r x o env b
+        → IsBits b
     many_followed_bits (many_here h) = followed_bits h
     many_followed_bits (many_later b1 b2 cut some h others) = IsBits-split b1 b2 cut (meant_bits h) (many_followed_bits others)
 
-    rule_followed_bits : {rule : Rule} {o : ℕ} {env : Env} {b : List ℕ} → RuleFollows rules r rule o env b → IsBits b
+    rule_followed_bits : {rule : Rule} {o : ℕ} {env : Env} {b : List ℕ} → RuleFollows rules r rule o env b
+        → IsBits b
     rule_followed_bits (follows_plain is h) = followed_bits h
     rule_followed_bits (follows_tail tail is h) = tail_followed_bits h
 
-    tail_followed_bits : {tail : TailV} {o : ℕ} {env : Env} {b : List ℕ} → TailFollows rules r tail o env b → IsBits b
+    tail_followed_bits : {tail : TailV} {o : ℕ} {env : Env} {b : List ℕ} → TailFollows rules r tail o env b
+        → IsBits b
     tail_followed_bits (tail_items full h) = items_followed_bits h
     tail_followed_bits {tail = tail} (tail_stops b1 b2 cut items begins) =
         IsBits-split b1 b2 cut (items_bits items) (IsBits-cut b2 begins.0 begins.1 (IsBits-spelled tail.end.stop.run _))

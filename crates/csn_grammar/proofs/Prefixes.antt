@@ -27,7 +27,8 @@ again : {A : Type 0} {w : List A} (l b c r : List A) → w ≡ l ++ r → l ≡ 
 again l b c r p q = p ∙ ap (λ m. m ++ r) q ∙ append_assoc b c r
 
 -- a part with a number of units is a leaf
-pub field_leaf : (s e : ℕ) (x : ExprV) (k : Exponent) (env : Env) (unit n : ℕ) → unit_of x ≡ Some unit → count_of env k ≡ Some n → is_leaf (expr s e (power x k)) ≡ true
+pub field_leaf : (s e : ℕ) (x : ExprV) (k : Exponent) (env : Env) (unit n : ℕ) → unit_of x ≡ Some unit
+    → count_of env k ≡ Some n → is_leaf (expr s e (power x k)) ≡ true
 field_leaf s e x Any env unit n is count = cc
 field_leaf s e x (Number k) env unit n is count = rw is refl
 field_leaf s e x (Linear m label c) env unit n is count = rw is refl
@@ -53,7 +54,8 @@ module _ (rules : RulesV) (r : Reading) where
   ManyBegun x o env b = ManyFollow rules r x o env b ⊎ ((ts : Trees) × ManyMean rules r x o env b ts)
 
   -- bits that begin the items of a rule in tail form begin the rule
-  pub begun : {tail : TailV} {o : ℕ} {env : Env} (b : List ℕ) → ¬ SomeVoid rules r tail.items → ItemsBegun tail.items o [] env b → TailFollows rules r tail o env b
+  pub begun : {tail : TailV} {o : ℕ} {env : Env} (b : List ℕ) → ¬ SomeVoid rules r tail.items
+      → ItemsBegun tail.items o [] env b → TailFollows rules r tail o env b
   begun b full (inl f) = tail_items full f
   begun {tail = tail} {o = o} b full (inr whole) =
       tail_stops b [] (sym (append-nil b)) whole.1 (spelled tail.end.stop.run (o + length b), refl)
@@ -61,7 +63,8 @@ module _ (rules : RulesV) (r : Reading) where
   -- ---- of bits that are meant
 
   mutual
-    pub begins : {x : ExprV} {o : ℕ} {env : Env} {w : List ℕ} {t : TreeV} → Means rules r x o env w t → (b c : List ℕ) → w ≡ b ++ c → Follow rules r x o env b
+    pub begins : {x : ExprV} {o : ℕ} {env : Env} {w : List ℕ} {t : TreeV} → Means rules r x o env w t
+        → (b c : List ℕ) → w ≡ b ++ c → Follow rules r x o env b
     begins {w = w} (means_lits h) b c e = follows_leaf w c refl e (means_lits h)
     begins (means_null h) b c e = follows_whole empty (means_null (none_before b c (sym h ∙ e)))
     begins {w = w} (means_bit one h) b c e = follows_leaf w c refl e (means_bit one h)
@@ -90,7 +93,8 @@ module _ (rules : RulesV) (r : Reading) where
     begins (means_received is h) b c e = follows_received is (begins h b c e)
     begins (means_sent is h) b c e = follows_sent is (begins h b c e)
 
-    items_begin : {xs : ExprsV} {o : ℕ} {frame : Frame} {env : Env} {w : List ℕ} {ts : Trees} → ItemsMean rules r xs o frame env w ts → (b c : List ℕ) → w ≡ b ++ c → ItemsBegun xs o frame env b
+    items_begin : {xs : ExprsV} {o : ℕ} {frame : Frame} {env : Env} {w : List ℕ} {ts : Trees}
+        → ItemsMean rules r xs o frame env w ts → (b c : List ℕ) → w ≡ b ++ c → ItemsBegun xs o frame env b
     items_begin (items_end h) b c e = inr (none, items_end (none_before b c (sym h ∙ e)))
     items_begin (items_next {t = t} b1 b2 joins h others) b c e =
         elim (splits b1 b2 b c (sym joins ∙ e)) [
@@ -101,7 +105,8 @@ module _ (rules : RulesV) (r : Reading) where
           ]
         ]
 
-    times_begin : {n o : ℕ} {x : ExprV} {env : Env} {w : List ℕ} {ts : Trees} → TimesMean rules r n x o env w ts → (b c : List ℕ) → w ≡ b ++ c → TimesBegun n x o env b
+    times_begin : {n o : ℕ} {x : ExprV} {env : Env} {w : List ℕ} {ts : Trees}
+        → TimesMean rules r n x o env w ts → (b c : List ℕ) → w ≡ b ++ c → TimesBegun n x o env b
     times_begin (times_end zero h) b c e = inr (none, times_end zero (none_before b c (sym h ∙ e)))
     times_begin (times_next {t = t} m is b1 b2 joins h others) b c e =
         elim (splits b1 b2 b c (sym joins ∙ e)) [
@@ -112,7 +117,8 @@ module _ (rules : RulesV) (r : Reading) where
           ]
         ]
 
-    many_begin : {x : ExprV} {o : ℕ} {env : Env} {w : List ℕ} {ts : Trees} → ManyMean rules r x o env w ts → (b c : List ℕ) → w ≡ b ++ c → ManyBegun x o env b
+    many_begin : {x : ExprV} {o : ℕ} {env : Env} {w : List ℕ} {ts : Trees} → ManyMean rules r x o env w ts
+        → (b c : List ℕ) → w ≡ b ++ c → ManyBegun x o env b
     many_begin (many_end h) b c e = inr (none, many_end (none_before b c (sym h ∙ e)))
     many_begin (many_next {t = t} b1 b2 joins some h others) b c e =
         elim (splits b1 b2 b c (sym joins ∙ e)) [
@@ -123,7 +129,9 @@ module _ (rules : RulesV) (r : Reading) where
           ]
         ]
 
-    lead_begins : {xs : ExprsV} {o : ℕ} {frame : Frame} {env : Env} {w : List ℕ} {ts : Trees} → LeadMean rules r xs o frame env w ts → (b c : List ℕ) → w ≡ b ++ c → ItemsFollow rules r xs o frame env b
+    lead_begins : {xs : ExprsV} {o : ℕ} {frame : Frame} {env : Env} {w : List ℕ} {ts : Trees}
+        → LeadMean rules r xs o frame env w ts → (b c : List ℕ) → w ≡ b ++ c
+        → ItemsFollow rules r xs o frame env b
     lead_begins (lead_last some h) b c e = items_here (begins h b c e)
     lead_begins (lead_next b1 b2 joins h others) b c e =
         elim (splits b1 b2 b c (sym joins ∙ e)) [
@@ -131,11 +139,14 @@ module _ (rules : RulesV) (r : Reading) where
           | behind m p q ↦ items_later b1 m p h (lead_begins others m c q)
         ]
 
-    pub rule_begins : {rule : Rule} {o : ℕ} {env : Env} {w : List ℕ} {t : TreeV} → RuleMeans rules r rule o env w t → (b c : List ℕ) → w ≡ b ++ c → RuleFollows rules r rule o env b
+    pub rule_begins : {rule : Rule} {o : ℕ} {env : Env} {w : List ℕ} {t : TreeV}
+        → RuleMeans rules r rule o env w t → (b c : List ℕ) → w ≡ b ++ c → RuleFollows rules r rule o env b
     rule_begins (rule_plain is h) b c e = follows_plain is (begins h b c e)
     rule_begins (rule_tail tail is h) b c e = follows_tail tail is (tail_begins h b c e)
 
-    tail_begins : {tail : TailV} {o : ℕ} {env : Env} {w : List ℕ} {ts turns : Trees} → TailMeans rules r tail o env w ts turns → (b c : List ℕ) → w ≡ b ++ c → TailFollows rules r tail o env b
+    tail_begins : {tail : TailV} {o : ℕ} {env : Env} {w : List ℕ} {ts turns : Trees}
+        → TailMeans rules r tail o env w ts turns → (b c : List ℕ) → w ≡ b ++ c
+        → TailFollows rules r tail o env b
     tail_begins (tail_stop b1 b2 joins items stop) b c e =
         elim (splits b1 b2 b c (sym joins ∙ e)) [
           | inside m p q ↦ begun b (items_full rules r items) (items_begin items b m p)
@@ -153,7 +164,8 @@ module _ (rules : RulesV) (r : Reading) where
   -- ---- of bits that are followed
 
   mutual
-    pub prefix_followed : {x : ExprV} {o : ℕ} {env : Env} {w : List ℕ} → Follow rules r x o env w → (b c : List ℕ) → w ≡ b ++ c → Follow rules r x o env b
+    pub prefix_followed : {x : ExprV} {o : ℕ} {env : Env} {w : List ℕ} → Follow rules r x o env w
+        → (b c : List ℕ) → w ≡ b ++ c → Follow rules r x o env b
     prefix_followed (follows_whole t h) b c e = begins h b c e
     prefix_followed {w = w} (follows_leaf whole rest leaf joins h) b c e = follows_leaf whole (c ++ rest) leaf (again w b c rest joins e) h
     prefix_followed (follows_seq full h) b c e = follows_seq full (items_prefix h b c e)
@@ -169,7 +181,9 @@ module _ (rules : RulesV) (r : Reading) where
     prefix_followed (follows_received is h) b c e = follows_received is (prefix_followed h b c e)
     prefix_followed (follows_sent is h) b c e = follows_sent is (prefix_followed h b c e)
 
-    items_prefix : {xs : ExprsV} {o : ℕ} {frame : Frame} {env : Env} {w : List ℕ} → ItemsFollow rules r xs o frame env w → (b c : List ℕ) → w ≡ b ++ c → ItemsFollow rules r xs o frame env b
+    items_prefix : {xs : ExprsV} {o : ℕ} {frame : Frame} {env : Env} {w : List ℕ}
+        → ItemsFollow rules r xs o frame env w → (b c : List ℕ) → w ≡ b ++ c
+        → ItemsFollow rules r xs o frame env b
     items_prefix (items_here h) b c e = items_here (prefix_followed h b c e)
     items_prefix (items_later b1 b2 joins h others) b c e =
         elim (splits b1 b2 b c (sym joins ∙ e)) [
@@ -177,7 +191,8 @@ module _ (rules : RulesV) (r : Reading) where
           | behind m p q ↦ items_later b1 m p h (items_prefix others m c q)
         ]
 
-    times_prefix : {n o : ℕ} {x : ExprV} {env : Env} {w : List ℕ} → TimesFollow rules r n x o env w → (b c : List ℕ) → w ≡ b ++ c → TimesFollow rules r n x o env b
+    times_prefix : {n o : ℕ} {x : ExprV} {env : Env} {w : List ℕ} → TimesFollow rules r n x o env w
+        → (b c : List ℕ) → w ≡ b ++ c → TimesFollow rules r n x o env b
     times_prefix (times_here some h) b c e = times_here some (prefix_followed h b c e)
     times_prefix (times_later m is b1 b2 joins h others) b c e =
         elim (splits b1 b2 b c (sym joins ∙ e)) [
@@ -185,7 +200,8 @@ module _ (rules : RulesV) (r : Reading) where
           | behind l p q ↦ times_later m is b1 l p h (times_prefix others l c q)
         ]
 
-    many_prefix : {x : ExprV} {o : ℕ} {env : Env} {w : List ℕ} → ManyFollow rules r x o env w → (b c : List ℕ) → w ≡ b ++ c → ManyFollow rules r x o env b
+    many_prefix : {x : ExprV} {o : ℕ} {env : Env} {w : List ℕ} → ManyFollow rules r x o env w
+        → (b c : List ℕ) → w ≡ b ++ c → ManyFollow rules r x o env b
     many_prefix (many_here h) b c e = many_here (prefix_followed h b c e)
     many_prefix (many_later b1 b2 joins some h others) b c e =
         elim (splits b1 b2 b c (sym joins ∙ e)) [
@@ -193,11 +209,13 @@ module _ (rules : RulesV) (r : Reading) where
           | behind l p q ↦ many_later b1 l p some h (many_prefix others l c q)
         ]
 
-    pub rule_prefix : {rule : Rule} {o : ℕ} {env : Env} {w : List ℕ} → RuleFollows rules r rule o env w → (b c : List ℕ) → w ≡ b ++ c → RuleFollows rules r rule o env b
+    pub rule_prefix : {rule : Rule} {o : ℕ} {env : Env} {w : List ℕ} → RuleFollows rules r rule o env w
+        → (b c : List ℕ) → w ≡ b ++ c → RuleFollows rules r rule o env b
     rule_prefix (follows_plain is h) b c e = follows_plain is (prefix_followed h b c e)
     rule_prefix (follows_tail tail is h) b c e = follows_tail tail is (tail_prefix h b c e)
 
-    tail_prefix : {tail : TailV} {o : ℕ} {env : Env} {w : List ℕ} → TailFollows rules r tail o env w → (b c : List ℕ) → w ≡ b ++ c → TailFollows rules r tail o env b
+    tail_prefix : {tail : TailV} {o : ℕ} {env : Env} {w : List ℕ} → TailFollows rules r tail o env w
+        → (b c : List ℕ) → w ≡ b ++ c → TailFollows rules r tail o env b
     tail_prefix (tail_items full h) b c e = tail_items full (items_prefix h b c e)
     tail_prefix (tail_stops b1 b2 joins items word) b c e =
         elim (splits b1 b2 b c (sym joins ∙ e)) [
@@ -219,5 +237,6 @@ module _ (rules : RulesV) (r : Reading) where
         ]
 
   -- a string of a rule is followed by it
-  pub rule_followed : {rule : Rule} {o : ℕ} {env : Env} {b : List ℕ} {t : TreeV} → RuleMeans rules r rule o env b t → RuleFollows rules r rule o env b
+  pub rule_followed : {rule : Rule} {o : ℕ} {env : Env} {b : List ℕ} {t : TreeV}
+      → RuleMeans rules r rule o env b t → RuleFollows rules r rule o env b
   rule_followed {b = b} h = rule_begins h b [] (sym (append-nil b))

@@ -17,14 +17,16 @@ use Rattle.csn_grammar.specs.Meaning.{Means, ItemsMean, RuleMeans, TailMeans, me
 use Rattle.csn_grammar.specs.Follow.{Follow, RuleFollows, TailFollows, follows_whole, follows_leaf, follows_seq, follows_choice, follows_times, follows_many, follows_cut, follows_window, follows_labelled, follows_name, follows_group, follows_received, follows_sent, follows_plain, follows_tail, tail_items, tail_stops, tail_goes_on, tail_turns}
 
 -- a name that is built in means no rule
-pub no_rule : (rules : RulesV) (n : List ℕ) (rule : Rule) → is_built_in n ≡ true → rule_of rules n ≡ Some rule → ⊥
+pub no_rule : (rules : RulesV) (n : List ℕ) (rule : Rule) → is_built_in n ≡ true
+    → rule_of rules n ≡ Some rule → ⊥
 no_rule rules n rule built at = let none : rule_of rules n ≡ None = rw built refl in cc
 
 -- a window is one
 pub same_window : (x y : ExprV) {w v : WindowV} → window_of x y ≡ Some w → window_of x y ≡ Some v → w ≡ v
 same_window x y p q = cc
 
-pub same_rule : (rules : RulesV) (n : List ℕ) {a b : Rule} → rule_of rules n ≡ Some a → rule_of rules n ≡ Some b → a ≡ b
+pub same_rule : (rules : RulesV) (n : List ℕ) {a b : Rule} → rule_of rules n ≡ Some a
+    → rule_of rules n ≡ Some b → a ≡ b
 same_rule rules n p q = cc
 
 module _ (rules : RulesV) (r : Reading) where
@@ -48,7 +50,8 @@ module _ (rules : RulesV) (r : Reading) where
   none_kept (kept_void void k) (all_next again others) = none_kept k others
   none_kept (kept_error k) (all_error others) = none_kept k others
 
-  kept_some : (j : ℕ) {bs : BranchesV} {x : ExprV} {xs : List ExprV} → Kept rules r bs xs → slice_get xs j ≡ Some x → Void rules r (expr 0 0 (choice bs)) → ⊥
+  kept_some : (j : ℕ) {bs : BranchesV} {x : ExprV} {xs : List ExprV} → Kept rules r bs xs
+      → slice_get xs j ≡ Some x → Void rules r (expr 0 0 (choice bs)) → ⊥
   kept_some j {xs = xs} kept at (void_choice all) = let none : xs ≡ [] = none_kept kept all in cc
 
   -- ---- rules in tail form
@@ -63,7 +66,8 @@ module _ (rules : RulesV) (r : Reading) where
   no_stop s (Some again) end p = cc
 
   -- one of two alternatives that end a rule is a word
-  some_stop : (s : ℕ) (a b p q : Option WordV) (end : EndV) → option_or (end_with s a p) (end_with s b q) ≡ Some end → (p ≡ None) → (q ≡ None) → ⊥
+  some_stop : (s : ℕ) (a b p q : Option WordV) (end : EndV)
+      → option_or (end_with s a p) (end_with s b q) ≡ Some end → (p ≡ None) → (q ≡ None) → ⊥
   some_stop s None None p q end h none nil = cc
   some_stop s (Some a) None None q end h none nil = cc
   some_stop s (Some a) None (Some w) q end h none nil = cc
@@ -85,16 +89,20 @@ module _ (rules : RulesV) (r : Reading) where
       some_stop s (again_of n y) (again_of n x) (word_of x) (word_of y) end p (not_word x vx) (not_word y vy)
   end_full n z end p v = cc
 
-  front_void : (x : ExprV) (xs : ExprsV) → (Void rules r (last_item x xs) → ⊥) → SomeVoid rules r (item x xs) → SomeVoid rules r (front_items x xs)
+  front_void : (x : ExprV) (xs : ExprsV) → (Void rules r (last_item x xs) → ⊥)
+      → SomeVoid rules r (item x xs) → SomeVoid rules r (front_items x xs)
   front_void x no_item full (void_here v) = absurd (full v)
   front_void x no_item full (void_later v) = elim v [ ]
   front_void x (item y ys) full (void_here v) = void_here v
   front_void x (item y ys) full (void_later v) = void_later (front_void y ys full v)
 
-  tail_found : (n : List ℕ) (x y : ExprV) (ys : ExprsV) (tail : TailV) → tail_of_body n (expr 0 0 (seq (item x (item y ys)))) ≡ Some tail → SomeVoid rules r (item x (item y ys)) → SomeVoid rules r tail.items
+  tail_found : (n : List ℕ) (x y : ExprV) (ys : ExprsV) (tail : TailV)
+      → tail_of_body n (expr 0 0 (seq (item x (item y ys)))) ≡ Some tail
+      → SomeVoid rules r (item x (item y ys)) → SomeVoid rules r tail.items
   tail_found n x y ys tail p v = found (end_of n (last_item y ys)) refl p
     where
-      found : (end : Option EndV) → end_of n (last_item y ys) ≡ end → tail_of_body n (expr 0 0 (seq (item x (item y ys)))) ≡ Some tail → SomeVoid rules r tail.items
+      found : (end : Option EndV) → end_of n (last_item y ys) ≡ end
+          → tail_of_body n (expr 0 0 (seq (item x (item y ys)))) ≡ Some tail → SomeVoid rules r tail.items
       found None e q = cc
       found (Some end) e q =
           let items : front_items x (item y ys) ≡ tail.items = cc in
@@ -102,13 +110,15 @@ module _ (rules : RulesV) (r : Reading) where
           subst P items (front_void x (item y ys) (end_full n (last_item y ys) end e) v)
 
   -- a rule in tail form is empty of strings where one of its items before the braces is
-  pub tail_void : (n : List ℕ) (x : ExprV) (tail : TailV) → tail_of_body n x ≡ Some tail → Void rules r x → SomeVoid rules r tail.items
+  pub tail_void : (n : List ℕ) (x : ExprV) (tail : TailV) → tail_of_body n x ≡ Some tail → Void rules r x
+      → SomeVoid rules r tail.items
   tail_void n (expr s e (seq (item x (item y ys)))) tail p (void_seq v) = tail_found n x y ys tail p v
   tail_void n x tail p v = cc
 
   -- ---- no meaning
 
-  spare_full : {s e : ℕ} (n m : List ℕ) → n ≡ m → is_built_in m ≡ true → (m ≡ codes "no string" → ⊥) → Void rules r (expr s e (name n)) → ⊥
+  spare_full : {s e : ℕ} (n m : List ℕ) → n ≡ m → is_built_in m ≡ true → (m ≡ codes "no string" → ⊥)
+      → Void rules r (expr s e (name n)) → ⊥
   spare_full n m is built other (void_none p) = other (sym is ∙ p)
   spare_full n m is built other (void_name rule at v) =
       no_rule rules m rule built (sym (ap (rule_of rules) is) ∙ at)
@@ -119,7 +129,8 @@ module _ (rules : RulesV) (r : Reading) where
   pub spare_low_full : {s e : ℕ} (n : List ℕ) → n ≡ codes "spare L" → Void rules r (expr s e (name n)) → ⊥
   spare_low_full n is v = spare_full n (codes "spare L") is refl (λ p. cc) v
 
-  pub padding_full : {s e : ℕ} (n : List ℕ) → n ≡ codes "spare padding" → Void rules r (expr s e (name n)) → ⊥
+  pub padding_full : {s e : ℕ} (n : List ℕ) → n ≡ codes "spare padding" → Void rules r (expr s e (name n))
+      → ⊥
   padding_full n is v = spare_full n (codes "spare padding") is refl (λ p. cc) v
 
   -- the name of a rule is not `<no string>`
@@ -127,7 +138,8 @@ module _ (rules : RulesV) (r : Reading) where
   no_string_full n rule p at = no_rule rules (codes "no string") rule refl (sym (ap (rule_of rules) p) ∙ at)
 
   mutual
-    pub means_full : {x : ExprV} {o : ℕ} {env : Env} {b : List ℕ} {t : TreeV} → Means rules r x o env b t → Void rules r x → ⊥
+    pub means_full : {x : ExprV} {o : ℕ} {env : Env} {b : List ℕ} {t : TreeV} → Means rules r x o env b t
+        → Void rules r x → ⊥
     means_full (means_lits h) v = elim v [ ]
     means_full (means_null h) v = elim v [ ]
     means_full (means_bit one h) v = elim v [ ]
@@ -156,23 +168,27 @@ module _ (rules : RulesV) (r : Reading) where
     means_full (means_sent is h) (void_received r v) = cc
     means_full (means_sent is h) (void_sent r v) = means_full h v
 
-    pub items_full : {xs : ExprsV} {o : ℕ} {frame : Frame} {env : Env} {b : List ℕ} {ts : Trees} → ItemsMean rules r xs o frame env b ts → SomeVoid rules r xs → ⊥
+    pub items_full : {xs : ExprsV} {o : ℕ} {frame : Frame} {env : Env} {b : List ℕ} {ts : Trees}
+        → ItemsMean rules r xs o frame env b ts → SomeVoid rules r xs → ⊥
     items_full (items_end h) v = elim v [ ]
     items_full (items_next b1 b2 cut h others) (void_here v) = means_full h v
     items_full (items_next b1 b2 cut h others) (void_later v) = items_full others v
 
-    pub rule_full : {rule : Rule} {o : ℕ} {env : Env} {b : List ℕ} {t : TreeV} → RuleMeans rules r rule o env b t → Void rules r rule.body → ⊥
+    pub rule_full : {rule : Rule} {o : ℕ} {env : Env} {b : List ℕ} {t : TreeV}
+        → RuleMeans rules r rule o env b t → Void rules r rule.body → ⊥
     rule_full (rule_plain is h) v = means_full h v
     rule_full (rule_tail {rule = rule} tail is h) v = tail_full h (tail_void rule.name rule.body tail is v)
 
-    pub tail_full : {tail : TailV} {o : ℕ} {env : Env} {b : List ℕ} {ts turns : Trees} → TailMeans rules r tail o env b ts turns → SomeVoid rules r tail.items → ⊥
+    pub tail_full : {tail : TailV} {o : ℕ} {env : Env} {b : List ℕ} {ts turns : Trees}
+        → TailMeans rules r tail o env b ts turns → SomeVoid rules r tail.items → ⊥
     tail_full (tail_stop b1 b2 cut items stop) v = items_full items v
     tail_full (tail_again b1 b2 b3 cut items again next) v = items_full items v
 
   -- ---- nothing followed
 
   mutual
-    pub follows_full : {x : ExprV} {o : ℕ} {env : Env} {b : List ℕ} → Follow rules r x o env b → Void rules r x → ⊥
+    pub follows_full : {x : ExprV} {o : ℕ} {env : Env} {b : List ℕ} → Follow rules r x o env b
+        → Void rules r x → ⊥
     follows_full (follows_whole t h) v = means_full h v
     follows_full (follows_leaf whole rest leaf cut h) v = means_full h v
     follows_full (follows_seq full h) (void_seq v) = full v
@@ -192,11 +208,13 @@ module _ (rules : RulesV) (r : Reading) where
     follows_full (follows_sent is h) (void_received r v) = cc
     follows_full (follows_sent is h) (void_sent r v) = follows_full h v
 
-    pub rule_follows_full : {rule : Rule} {o : ℕ} {env : Env} {b : List ℕ} → RuleFollows rules r rule o env b → Void rules r rule.body → ⊥
+    pub rule_follows_full : {rule : Rule} {o : ℕ} {env : Env} {b : List ℕ}
+        → RuleFollows rules r rule o env b → Void rules r rule.body → ⊥
     rule_follows_full (follows_plain is h) v = follows_full h v
     rule_follows_full (follows_tail {rule = rule} tail is h) v = tail_follows_full h (tail_void rule.name rule.body tail is v)
 
-    tail_follows_full : {tail : TailV} {o : ℕ} {env : Env} {b : List ℕ} → TailFollows rules r tail o env b → SomeVoid rules r tail.items → ⊥
+    tail_follows_full : {tail : TailV} {o : ℕ} {env : Env} {b : List ℕ} → TailFollows rules r tail o env b
+        → SomeVoid rules r tail.items → ⊥
     tail_follows_full (tail_items full h) v = full v
     tail_follows_full (tail_stops b1 b2 cut items begins) v = items_full items v
     tail_follows_full (tail_goes_on b1 b2 cut items begins) v = items_full items v

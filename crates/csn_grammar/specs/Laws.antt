@@ -11,7 +11,7 @@ use Rattle.csn_grammar.specs.Environment.{Env}
 use Rattle.csn_grammar.specs.Void.{Void, Kept}
 use Rattle.csn_grammar.specs.Meaning.{Means}
 use Rattle.csn_grammar.specs.Follow.{Follow}
-use Rattle.csn_grammar.specs.Strings.{Strings, Followed}
+use Rattle.csn_grammar.specs.Strings.{Strings, Followed, IsPlace}
 use Rattle.csn_grammar.specs.Formed.{Formed, RuleFormed, HaveValues}
 
 abbrev pub PrefixesAreFollowed : Type 0
@@ -66,3 +66,8 @@ abbrev pub EmptyBlocksAreFollowed : Type 0
 EmptyBlocksAreFollowed =
     (rules : RulesV) (r : Reading) (n : List ℕ) (rule : Rule)
     → rule_of rules n ≡ Some rule → RuleFormed rules r [] rule → Followed rules n r []
+
+abbrev pub BlocksHaveOnePlace : Type 0
+BlocksHaveOnePlace =
+    (rules : RulesV) (r : Reading) (n b : List ℕ) (place other : ℕ)
+    → IsPlace rules n r b place → IsPlace rules n r b other → place ≡ other

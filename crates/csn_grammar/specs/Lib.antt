@@ -12,6 +12,7 @@ pub mod Follow
 pub mod Strings
 pub mod Formed
 pub mod Laws
+pub mod Examples
 pub mod TokenV
 pub mod Writing
 pub mod Counts

@@ -31,7 +31,7 @@ module _ (rules : RulesV) (r : Reading) where
       void_here : {x : ExprV} {xs : ExprsV} → Void x → SomeVoid (item x xs)
       void_later : {x : ExprV} {xs : ExprsV} → SomeVoid xs → SomeVoid (item x xs)
 
-    -- each alternative is that does not stand behind `!`
+    -- each alternative that does not stand behind `!` is
     pub data AllVoid : BranchesV → Type 0 where
       all_end : AllVoid no_branch
       all_next : {x : ExprV} {bs : BranchesV} → Void x → AllVoid bs → AllVoid (branch false x bs)

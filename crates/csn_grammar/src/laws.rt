@@ -1,6 +1,6 @@
 //! Laws over the definitions, each the contract of a function that does nothing.
 
-ghost use Rattle.csn_grammar.specs.Laws.{PrefixesAreFollowed, BlockPrefixesAreFollowed, MeaningsAreFollowed, StringsAreFollowed, MeaningsAreBits, FollowedAreBits, VoidMeansNothing, VoidFollowsNothing, AlternativesAreKeptOnce, EmptyBitsAreFollowed, EmptyBlocksAreFollowed};
+ghost use Rattle.csn_grammar.specs.Laws.{PrefixesAreFollowed, BlockPrefixesAreFollowed, MeaningsAreFollowed, StringsAreFollowed, MeaningsAreBits, FollowedAreBits, VoidMeansNothing, VoidFollowsNothing, AlternativesAreKeptOnce, EmptyBitsAreFollowed, EmptyBlocksAreFollowed, BlocksHaveOnePlace};
 
 /// The first few of bits that an expression follows are followed by it, and so are those of a block.
 pub fn prefixes_are_followed()
@@ -36,4 +36,9 @@ pub fn alternatives_are_kept_once()
 pub fn empty_bits_are_followed()
     ensures expression { EmptyBitsAreFollowed }
     ensures block { EmptyBlocksAreFollowed }
+{}
+
+/// A block has at most one place up to which it can be followed.
+pub fn blocks_have_one_place()
+    ensures { BlocksHaveOnePlace }
 {}

@@ -1,6 +1,7 @@
 //! The grammar of CSN.1 descriptions: the rules of a text, and where a text has none.
 #![tactic(auto)]
 
+pub mod examples;
 mod exponent;
 mod expr;
 mod fault;
