@@ -1,5 +1,5 @@
 -- Laws over the definitions.
-use Rattle.std.specs.Prelude.{◌≡◌, ℕ, List}
+use Rattle.std.specs.Prelude.{◌≡◌, ℕ, ◌⊎◌, List}
 use Rattle.csn_desc.specs.declared.reading.Reading.{Reading}
 use Rattle.csn_desc.specs.Nodes.{DescV}
 use Rattle.csn_grammar.specs.ExprV.{ExprV}
@@ -10,6 +10,7 @@ use Rattle.csn_resolve.specs.Why.{Refusal}
 use Rattle.csn_resolve.specs.Seen.{Seen}
 use Rattle.csn_resolve.specs.Gives.{Placed, Gives}
 use Rattle.csn_resolve.specs.Steps.{Step}
+use Rattle.csn_resolve.specs.Counts.{Narrow}
 use Rattle.csn_resolve.specs.Walk.{Around, Walk}
 use Rattle.csn_resolve.specs.Resolved.{AreRefusals, IsRefused, IsResolved}
 
@@ -40,3 +41,13 @@ module _ (rules : RulesV) (r : Reading) where
   abbrev pub RefusedOrResolved : Type 0
   RefusedOrResolved =
       (n : List ℕ) (why : Why) (place : ℕ) (d : DescV) → IsRefused rules n r why place → ¬ IsResolved rules n r d
+
+  -- what is empty of strings, in both readings, and what a count may stand on, is decided for every expression
+  abbrev pub EmptinessIsDecided : Type 0
+  EmptinessIsDecided = (x : ExprV) → Void rules r x ⊎ (¬ Void rules r x)
+
+  abbrev pub WidthsAreDecided : Type 0
+  WidthsAreDecided = (x : ExprV) → Narrow rules r x ⊎ (¬ Narrow rules r x)
+
+  abbrev pub WalksEnd : Type 0
+  WalksEnd = (a : Around) (x : ExprV) → (steps : List Step) × Walk rules r a x steps

@@ -1,6 +1,6 @@
 //! Laws over the definitions, each the contract of a function that does nothing.
 
-ghost use Rattle.csn_resolve.specs.Laws.{NodesAreGivenOnce, VoidGivesNothing, StepsAreWalkedOnce, ResolvedOnce, RefusedOnce, RefusedOrResolved};
+ghost use Rattle.csn_resolve.specs.Laws.{NodesAreGivenOnce, VoidGivesNothing, StepsAreWalkedOnce, ResolvedOnce, RefusedOnce, RefusedOrResolved, EmptinessIsDecided, WidthsAreDecided, WalksEnd};
 
 use csn_desc::Reading;
 use csn_grammar::Rules;
@@ -23,3 +23,12 @@ pub fn refusals_are_one(rules: &Rules, reading: Reading)
     ensures name { RefusedOnce rules.now reading }
     ensures or_resolved { RefusedOrResolved rules.now reading }
 {}
+
+/// Every expression has a walk: names that are being put in are not entered, so it ends, and what is
+/// empty of strings and which widths are constant is decided.
+pub fn walks_end(rules: &Rules, reading: Reading)
+    ensures empty { EmptinessIsDecided rules.now reading }
+    ensures widths { WidthsAreDecided rules.now reading }
+    ensures ends { WalksEnd rules.now reading }
+{
+}
