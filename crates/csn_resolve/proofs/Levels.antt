@@ -10,11 +10,11 @@ use Rattle.csn_grammar.specs.Names.{same_name, is_built_in, rule_of}
 
 -- ---- how many rules pass a test
 
-abbrev one_if : Bool → ℕ
+abbrev pub one_if : Bool → ℕ
 one_if true = 1
 one_if false = 0
 
-abbrev passing : (Rule → Bool) → List Rule → ℕ
+abbrev pub passing : (Rule → Bool) → List Rule → ℕ
 passing p [] = 0
 passing p (rule ∷ rules) = one_if (p rule) + passing p rules
 
@@ -47,6 +47,16 @@ closed_at p q test (first ∷ rules) rule closed at h =
         sym (ap p same) ∙ closed.0 (ap q same ∙ h)
     here false is later = later is
 
+-- a rule that a name means passes p where it passes q
+pub rule_closed :
+    (p q : Rule → Bool) (rules : RulesV) (n : List ℕ) (rule : Rule)
+    → Closed p q rules → rule_of rules n ≡ Some rule → q rule ≡ true → p rule ≡ true
+rule_closed p q rules n rule closed at h = by_name (is_built_in n) at
+  where
+    by_name : (b : Bool) → (if b then None else find (λ rule. same_name rule.name n) rules) ≡ Some rule → p rule ≡ true
+    by_name true is = cc
+    by_name false is = closed_at p q (λ rule. same_name rule.name n) rules rule closed is h
+
 -- one rule more
 one_more :
     (b c : Bool) (m n : ℕ) (C : Type 0) → (b ≡ true → c ≡ true) → m ≤ n → C ⊎ (suc m ≤ n)
@@ -62,7 +72,7 @@ one_more false false m n C wide few (inl closed) = (omega arith, inl (λ h. h, c
 one_more false false m n C wide few (inr more) = (omega arith, inr (omega arith))
 
 -- where p is narrower than q, both are the same for these rules, or more of them pass q
-closed_or_more :
+pub closed_or_more :
     (p q : Rule → Bool) → ((rule : Rule) → p rule ≡ true → q rule ≡ true) → (rules : List Rule)
     → (passing p rules ≤ passing q rules) × (Closed p q rules ⊎ (suc (passing p rules) ≤ passing q rules))
 closed_or_more p q wide [] = (omega arith, inl tt)
@@ -142,14 +152,7 @@ module _ (rules : RulesV) (test : (List ℕ → Bool) → ExprV → Bool) where
         in_rule None at p stable = p
         in_rule (Some rule) at p stable =
             let above : at_level (suc j) rule ≡ true = wider (level m) (level (suc j)) stable rule.body p in
-            closed_rule (is_built_in n) rule at above
-          where
-            closed_rule :
-                (b : Bool) (rule : Rule) → (if b then None else find (λ rule. same_name rule.name n) rules) ≡ Some rule
-                → at_level (suc j) rule ≡ true → at_level j rule ≡ true
-            closed_rule true rule at above = cc
-            closed_rule false rule at above =
-                closed_at (at_level j) (at_level (suc j)) (λ rule. same_name rule.name n) rules rule closed at above
+            rule_closed (at_level j) (at_level (suc j)) rules n rule closed at above
 
     -- there is a level of names with which every expression passes that passes with some level
     pub last_level : (k : ℕ) × ((m : ℕ) (x : ExprV) → test (level m) x ≡ true → test (level k) x ≡ true)
