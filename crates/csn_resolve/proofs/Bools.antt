@@ -5,7 +5,9 @@ pub or_cases : (a b : Bool) → (a || b) ≡ true → (a ≡ true) ⊎ (b ≡ tr
 or_cases true b p = inl refl
 or_cases false b p = inr p
 
-pub or_wider : (a b c d : Bool) → (a ≡ true → c ≡ true) → (b ≡ true → d ≡ true) → (a || b) ≡ true → (c || d) ≡ true
+pub or_wider :
+    (a b c d : Bool)
+    → (a ≡ true → c ≡ true) → (b ≡ true → d ≡ true) → (a || b) ≡ true → (c || d) ≡ true
 or_wider true b c d left right p = let first : c ≡ true = left refl in cc
 or_wider false b true d left right p = refl
 or_wider false b false d left right p = right p

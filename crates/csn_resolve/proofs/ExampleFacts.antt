@@ -1,14 +1,13 @@
 -- The worked examples.
-use Rattle.std.proofs.Common.{ℕ, suc, ◌+◌, List, [], ◌∷◌, refl, subst, lit≤, codes}
+use Rattle.std.proofs.Common.{ℕ, suc, ◌+◌, List, [], ◌∷◌, refl, lit≤, codes}
 use Rattle.csn_desc.specs.declared.reading.Reading.{Reading}
 use Rattle.csn_desc.specs.declared.reading.Reading.TheVariants.{Received, Sent}
 use Rattle.csn_desc.specs.declared.symbol.Symbol.{Symbol}
 use Rattle.csn_desc.specs.declared.symbol.Symbol.TheVariants.{Zero}
 use Rattle.csn_desc.specs.declared.node.Count.TheVariants.{Fixed}
 use Rattle.csn_desc.specs.declared.node.Node.TheVariants.{Lits, Field, Seq, Named}
-use Rattle.csn_desc.specs.Examples.{A, B}
+use Rattle.csn_desc.specs.Examples.{A, B, fields}
 use Rattle.csn_grammar.specs.declared.exponent.Exponent.TheVariants.{Number}
-use Rattle.csn_grammar.specs.declared.rules.Rule.{Rule}
 use Rattle.csn_grammar.specs.ExprV.{ExprV, expr, lits, name, sends}
 use Rattle.csn_grammar.specs.RulesV.{RulesV}
 use Rattle.csn_grammar.specs.Void.{Void, void_none, void_name, void_received, void_sent, void_group, void_seq, void_choice, void_here, void_later, all_next, kept_end, kept_next, kept_void}
@@ -16,14 +15,12 @@ use Rattle.csn_resolve.specs.Seen.{Seen}
 use Rattle.csn_resolve.specs.declared.why.Why.TheVariants.{Undefined, DefinedTwice, Recursive}
 use Rattle.csn_resolve.specs.Steps.{begins, refused}
 use Rattle.csn_resolve.specs.Counts.{count_number}
-use Rattle.csn_resolve.specs.Gives.{Placed, placed, Gives, RuleGives, gives_lits, gives_field, gives_spare_bit, gives_spare_low, gives_padding, gives_name, gives_seq, gives_choice, gives_only, gives_labelled, gives_group, gives_received, items_end, items_next, each_end, each_next, rule_plain, rule_tail}
+use Rattle.csn_resolve.specs.Gives.{placed, Gives, RuleGives, gives_lits, gives_field, gives_seq, gives_choice, gives_only, gives_labelled, gives_group, gives_received, items_end, items_next, each_end, each_next, rule_plain, rule_tail}
 use Rattle.csn_resolve.specs.Walk.{Around, Walk, left_full, left_plain, walk_lits, walk_field, walk_undefined, walk_recursive, walk_group, walk_labelled, walk_seq, walk_choice}
 use Rattle.csn_resolve.specs.Walk as walk
-use Rattle.csn_resolve.specs.Overfull.{IsFirstOverfull}
-use Rattle.csn_resolve.specs.Resolved.{NameGives, nodes_of, asked_rule, not_overfull}
-use Rattle.csn_resolve.specs.Examples.{M, X, field, fields_rule, fields_rules, FieldsAreResolved, refused_rule, refused_rules, RefusalsHaveAnOrder, dropping_rules, AlternativesAreDropped, repeated_rules, CountsStandOnTheNearest, tail_rules, TailsAreRepetitions}
-use Rattle.csn_grammar.proofs.VoidFacts.{same_rule}
-use Rattle.csn_resolve.proofs.Once.{name_once}
+use Rattle.csn_resolve.specs.Overfull.{IsOverfull}
+use Rattle.csn_resolve.specs.Resolved.{asked_rule}
+use Rattle.csn_resolve.specs.Examples.{X, field, fields_rule, fields_rules, FieldsAreResolved, refused_rule, refused_rules, RefusalsHaveAnOrder, dropping_rules, AlternativesAreDropped, repeated_rules, CountsStandOnTheNearest, tail_rules, TailsAreRepetitions}
 use Rattle.csn_resolve.proofs.Full.{rule_full}
 
 -- a labelled field gives two nodes
@@ -48,12 +45,8 @@ fields_give =
     (items_end refl refl) refl refl) refl refl) refl refl) refl)
 
 -- no count stands on a field
-none_counted : {nodes : List Placed} (i : ℕ) → NameGives fields_rules M Received nodes → ¬ IsFirstOverfull (nodes_of nodes) i
-none_counted {nodes} i given first =
-    let P : List Placed → Type 0 = λ z. IsFirstOverfull (nodes_of z) i in
-    let h = subst P (name_once fields_rules Received given (record { rule = fields_rule; found = refl; gives = fields_give })) first in
-    let counted = h.overfull.counted in
-    cc
+none_counted : (i : ℕ) → ¬ IsOverfull fields.nodes i
+none_counted i h = let counted = h.counted in cc
 
 pub fields_are_resolved : FieldsAreResolved
 fields_are_resolved =
@@ -61,7 +54,6 @@ fields_are_resolved =
       accepted =
           record {
             steps = begins 8 ∷ begins 8 ∷ begins 13 ∷ begins 22 ∷ begins 24 ∷ begins 29 ∷ [];
-            full = [];
             walked =
                 asked_rule fields_rule refl
                 (walk.rule_plain refl (walk_seq
@@ -70,32 +62,17 @@ fields_are_resolved =
                 (walk.items_next (walk_labelled (walk_field refl (count_number refl) refl) refl)
                 (walk.items_end refl) refl) refl) refl) refl))
                 (left_full (λ v. rule_full fields_rules Received fields_give v) refl) refl;
-            counted = not_overfull (λ nodes i given first. none_counted i given first) refl;
             are = refl;
           };
       nodes = _;
       given = record { rule = fields_rule; found = refl; gives = fields_give };
+      not_overfull = none_counted;
       is = refl;
     }
 
 -- ---- refusals
 
 -- X has no rule
-x_gives_none : {s e at : ℕ} {seen : Seen ℕ} {nodes : List Placed} → Gives refused_rules Received (expr s e (name X)) at seen nodes → ⊥
-x_gives_none (gives_spare_bit is p) = cc
-x_gives_none (gives_spare_low is p) = cc
-x_gives_none (gives_padding is p) = cc
-x_gives_none (gives_name rule is h) = cc
-
-refused_gives_none : {nodes : List Placed} → RuleGives refused_rules Received refused_rule 0 [] nodes → ⊥
-refused_gives_none (rule_plain is (gives_seq (items_next first rest h others p q) n)) = x_gives_none h
-refused_gives_none (rule_tail tail many stop parts turn_parts items turn is i m t s p) = cc
-
-name_gives_none : {nodes : List Placed} → NameGives refused_rules M Received nodes → ⊥
-name_gives_none {nodes} h =
-    let P : Rule → Type 0 = λ z. RuleGives refused_rules Received z 0 [] nodes in
-    refused_gives_none (subst P (same_rule refused_rules M h.found refl) h.gives)
-
 x_full : {s e : ℕ} → Void refused_rules Received (expr s e (name X)) → ⊥
 x_full (void_none p) = cc
 x_full (void_name rule is v) = cc
@@ -110,7 +87,6 @@ refusals_have_an_order =
     record {
       steps =
           refused DefinedTwice 26 ∷ begins 8 ∷ refused Undefined 8 ∷ begins 14 ∷ begins 14 ∷ refused Recursive 18 ∷ [];
-      full = [];
       walked =
           asked_rule refused_rule refl
           (walk.rule_plain refl (walk_seq
@@ -122,7 +98,6 @@ refusals_have_an_order =
           (walk.branches_end refl) refl) refl) refl) refl)
           (walk.items_end refl) refl) refl) refl))
           (left_full refused_full refl) refl;
-      counted = not_overfull (λ nodes i given first. name_gives_none given) refl;
       are = refl;
     }
 
@@ -134,7 +109,9 @@ no_string = void_none refl
 literal_full : {r : Reading} {s e : ℕ} {run : List Symbol} → Void dropping_rules r (expr s e (lits run)) → ⊥
 literal_full v = elim v [ ]
 
-received_full : {s e s' e' : ℕ} {y : ExprV} {run : List Symbol} → Void dropping_rules Received (expr s e (sends (expr s' e' (lits run)) y)) → ⊥
+received_full :
+    {s e s' e' : ℕ} {y : ExprV} {run : List Symbol}
+    → Void dropping_rules Received (expr s e (sends (expr s' e' (lits run)) y)) → ⊥
 received_full (void_received p v) = literal_full v
 received_full (void_sent p v) = cc
 

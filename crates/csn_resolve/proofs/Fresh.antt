@@ -17,20 +17,28 @@ abbrev pub fresh : RulesV → List (List ℕ) → ℕ
 fresh rules names = passing (is_fresh names) rules
 
 -- the rule of a name has it
-name_found : (rules : RulesV) (n : List ℕ) (rule : Rule) → find (λ rule. same_name rule.name n) rules ≡ Some rule → same_name rule.name n ≡ true
+name_found :
+    (rules : RulesV) (n : List ℕ) (rule : Rule)
+    → find (λ rule. same_name rule.name n) rules ≡ Some rule → same_name rule.name n ≡ true
 name_found [] n rule at = cc
 name_found (first ∷ rules) n rule at = here (same_name first.name n) refl at (λ is. name_found rules n rule is)
   where
     here :
-        (b : Bool) → same_name first.name n ≡ b → (if b then Some first else find (λ rule. same_name rule.name n) rules) ≡ Some rule
-        → (find (λ rule. same_name rule.name n) rules ≡ Some rule → same_name rule.name n ≡ true) → same_name rule.name n ≡ true
+        (b : Bool)
+        → same_name first.name n ≡ b
+        → (if b then Some first else find (λ rule. same_name rule.name n) rules) ≡ Some rule
+        → (find (λ rule. same_name rule.name n) rules ≡ Some rule → same_name rule.name n ≡ true)
+        → same_name rule.name n ≡ true
     here true p is later = let same : first ≡ rule = cc in sym (ap (λ x. same_name x.name n) same) ∙ p
     here false p is later = later is
 
 pub rule_name : (rules : RulesV) (n : List ℕ) (rule : Rule) → rule_of rules n ≡ Some rule → rule.name ≡ n
 rule_name rules n rule at = same_text rule.name n (sym (by_name (is_built_in n) at))
   where
-    by_name : (b : Bool) → (if b then None else find (λ rule. same_name rule.name n) rules) ≡ Some rule → same_name rule.name n ≡ true
+    by_name :
+        (b : Bool)
+        → (if b then None else find (λ rule. same_name rule.name n) rules) ≡ Some rule
+        → same_name rule.name n ≡ true
     by_name true is = cc
     by_name false is = name_found rules n rule is
 

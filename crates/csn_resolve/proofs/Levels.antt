@@ -53,7 +53,9 @@ pub rule_closed :
     → Closed p q rules → rule_of rules n ≡ Some rule → q rule ≡ true → p rule ≡ true
 rule_closed p q rules n rule closed at h = by_name (is_built_in n) at
   where
-    by_name : (b : Bool) → (if b then None else find (λ rule. same_name rule.name n) rules) ≡ Some rule → p rule ≡ true
+    by_name :
+        (b : Bool)
+        → (if b then None else find (λ rule. same_name rule.name n) rules) ≡ Some rule → p rule ≡ true
     by_name true is = cc
     by_name false is = closed_at p q (λ rule. same_name rule.name n) rules rule closed is h
 
@@ -127,7 +129,9 @@ module _ (rules : RulesV) (test : (List ℕ → Bool) → ExprV → Bool) where
         more few (inl closed) = inl (k, closed)
         more few (inr grown) = inr (omega arith)
 
-        next : SomeClosed ⊎ (k ≤ passing (at_level k) rules) → SomeClosed ⊎ (suc k ≤ passing (at_level (suc k)) rules)
+        next :
+            SomeClosed ⊎ (k ≤ passing (at_level k) rules)
+            → SomeClosed ⊎ (suc k ≤ passing (at_level (suc k)) rules)
         next (inl closed) = inl closed
         next (inr few) =
             more few (closed_or_more (at_level k) (at_level (suc k)) (rules_up k) rules).1

@@ -1,17 +1,17 @@
 -- Whether what stands behind a label is a field of constant width, of 1 to 16 bits, is decided.
-use Rattle.std.proofs.Common.{◌≡◌, ℕ, zero, suc, ◌*◌, ◌≤◌, Bool, true, false, nat_le, ◌&&◌, ◌||◌, List, ◌⊎◌, inl, inr, refl, sym, ◌∙◌, ap, arith, Option, Some, None}
+use Rattle.std.proofs.Common.{◌≡◌, ℕ, zero, suc, ◌*◌, ◌≤◌, Bool, true, false, nat_le, ◌&&◌, ◌||◌, List, ◌⊎◌, inl, inr, refl, sym, ◌∙◌, ap, Option, Some, None}
 use Rattle.std.proofs.lemmas.Bool.{leb-true, le-leb}
 use Rattle.csn_desc.specs.declared.reading.Reading.{Reading}
 use Rattle.csn_desc.specs.declared.reading.Reading.TheVariants.{Received, Sent}
 use Rattle.csn_grammar.specs.declared.exponent.Exponent.{Exponent}
 use Rattle.csn_grammar.specs.declared.exponent.Exponent.TheVariants.{Any, Number, Linear}
 use Rattle.csn_grammar.specs.declared.rules.Rule.{Rule}
-use Rattle.csn_grammar.specs.ExprV.{ExprV, expr, FormV, lits, null, bit, octet, name, labelled, group, seq, choice, power, cut, both, sends}
+use Rattle.csn_grammar.specs.ExprV.{ExprV, expr, FormV, name, group, sends}
 use Rattle.csn_grammar.specs.RulesV.{RulesV}
 use Rattle.csn_grammar.specs.Names.{rule_of}
 use Rattle.csn_grammar.specs.Forms.{WidthV, width_of}
 use Rattle.csn_resolve.specs.Counts.{Narrow, narrow_field, narrow_name, narrow_group, narrow_received, narrow_sent}
-use Rattle.csn_resolve.proofs.Bools.{or_cases, or_wider, or_left, or_right, and_cases, both_true}
+use Rattle.csn_resolve.proofs.Bools.{or_cases, or_wider, or_left, and_cases, both_true}
 use Rattle.csn_resolve.proofs.Levels.{rule_test, level, decided}
 
 abbrev few_bits : ℕ → Exponent → Bool
@@ -106,7 +106,8 @@ module _ (rules : RulesV) (r : Reading) where
   names_found (suc k) n p = in_rule (rule_of rules n) refl p (names_found k)
     where
       in_rule :
-          (o : Option Rule) → rule_of rules n ≡ o → rule_test rules (is_narrow r) o (narrows k) ≡ true → Names (narrows k)
+          (o : Option Rule)
+          → rule_of rules n ≡ o → rule_test rules (is_narrow r) o (narrows k) ≡ true → Names (narrows k)
           → (rule : Rule) × (rule_of rules n ≡ Some rule) × Narrow rules r rule.body
       in_rule None at p names = cc
       in_rule (Some rule) at p names = (rule, at, narrow_found (narrows k) names rule.body p)
@@ -116,15 +117,22 @@ module _ (rules : RulesV) (r : Reading) where
       → is_narrow r (narrows k) rule.body ≡ true → narrows (suc k) n ≡ true
   found_name n rule at k found = ap (λ o. rule_test rules (is_narrow r) o (narrows k)) at ∙ found
 
-  found_width : (x : ExprV) (w : WidthV) (n : ℕ) → width_of x ≡ Some w → w.count ≡ Number n → 1 ≤ w.unit * n → w.unit * n ≤ 16 → narrow_width (width_of x) ≡ true
+  found_width :
+      (x : ExprV) (w : WidthV) (n : ℕ)
+      → width_of x ≡ Some w → w.count ≡ Number n → 1 ≤ w.unit * n → w.unit * n ≤ 16
+      → narrow_width (width_of x) ≡ true
   found_width x w n is at some few =
       ap narrow_width is ∙ (ap (few_bits w.unit) at
       ∙ both_true (nat_le 1 (w.unit * n)) (nat_le (w.unit * n) 16) (le-leb 1 (w.unit * n) some) (le-leb (w.unit * n) 16 few))
 
-  found_left : (h : List ℕ → Bool) (x y : ExprV) → r ≡ Received → is_narrow r h x ≡ true → form_narrow r h (sends x y) ≡ true
+  found_left :
+      (h : List ℕ → Bool) (x y : ExprV)
+      → r ≡ Received → is_narrow r h x ≡ true → form_narrow r h (sends x y) ≡ true
   found_left h x y is p = ap (λ z. form_narrow z h (sends x y)) is ∙ (sym (ap (λ z. is_narrow z h x) is) ∙ p)
 
-  found_right : (h : List ℕ → Bool) (x y : ExprV) → r ≡ Sent → is_narrow r h y ≡ true → form_narrow r h (sends x y) ≡ true
+  found_right :
+      (h : List ℕ → Bool) (x y : ExprV)
+      → r ≡ Sent → is_narrow r h y ≡ true → form_narrow r h (sends x y) ≡ true
   found_right h x y is p = ap (λ z. form_narrow z h (sends x y)) is ∙ (sym (ap (λ z. is_narrow z h y) is) ∙ p)
 
   narrow_is_found : {x : ExprV} → Narrow rules r x → (k : ℕ) × (is_narrow r (narrows k) x ≡ true)

@@ -1,5 +1,5 @@
 -- Every expression has a walk.
-use Rattle.std.proofs.Common.{◌≡◌, ℕ, zero, suc, ◌≤◌, Bool, true, false, List, [], ◌∷◌, ◌++◌, ◌⊎◌, inl, inr, refl, sym, ◌∙◌, ap, arith, Option, Some, None}
+use Rattle.std.proofs.Common.{◌≡◌, ℕ, zero, suc, ◌≤◌, Bool, true, false, List, [], ◌∷◌, ◌⊎◌, inl, inr, refl, ◌∙◌, ap, arith, Option, Some, None}
 use Rattle.std.specs.Option.{option_map}
 use Rattle.csn_desc.specs.declared.reading.Reading.{Reading}
 use Rattle.csn_desc.specs.declared.reading.Reading.TheVariants.{Sent}
@@ -14,10 +14,12 @@ use Rattle.csn_grammar.specs.Environment.{label_of}
 use Rattle.csn_grammar.specs.TailForm.{TailV, tail_of}
 use Rattle.csn_grammar.specs.Void.{Void, SomeVoid}
 use Rattle.csn_resolve.specs.Seen.{Frame, Seen, seen_of, with_labelled, inner_of}
+use Rattle.csn_resolve.specs.Why.{Refusal}
 use Rattle.csn_resolve.specs.Gives.{start_of}
 use Rattle.csn_resolve.specs.Steps.{Step}
 use Rattle.csn_resolve.specs.Counts.{Narrow, CountSteps, count_number, count_unknown, count_wide, count_narrow}
-use Rattle.csn_resolve.specs.Walk.{Around, inside, in_turn, putting_in, behind, is_among, PartLeft, BranchLeft, TurnLeft, left_void, left_full, left_plain, left_error, left_sendable, left_void_turn, left_full_turn, Walk, ItemsWalk, ComponentsWalk, BranchesWalk, RuleWalk, walk_lits, walk_null, walk_bit, walk_octet, walk_field, walk_rest, walk_built_in, walk_undefined, walk_recursive, walk_name, walk_group, walk_labelled, walk_seq, walk_choice, walk_times, walk_many, walk_cut, walk_window, walk_window_behind, walk_no_window, walk_sends, items_end, items_next, components_end, components_next, branches_end, branches_next, rule_plain, rule_tail}
+use Rattle.csn_resolve.specs.Walk.{Around, inside, in_turn, putting_in, outermost, behind, is_among, PartLeft, BranchLeft, TurnLeft, left_void, left_full, left_plain, left_error, left_sendable, left_void_turn, left_full_turn, Walk, ItemsWalk, ComponentsWalk, BranchesWalk, RuleWalk, walk_lits, walk_null, walk_bit, walk_octet, walk_field, walk_rest, walk_built_in, walk_undefined, walk_recursive, walk_name, walk_group, walk_labelled, walk_seq, walk_choice, walk_times, walk_many, walk_cut, walk_window, walk_window_behind, walk_no_window, walk_sends, items_end, items_next, components_end, components_next, branches_end, branches_next, rule_plain, rule_tail}
+use Rattle.csn_resolve.specs.Resolved.{asked_unknown, asked_rule, AreRefusals}
 use Rattle.csn_resolve.proofs.VoidDecided.{void_decided, some_void_decided}
 use Rattle.csn_resolve.proofs.NarrowDecided.{narrow_decided}
 use Rattle.csn_resolve.proofs.Fresh.{fresh, fewer}
@@ -69,12 +71,16 @@ module _ (rules : RulesV) (r : Reading) where
   turn_left : (tail : TailV) → (steps : List Step) × TurnLeft rules r tail steps
   turn_left tail = by (some_void_decided rules r tail.items)
     where
-      by : SomeVoid rules r tail.items ⊎ (¬ SomeVoid rules r tail.items) → (steps : List Step) × TurnLeft rules r tail steps
+      by :
+          SomeVoid rules r tail.items ⊎ (¬ SomeVoid rules r tail.items)
+          → (steps : List Step) × TurnLeft rules r tail steps
       by (inl v) = (_, left_void_turn v refl)
       by (inr full) = (_, left_full_turn full refl)
 
   -- a number exponent has its steps
-  counted : (seen : Seen ExprV) (place : ℕ) (k : Exponent) → (k ≡ Any → ⊥) → (steps : List Step) × CountSteps rules r seen place k steps
+  counted :
+      (seen : Seen ExprV) (place : ℕ) (k : Exponent)
+      → (k ≡ Any → ⊥) → (steps : List Step) × CountSteps rules r seen place k steps
   counted seen place Any number = absurd (number refl)
   counted seen place (Number n) number = (_, count_number refl)
   counted seen place (Linear m label c) number = by_label (seen_of seen label) refl
@@ -85,7 +91,10 @@ module _ (rules : RulesV) (r : Reading) where
       by_item x is (inl narrow) = (_, count_narrow x is narrow refl)
       by_item x is (inr wide) = (_, count_wide x is wide refl)
 
-      by_label : (o : Option ExprV) → seen_of seen label ≡ o → (steps : List Step) × CountSteps rules r seen place (Linear m label c) steps
+      by_label :
+          (o : Option ExprV)
+          → seen_of seen label ≡ o
+          → (steps : List Step) × CountSteps rules r seen place (Linear m label c) steps
       by_label None is = (_, count_unknown is refl)
       by_label (Some x) is = by_item x is (narrow_decided rules r x)
 
@@ -97,7 +106,9 @@ module _ (rules : RulesV) (r : Reading) where
   by_number a s e x k None number is inner =
       let counts = counted a.seen s k number in let left = part_left x in (_, walk_times is counts.1 inner.1 left.1 refl)
 
-  by_power : (a : Around) (s e : ℕ) (x : ExprV) (k : Exponent) → Walked (inside a) x → Walked a (expr s e (power x k))
+  by_power :
+      (a : Around) (s e : ℕ) (x : ExprV) (k : Exponent)
+      → Walked (inside a) x → Walked a (expr s e (power x k))
   by_power a s e x Any inner = by_bit (is_bit x) refl
     where
       by_bit : (b : Bool) → is_bit x ≡ b → Walked a (expr s e (power x Any))
@@ -128,7 +139,9 @@ module _ (rules : RulesV) (r : Reading) where
     by_rule a s e n (Some rule) false same not_built at is =
         let inner = enter a n rule same at is in (_, walk_name rule at (ap (is_among n) same ∙ is) inner.1 refl)
 
-    by_name : (a : Around) (s e : ℕ) (n : List ℕ) (built : Bool) → a.names ≡ names → is_built_in n ≡ built → Walked a (expr s e (name n))
+    by_name :
+        (a : Around) (s e : ℕ) (n : List ℕ) (built : Bool)
+        → a.names ≡ names → is_built_in n ≡ built → Walked a (expr s e (name n))
     by_name a s e n true same is = (_, walk_built_in is refl)
     by_name a s e n false same is = by_rule a s e n (rule_of rules n) (is_among n names) same is refl refl
 
@@ -153,7 +166,9 @@ module _ (rules : RulesV) (r : Reading) where
       form_walked s e (sends x y) a same =
           let left = walked x a same in let right = walked y a same in (_, walk_sends left.1 right.1 refl)
 
-      items_walked : (xs : ExprsV) (frame : Frame ExprV) (a : Around) → a.names ≡ names → (steps : List Step) × ItemsWalk rules r a frame xs steps
+      items_walked :
+          (xs : ExprsV) (frame : Frame ExprV) (a : Around)
+          → a.names ≡ names → (steps : List Step) × ItemsWalk rules r a frame xs steps
       items_walked no_item frame a same = (_, items_end refl)
       items_walked (item x xs) frame a same =
           let first = walked x (behind frame a) same in
@@ -169,7 +184,9 @@ module _ (rules : RulesV) (r : Reading) where
           let rest = components_walked xs (with_labelled (label_of r x) (inner_of r x) frame) a same in
           (_, components_next first.1 left.1 rest.1 refl)
 
-      branches_walked : (bs : BranchesV) (a : Around) → a.names ≡ names → (steps : List Step) × BranchesWalk rules r a bs steps
+      branches_walked :
+          (bs : BranchesV) (a : Around)
+          → a.names ≡ names → (steps : List Step) × BranchesWalk rules r a bs steps
       branches_walked no_branch a same = (_, branches_end refl)
       branches_walked (branch error x bs) a same =
           let first = walked x a same in let left = branch_left error x in
@@ -189,7 +206,9 @@ module _ (rules : RulesV) (r : Reading) where
 
   -- ---- with each name that is put in, fewer are left
 
-  all_walked : (k : ℕ) (names : List (List ℕ)) → fresh rules names ≤ k → (rule : Rule) (a : Around) → a.names ≡ names → RuleWalked a rule
+  all_walked :
+      (k : ℕ) (names : List (List ℕ))
+      → fresh rules names ≤ k → (rule : Rule) (a : Around) → a.names ≡ names → RuleWalked a rule
   all_walked zero names few rule a same =
       rule_walked names (λ b n other is at new. absurd (omega (arith, few, fewer rules names n other at new))) rule a same
   all_walked (suc k) names few rule a same =
@@ -203,3 +222,14 @@ module _ (rules : RulesV) (r : Reading) where
   pub has_walk : (a : Around) (x : ExprV) → Walked a x
   has_walk a x =
       walked a.names (λ b n other is at new. rule_has_walk (putting_in n b) other) x a refl
+
+  pub has_refusals : (n : List ℕ) → (refusals : List Refusal) × AreRefusals rules n r refusals
+  has_refusals n = by_rule (rule_of rules n) refl
+    where
+      by_rule :
+          (o : Option Rule)
+          → rule_of rules n ≡ o → (refusals : List Refusal) × AreRefusals rules n r refusals
+      by_rule None is = (_, record { steps = _; walked = asked_unknown is refl; are = refl })
+      by_rule (Some rule) is =
+          let walk = rule_has_walk (outermost n) rule in let left = part_left rule.body in
+          (_, record { steps = _; walked = asked_rule rule is walk.1 left.1 refl; are = refl })

@@ -1,6 +1,5 @@
 -- Whether an expression is empty of strings is decided.
-use Rattle.std.proofs.Common.{◌≡◌, ℕ, zero, suc, ◌+◌, ◌≤◌, Bool, true, false, ◌||◌, ◌&&◌, List, [], ◌∷◌, ◌⊎◌, inl, inr, refl, sym, ◌∙◌, ap, arith, max, codes, Option, Some, None}
-use Rattle.std.specs.Prelude.{if◌then◌else◌, is_some}
+use Rattle.std.proofs.Common.{◌≡◌, ℕ, zero, suc, ◌+◌, ◌≤◌, Bool, true, false, ◌||◌, ◌&&◌, List, ◌⊎◌, inl, inr, refl, sym, ◌∙◌, ap, arith, codes, Option, Some, None}
 use Rattle.std.specs.Cmp.Lexicographic.{same_text}
 use Rattle.csn_desc.specs.declared.reading.Reading.{Reading}
 use Rattle.csn_desc.specs.declared.reading.Reading.TheVariants.{Received, Sent}
@@ -122,7 +121,9 @@ module _ (rules : RulesV) (r : Reading) where
   in_sides h s e x y Sent is p left right = void_sent is (right (ap (λ z. is_void z h y) is ∙ p))
 
   module _ (h : List ℕ → Bool) (names : Names h) where
-    by_name : (s e : ℕ) (n : List ℕ) → (same_name n (codes "no string") ≡ true) ⊎ (h n ≡ true) → Void rules r (expr s e (name n))
+    by_name :
+        (s e : ℕ) (n : List ℕ)
+        → (same_name n (codes "no string") ≡ true) ⊎ (h n ≡ true) → Void rules r (expr s e (name n))
     by_name s e n (inl p) = void_none (same_text n (codes "no string") (sym p))
     by_name s e n (inr p) = let found = names n p in void_name found.0 found.1 found.2
 
@@ -165,7 +166,8 @@ module _ (rules : RulesV) (r : Reading) where
   names_found (suc k) n p = in_rule (rule_of rules n) refl p (names_found k)
     where
       in_rule :
-          (o : Option Rule) → rule_of rules n ≡ o → rule_test rules (is_void r) o (voids k) ≡ true → Names (voids k)
+          (o : Option Rule)
+          → rule_of rules n ≡ o → rule_test rules (is_void r) o (voids k) ≡ true → Names (voids k)
           → (rule : Rule) × (rule_of rules n ≡ Some rule) × Void rules r rule.body
       in_rule None at p names = cc
       in_rule (Some rule) at p names = (rule, at, void_found (voids k) names rule.body p)
@@ -195,13 +197,19 @@ module _ (rules : RulesV) (r : Reading) where
           let same : record { width = b; part = x } ≡ w = cc in ap (λ z. is_void r h z.part) same ∙ p
       by_width None None q t = cc
 
-  no_string_found : (n : List ℕ) → n ≡ codes "no string" → (b : Bool) → (same_name n (codes "no string") || b) ≡ true
+  no_string_found :
+      (n : List ℕ)
+      → n ≡ codes "no string" → (b : Bool) → (same_name n (codes "no string") || b) ≡ true
   no_string_found n is b = ap (λ z. same_name z (codes "no string") || b) is
 
-  found_left : (h : List ℕ → Bool) (x y : ExprV) → r ≡ Received → is_void r h x ≡ true → form_void r h (sends x y) ≡ true
+  found_left :
+      (h : List ℕ → Bool) (x y : ExprV)
+      → r ≡ Received → is_void r h x ≡ true → form_void r h (sends x y) ≡ true
   found_left h x y is p = ap (λ z. form_void z h (sends x y)) is ∙ (sym (ap (λ z. is_void z h x) is) ∙ p)
 
-  found_right : (h : List ℕ → Bool) (x y : ExprV) → r ≡ Sent → is_void r h y ≡ true → form_void r h (sends x y) ≡ true
+  found_right :
+      (h : List ℕ → Bool) (x y : ExprV)
+      → r ≡ Sent → is_void r h y ≡ true → form_void r h (sends x y) ≡ true
   found_right h x y is p = ap (λ z. form_void z h (sends x y)) is ∙ (sym (ap (λ z. is_void z h y) is) ∙ p)
 
   mutual
@@ -221,13 +229,17 @@ module _ (rules : RulesV) (r : Reading) where
     void_is_found (void_sent {x = x} {y = y} is v) =
         let at = void_is_found v in (at.0, λ m few. found_right (voids m) x y is (at.1 m few))
 
-    some_is_found : {xs : ExprsV} → SomeVoid rules r xs → (k : ℕ) × ((m : ℕ) → k ≤ m → some_void r (voids m) xs ≡ true)
+    some_is_found :
+        {xs : ExprsV}
+        → SomeVoid rules r xs → (k : ℕ) × ((m : ℕ) → k ≤ m → some_void r (voids m) xs ≡ true)
     some_is_found (void_here {x = x} {xs = xs} v) =
         let at = void_is_found v in (at.0, λ m few. or_left (is_void r (voids m) x) (some_void r (voids m) xs) (at.1 m few))
     some_is_found (void_later {x = x} {xs = xs} v) =
         let at = some_is_found v in (at.0, λ m few. or_right (is_void r (voids m) x) (some_void r (voids m) xs) (at.1 m few))
 
-    all_is_found : {bs : BranchesV} → AllVoid rules r bs → (k : ℕ) × ((m : ℕ) → k ≤ m → all_void r (voids m) bs ≡ true)
+    all_is_found :
+        {bs : BranchesV}
+        → AllVoid rules r bs → (k : ℕ) × ((m : ℕ) → k ≤ m → all_void r (voids m) bs ≡ true)
     all_is_found all_end = (0, λ m few. refl)
     all_is_found (all_next {x = x} {bs = bs} v others) =
         let at = void_is_found v in let later = all_is_found others in
@@ -244,7 +256,9 @@ module _ (rules : RulesV) (r : Reading) where
   some_void_decided no_item = inr (λ v. elim v [ ])
   some_void_decided (item x xs) = first (void_decided x) (some_void_decided xs)
     where
-      first : Void rules r x ⊎ (¬ Void rules r x) → SomeVoid rules r xs ⊎ (¬ SomeVoid rules r xs) → SomeVoid rules r (item x xs) ⊎ (¬ SomeVoid rules r (item x xs))
+      first :
+          Void rules r x ⊎ (¬ Void rules r x) → SomeVoid rules r xs ⊎ (¬ SomeVoid rules r xs)
+          → SomeVoid rules r (item x xs) ⊎ (¬ SomeVoid rules r (item x xs))
       first (inl v) later = inl (void_here v)
       first (inr full) (inl v) = inl (void_later v)
       first (inr full) (inr none) = inr (λ v. neither v)

@@ -1,6 +1,7 @@
 -- The walk through an expression has one list of steps, and a named rule one list of refusals.
-use Rattle.std.proofs.Common.{◌≡◌, ℕ, Bool, true, false, List, [], sym, ◌∙◌, subst, arith, Option, Some, None}
+use Rattle.std.proofs.Common.{◌≡◌, ℕ, Bool, true, false, List, [], ◌∷◌, sym, ◌∙◌, ap, subst, arith, Option, Some, None}
 use Rattle.csn_desc.specs.declared.reading.Reading.{Reading}
+use Rattle.csn_desc.specs.Nodes.{DescV}
 use Rattle.csn_grammar.specs.declared.exponent.Exponent.{Exponent}
 use Rattle.csn_grammar.specs.declared.rules.Rule.{Rule}
 use Rattle.csn_grammar.specs.ExprV.{ExprV, ExprsV, BranchesV}
@@ -10,9 +11,10 @@ use Rattle.csn_grammar.specs.TailForm.{TailV}
 use Rattle.csn_grammar.proofs.VoidFacts.{no_rule, same_rule}
 use Rattle.csn_resolve.specs.Seen.{Frame, Seen, seen_of}
 use Rattle.csn_resolve.specs.Steps.{Step}
+use Rattle.csn_resolve.specs.declared.why.Why.{Why}
 use Rattle.csn_resolve.specs.Why.{Refusal}
 use Rattle.csn_resolve.specs.Overfull.{IsFirstOverfull}
-use Rattle.csn_resolve.specs.Resolved.{ResolveSteps, asked_unknown, asked_rule, nodes_of, FullRefusals, not_overfull, overfull, AreRefusals}
+use Rattle.csn_resolve.specs.Resolved.{ResolveSteps, asked_unknown, asked_rule, nodes_of, AreRefusals, IsRefused, refused_on_walk, refused_at_last, IsResolved}
 use Rattle.csn_resolve.specs.Counts.{Narrow, CountSteps, count_number, count_unknown, count_wide, count_narrow}
 use Rattle.csn_resolve.specs.Gives.{Placed, start_of}
 use Rattle.csn_resolve.specs.Walk.{Around, inside, in_turn, putting_in, outermost, PartLeft, BranchLeft, TurnLeft, left_void, left_full, left_plain, left_error, left_sendable, left_void_turn, left_full_turn, Walk, ItemsWalk, ComponentsWalk, BranchesWalk, RuleWalk, walk_lits, walk_null, walk_bit, walk_octet, walk_field, walk_rest, walk_built_in, walk_undefined, walk_recursive, walk_name, walk_group, walk_labelled, walk_seq, walk_choice, walk_times, walk_many, walk_cut, walk_window, walk_window_behind, walk_no_window, walk_sends, items_end, items_next, components_end, components_next, branches_end, branches_next, rule_plain, rule_tail}
@@ -34,6 +36,20 @@ same_seen :
     (seen : Seen ExprV) (label : List ℕ) {x y : ExprV}
     → seen_of seen label ≡ Some x → seen_of seen label ≡ Some y → x ≡ y
 same_seen seen label p q = cc
+
+no_first : {first : Refusal} {others : List Refusal} → first ∷ others ≡ [] → ⊥
+no_first p = cc
+
+same_head :
+    {first second : Refusal} {others more : List Refusal}
+    → first ∷ others ≡ second ∷ more → first ≡ second
+same_head p = cc
+
+same_first :
+    {why other_why : Why} {place other_place : ℕ} {others more : List Refusal}
+    → record { why = why; place = place } ∷ others ≡ record { why = other_why; place = other_place } ∷ more
+    → (why ≡ other_why) × (place ≡ other_place)
+same_first p = let same = same_head p in (ap (λ z. z.why) same, ap (λ z. z.place) same)
 
 module _ (rules : RulesV) (r : Reading) where
   count_once :
@@ -206,20 +222,32 @@ module _ (rules : RulesV) (r : Reading) where
       let along : IsFirstOverfull (nodes_of nodes) j = subst Q (sym same) g in
       omega (arith, h.first j along.overfull, along.first i h.overfull)
 
-  full_once :
-      {n : List ℕ} {refusals others : List Refusal}
-      → FullRefusals rules n r refusals → FullRefusals rules n r others → refusals ≡ others
-  full_once (not_overfull none p) (not_overfull none' q) = p ∙ sym q
-  full_once (not_overfull none p) (overfull nodes i field given first at q) = absurd (none nodes i given first)
-  full_once (overfull nodes i field given first at p) (not_overfull none q) = absurd (none nodes i given first)
-  full_once (overfull nodes i field given first at p) (overfull others j field' given' first' at' q) =
-      let same : nodes ≡ others = name_once rules r given given' in
-      let one : i ≡ j = first_once same first first' in
-      cc
-
   pub refusals_once :
       {n : List ℕ} {refusals others : List Refusal}
       → AreRefusals rules n r refusals → AreRefusals rules n r others → refusals ≡ others
   refusals_once h g =
-      let steps = steps_once h.walked g.walked in let full = full_once h.counted g.counted in
-      let p = h.are in let q = g.are in cc
+      let steps = steps_once h.walked g.walked in let p = h.are in let q = g.are in cc
+
+  pub refused_once :
+      {n : List ℕ} {why other_why : Why} {place other_place : ℕ}
+      → IsRefused rules n r why place → IsRefused rules n r other_why other_place
+      → (why ≡ other_why) × (place ≡ other_place)
+  refused_once (refused_on_walk others h) (refused_on_walk gothers g) = same_first (refusals_once h g)
+  refused_once (refused_on_walk others h) (refused_at_last nodes i field accepted given first at p q) =
+      absurd (no_first (refusals_once h accepted))
+  refused_once (refused_at_last nodes i field accepted given first at p q) (refused_on_walk others h) =
+      absurd (no_first (refusals_once h accepted))
+  refused_once (refused_at_last nodes i field accepted given first at p q)
+      (refused_at_last others j field' accepted' given' first' at' p' q') =
+      let same : nodes ≡ others = name_once rules r given given' in
+      let one : i ≡ j = first_once same first first' in
+      (cc, cc)
+
+  pub not_both :
+      {n : List ℕ} {why : Why} {place : ℕ} {d : DescV}
+      → IsRefused rules n r why place → IsResolved rules n r d → ⊥
+  not_both (refused_on_walk others h) g = no_first (refusals_once h g.accepted)
+  not_both (refused_at_last nodes i field accepted given first at p q) g =
+      let P : List Placed → Type 0 = λ z. IsFirstOverfull (nodes_of z) i in
+      let moved = subst P (name_once rules r given g.given) first in
+      g.not_overfull i moved.overfull

@@ -31,18 +31,28 @@ module _ (rules : RulesV) (r : Reading) where
       → Walk rules r a x steps → Walk rules r a x others → steps ≡ others
 
   abbrev pub ResolvedOnce : Type 0
-  ResolvedOnce = (n : List ℕ) (d other : DescV) → IsResolved rules n r d → IsResolved rules n r other → d ≡ other
+  ResolvedOnce =
+      (n : List ℕ) (d other : DescV) → IsResolved rules n r d → IsResolved rules n r other → d ≡ other
 
-  abbrev pub RefusedOnce : Type 0
-  RefusedOnce =
+  abbrev pub RefusalsAreOneList : Type 0
+  RefusalsAreOneList =
       (n : List ℕ) (refusals others : List Refusal)
       → AreRefusals rules n r refusals → AreRefusals rules n r others → refusals ≡ others
 
+  abbrev pub RefusalsEnd : Type 0
+  RefusalsEnd = (n : List ℕ) → (refusals : List Refusal) × AreRefusals rules n r refusals
+
+  abbrev pub RefusedOnce : Type 0
+  RefusedOnce =
+      (n : List ℕ) (why other_why : Why) (place other_place : ℕ)
+      → IsRefused rules n r why place → IsRefused rules n r other_why other_place
+      → (why ≡ other_why) × (place ≡ other_place)
+
   abbrev pub RefusedOrResolved : Type 0
   RefusedOrResolved =
-      (n : List ℕ) (why : Why) (place : ℕ) (d : DescV) → IsRefused rules n r why place → ¬ IsResolved rules n r d
+      (n : List ℕ) (why : Why) (place : ℕ) (d : DescV)
+      → IsRefused rules n r why place → ¬ IsResolved rules n r d
 
-  -- what is empty of strings, in both readings, and what a count may stand on, is decided for every expression
   abbrev pub EmptinessIsDecided : Type 0
   EmptinessIsDecided = (x : ExprV) → Void rules r x ⊎ (¬ Void rules r x)
 

@@ -21,8 +21,8 @@ module _ (nodes : List Node) where
     sees_none : {i : ℕ} {seen : List ℕ} → i ≡ 0 → seen ≡ [] → Sees i seen
     sees_parts :
         {i above : ℕ} {seen round : List ℕ} (n : Node)
-        → slice_get nodes above ≡ Some n → Sees above round → PartSees (shows_earlier n) round (parts_of n) i seen
-        → Sees i seen
+        → slice_get nodes above ≡ Some n → Sees above round
+        → PartSees (shows_earlier n) round (parts_of n) i seen → Sees i seen
 
   -- some count stands on the labelled field with node i, and on 64 of those that it sees
   pub record IsOverfull (i : ℕ) : Type 0 where

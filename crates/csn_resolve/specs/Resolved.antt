@@ -13,7 +13,7 @@ use Rattle.csn_resolve.specs.Why.{Refusal}
 use Rattle.csn_resolve.specs.Gives.{Placed, RuleGives}
 use Rattle.csn_resolve.specs.Steps.{Step, refused, refused_if, refusals_after}
 use Rattle.csn_resolve.specs.Walk.{is_among, outermost, PartLeft, RuleWalk}
-use Rattle.csn_resolve.specs.Overfull.{IsFirstOverfull}
+use Rattle.csn_resolve.specs.Overfull.{IsOverfull, IsFirstOverfull}
 
 -- each rule that has one of the names `taken`, or that of an earlier rule
 abbrev pub twice_steps : List (List ℕ) → RulesV → List Step
@@ -42,34 +42,28 @@ pub record NameGives (rules : RulesV) (n : List ℕ) (r : Reading) (nodes : List
 abbrev pub nodes_of : List Placed → List Node
 nodes_of nodes = map (λ p. p.node) nodes
 
--- what is refused of the nodes, at last: the first field that is counted on and has 64 such fields before it
-pub data FullRefusals (rules : RulesV) (n : List ℕ) (r : Reading) : List Refusal → Type 0 where
-  not_overfull :
-      {refusals : List Refusal}
-      → ((nodes : List Placed) (i : ℕ) → NameGives rules n r nodes → ¬ IsFirstOverfull (nodes_of nodes) i)
-      → refusals ≡ [] → FullRefusals rules n r refusals
-  overfull :
-      {refusals : List Refusal} (nodes : List Placed) (i : ℕ) (field : Placed)
-      → NameGives rules n r nodes → IsFirstOverfull (nodes_of nodes) i → slice_get nodes i ≡ Some field
-      → refusals ≡ record { why = TooManyVals; place = field.place } ∷ []
-      → FullRefusals rules n r refusals
-
--- all refusals of a named rule, in their order
+-- the refusals of a named rule up to the end of the walk, in their order
 pub record AreRefusals (rules : RulesV) (n : List ℕ) (r : Reading) (refusals : List Refusal) : Type 0 where
   pub steps : List Step
-  pub full : List Refusal
   pub walked : ResolveSteps rules n r steps
-  pub counted : FullRefusals rules n r full
-  pub are : refusals ≡ refusals_after 0 steps ++ full
+  pub are : refusals ≡ refusals_after 0 steps
 
--- the named rule is refused, for this reason at this place: that of the first refusal
-abbrev pub IsRefused : RulesV → List ℕ → Reading → Why → ℕ → Type 0
-IsRefused rules n r why place =
-    (others : List Refusal) × AreRefusals rules n r (record { why = why; place = place } ∷ others)
+-- the named rule is refused, for this reason at this place: that of the first refusal. Last, where nothing
+-- else is refused, stands the first field that is counted on and has 64 such fields before it
+pub data IsRefused (rules : RulesV) (n : List ℕ) (r : Reading) (why : Why) (place : ℕ) : Type 0 where
+  refused_on_walk :
+      (others : List Refusal)
+      → AreRefusals rules n r (record { why = why; place = place } ∷ others) → IsRefused rules n r why place
+  refused_at_last :
+      (nodes : List Placed) (i : ℕ) (field : Placed)
+      → AreRefusals rules n r [] → NameGives rules n r nodes → IsFirstOverfull (nodes_of nodes) i
+      → slice_get nodes i ≡ Some field → why ≡ TooManyVals → place ≡ field.place
+      → IsRefused rules n r why place
 
 -- the description of a named rule that is not refused
 pub record IsResolved (rules : RulesV) (n : List ℕ) (r : Reading) (d : DescV) : Type 0 where
   pub accepted : AreRefusals rules n r []
   pub nodes : List Placed
   pub given : NameGives rules n r nodes
+  pub not_overfull : (i : ℕ) → ¬ IsOverfull (nodes_of nodes) i
   pub is : d ≡ record { reading = r; nodes = nodes_of nodes }

@@ -215,6 +215,5 @@ module _ (rules : RulesV) (r : Reading) where
           {a : Around} {rule : Rule} {steps items turn left : List Step} (tail : TailV)
           → tail_of rule ≡ Some tail → ItemsWalk (inside a) [] tail.items items
           → ItemsWalk (in_turn (inside a)) [] tail.items turn → TurnLeft tail left
-          → steps ≡ node_at a (start_of rule.body)
-          ++ (items ++ (turn_begun (inside a) tail.end ++ (turn ++ (left ++ node_at (inside a) tail.end.stop.at))))
+          → steps ≡ node_at a (start_of rule.body) ++ (items ++ (turn_begun (inside a) tail.end ++ (turn ++ (left ++ node_at (inside a) tail.end.stop.at))))
           → RuleWalk a rule steps

@@ -1,6 +1,6 @@
 //! Laws over the definitions, each the contract of a function that does nothing.
 
-ghost use Rattle.csn_resolve.specs.Laws.{NodesAreGivenOnce, VoidGivesNothing, StepsAreWalkedOnce, ResolvedOnce, RefusedOnce, RefusedOrResolved, EmptinessIsDecided, WidthsAreDecided, WalksEnd};
+ghost use Rattle.csn_resolve.specs.Laws.{NodesAreGivenOnce, VoidGivesNothing, StepsAreWalkedOnce, ResolvedOnce, RefusalsAreOneList, RefusedOnce, RefusedOrResolved, EmptinessIsDecided, WidthsAreDecided, WalksEnd, RefusalsEnd};
 
 use csn_desc::Reading;
 use csn_grammar::Rules;
@@ -20,15 +20,16 @@ pub fn void_gives_nothing(rules: &Rules, reading: Reading)
 /// refused in one way, and not where it has a description.
 pub fn refusals_are_one(rules: &Rules, reading: Reading)
     ensures walk { StepsAreWalkedOnce rules.now reading }
-    ensures name { RefusedOnce rules.now reading }
+    ensures list { RefusalsAreOneList rules.now reading }
+    ensures first { RefusedOnce rules.now reading }
     ensures or_resolved { RefusedOrResolved rules.now reading }
 {}
 
-/// Every expression has a walk: names that are being put in are not entered, so it ends, and what is
-/// empty of strings and which widths are constant is decided.
+/// Every expression has a walk, and every name a list of refusals: names that are being put in are not
+/// entered, and what is empty of strings and which widths are constant is decided.
 pub fn walks_end(rules: &Rules, reading: Reading)
     ensures empty { EmptinessIsDecided rules.now reading }
     ensures widths { WidthsAreDecided rules.now reading }
-    ensures ends { WalksEnd rules.now reading }
-{
-}
+    ensures walk { WalksEnd rules.now reading }
+    ensures list { RefusalsEnd rules.now reading }
+{}
