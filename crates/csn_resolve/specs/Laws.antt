@@ -14,50 +14,63 @@ use Rattle.csn_resolve.specs.Counts.{Narrow}
 use Rattle.csn_resolve.specs.Walk.{Around, Walk}
 use Rattle.csn_resolve.specs.Resolved.{AreRefusals, IsRefused, IsResolved}
 
-module _ (rules : RulesV) (r : Reading) where
-  abbrev pub NodesAreGivenOnce : Type 0
-  NodesAreGivenOnce =
-      (x : ExprV) (at : ℕ) (seen : Seen ℕ) (nodes others : List Placed)
-      → Gives rules r x at seen nodes → Gives rules r x at seen others → nodes ≡ others
+-- an expression gives one list of nodes
+abbrev pub NodesAreGivenOnce : Type 0
+NodesAreGivenOnce =
+    (rules : RulesV) (r : Reading) (x : ExprV) (at : ℕ) (seen : Seen ℕ) (nodes others : List Placed)
+    → Gives rules r x at seen nodes → Gives rules r x at seen others → nodes ≡ others
 
-  abbrev pub VoidGivesNothing : Type 0
-  VoidGivesNothing =
-      (x : ExprV) (at : ℕ) (seen : Seen ℕ) (nodes : List Placed)
-      → Void rules r x → ¬ Gives rules r x at seen nodes
+-- what is empty of strings gives no nodes
+abbrev pub VoidGivesNothing : Type 0
+VoidGivesNothing =
+    (rules : RulesV) (r : Reading) (x : ExprV) (at : ℕ) (seen : Seen ℕ) (nodes : List Placed)
+    → Void rules r x → ¬ Gives rules r x at seen nodes
 
-  abbrev pub StepsAreWalkedOnce : Type 0
-  StepsAreWalkedOnce =
-      (a : Around) (x : ExprV) (steps others : List Step)
-      → Walk rules r a x steps → Walk rules r a x others → steps ≡ others
+-- the walk through an expression has one list of steps
+abbrev pub StepsAreWalkedOnce : Type 0
+StepsAreWalkedOnce =
+    (rules : RulesV) (r : Reading) (a : Around) (x : ExprV) (steps others : List Step)
+    → Walk rules r a x steps → Walk rules r a x others → steps ≡ others
 
-  abbrev pub ResolvedOnce : Type 0
-  ResolvedOnce =
-      (n : List ℕ) (d other : DescV) → IsResolved rules n r d → IsResolved rules n r other → d ≡ other
+-- a named rule has one description
+abbrev pub ResolvedOnce : Type 0
+ResolvedOnce =
+    (rules : RulesV) (r : Reading) (n : List ℕ) (d other : DescV)
+    → IsResolved rules n r d → IsResolved rules n r other → d ≡ other
 
-  abbrev pub RefusalsAreOneList : Type 0
-  RefusalsAreOneList =
-      (n : List ℕ) (refusals others : List Refusal)
-      → AreRefusals rules n r refusals → AreRefusals rules n r others → refusals ≡ others
+-- the refusals of a named rule are one list
+abbrev pub RefusalsAreOneList : Type 0
+RefusalsAreOneList =
+    (rules : RulesV) (r : Reading) (n : List ℕ) (refusals others : List Refusal)
+    → AreRefusals rules n r refusals → AreRefusals rules n r others → refusals ≡ others
 
-  abbrev pub RefusalsEnd : Type 0
-  RefusalsEnd = (n : List ℕ) → (refusals : List Refusal) × AreRefusals rules n r refusals
+-- a named rule is refused for one reason, at one place
+abbrev pub RefusedOnce : Type 0
+RefusedOnce =
+    (rules : RulesV) (r : Reading) (n : List ℕ) (why other_why : Why) (place other_place : ℕ)
+    → IsRefused rules n r why place → IsRefused rules n r other_why other_place
+    → (why ≡ other_why) × (place ≡ other_place)
 
-  abbrev pub RefusedOnce : Type 0
-  RefusedOnce =
-      (n : List ℕ) (why other_why : Why) (place other_place : ℕ)
-      → IsRefused rules n r why place → IsRefused rules n r other_why other_place
-      → (why ≡ other_why) × (place ≡ other_place)
+-- a named rule that is refused has no description
+abbrev pub RefusedOrResolved : Type 0
+RefusedOrResolved =
+    (rules : RulesV) (r : Reading) (n : List ℕ) (why : Why) (place : ℕ) (d : DescV)
+    → IsRefused rules n r why place → ¬ IsResolved rules n r d
 
-  abbrev pub RefusedOrResolved : Type 0
-  RefusedOrResolved =
-      (n : List ℕ) (why : Why) (place : ℕ) (d : DescV)
-      → IsRefused rules n r why place → ¬ IsResolved rules n r d
+-- an expression is empty of strings or is not
+abbrev pub EmptinessIsDecided : Type 0
+EmptinessIsDecided = (rules : RulesV) (r : Reading) (x : ExprV) → Void rules r x ⊎ (¬ Void rules r x)
 
-  abbrev pub EmptinessIsDecided : Type 0
-  EmptinessIsDecided = (x : ExprV) → Void rules r x ⊎ (¬ Void rules r x)
+-- an expression is a field of constant width, of 1 to 16 bits, or is not
+abbrev pub WidthsAreDecided : Type 0
+WidthsAreDecided = (rules : RulesV) (r : Reading) (x : ExprV) → Narrow rules r x ⊎ (¬ Narrow rules r x)
 
-  abbrev pub WidthsAreDecided : Type 0
-  WidthsAreDecided = (x : ExprV) → Narrow rules r x ⊎ (¬ Narrow rules r x)
+-- every expression has a walk
+abbrev pub WalksEnd : Type 0
+WalksEnd =
+    (rules : RulesV) (r : Reading) (a : Around) (x : ExprV) → (steps : List Step) × Walk rules r a x steps
 
-  abbrev pub WalksEnd : Type 0
-  WalksEnd = (a : Around) (x : ExprV) → (steps : List Step) × Walk rules r a x steps
+-- every name has a list of refusals, which may be empty
+abbrev pub RefusalsEnd : Type 0
+RefusalsEnd =
+    (rules : RulesV) (r : Reading) (n : List ℕ) → (refusals : List Refusal) × AreRefusals rules n r refusals
