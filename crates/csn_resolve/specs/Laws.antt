@@ -1,5 +1,5 @@
 -- Laws over the definitions.
-use Rattle.std.specs.Prelude.{◌≡◌, ℕ, ◌⊎◌, List}
+use Rattle.std.specs.Prelude.{◌≡◌, ℕ, ◌⊎◌, List, []}
 use Rattle.csn_desc.specs.declared.reading.Reading.{Reading}
 use Rattle.csn_desc.specs.Nodes.{DescV}
 use Rattle.csn_grammar.specs.ExprV.{ExprV}
@@ -12,7 +12,7 @@ use Rattle.csn_resolve.specs.Gives.{Placed, Gives}
 use Rattle.csn_resolve.specs.Steps.{Step}
 use Rattle.csn_resolve.specs.Counts.{Narrow}
 use Rattle.csn_resolve.specs.Walk.{Around, Walk}
-use Rattle.csn_resolve.specs.Resolved.{AreRefusals, IsRefused, IsResolved}
+use Rattle.csn_resolve.specs.Resolved.{NameGives, AreRefusals, IsRefused, IsResolved}
 
 -- an expression gives one list of nodes
 abbrev pub NodesAreGivenOnce : Type 0
@@ -74,3 +74,9 @@ WalksEnd =
 abbrev pub RefusalsEnd : Type 0
 RefusalsEnd =
     (rules : RulesV) (r : Reading) (n : List ℕ) → (refusals : List Refusal) × AreRefusals rules n r refusals
+
+-- where nothing is refused on the walk, the named rule gives nodes
+abbrev pub NodesAreGiven : Type 0
+NodesAreGiven =
+    (rules : RulesV) (r : Reading) (n : List ℕ)
+    → AreRefusals rules n r [] → (nodes : List Placed) × NameGives rules n r nodes

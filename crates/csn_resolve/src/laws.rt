@@ -1,6 +1,6 @@
 //! Laws over the definitions, each the contract of a function that does nothing.
 
-ghost use Rattle.csn_resolve.specs.Laws.{NodesAreGivenOnce, VoidGivesNothing, StepsAreWalkedOnce, ResolvedOnce, RefusalsAreOneList, RefusedOnce, RefusedOrResolved, EmptinessIsDecided, WidthsAreDecided, WalksEnd, RefusalsEnd};
+ghost use Rattle.csn_resolve.specs.Laws.{NodesAreGivenOnce, VoidGivesNothing, StepsAreWalkedOnce, ResolvedOnce, RefusalsAreOneList, RefusedOnce, RefusedOrResolved, EmptinessIsDecided, WidthsAreDecided, WalksEnd, RefusalsEnd, NodesAreGiven};
 
 /// An expression gives one list of nodes, at one number; so a named rule has one description.
 pub fn descriptions_are_one()
@@ -29,4 +29,9 @@ pub fn walks_end()
     ensures widths { WidthsAreDecided }
     ensures walk { WalksEnd }
     ensures list { RefusalsEnd }
+{}
+
+/// A named rule that is not refused on the walk gives nodes.
+pub fn nodes_are_given()
+    ensures { NodesAreGiven }
 {}
