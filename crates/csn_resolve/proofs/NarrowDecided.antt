@@ -1,0 +1,152 @@
+-- Whether what stands behind a label is a field of constant width, of 1 to 16 bits, is decided.
+use Rattle.std.proofs.Common.{◌≡◌, ℕ, zero, suc, ◌*◌, ◌≤◌, Bool, true, false, nat_le, ◌&&◌, ◌||◌, List, ◌⊎◌, inl, inr, refl, sym, ◌∙◌, ap, Option, Some, None}
+use Rattle.std.proofs.lemmas.Bool.{leb-true, le-leb}
+use Rattle.csn_desc.specs.declared.reading.Reading.{Reading}
+use Rattle.csn_desc.specs.declared.reading.Reading.TheVariants.{Received, Sent}
+use Rattle.csn_grammar.specs.declared.exponent.Exponent.{Exponent}
+use Rattle.csn_grammar.specs.declared.exponent.Exponent.TheVariants.{Any, Number, Linear}
+use Rattle.csn_grammar.specs.declared.rules.Rule.{Rule}
+use Rattle.csn_grammar.specs.ExprV.{ExprV, expr, FormV, name, group, sends}
+use Rattle.csn_grammar.specs.RulesV.{RulesV}
+use Rattle.csn_grammar.specs.Names.{rule_of}
+use Rattle.csn_grammar.specs.Forms.{WidthV, width_of}
+use Rattle.csn_resolve.specs.Counts.{Narrow, narrow_field, narrow_name, narrow_group, narrow_received, narrow_sent}
+use Rattle.csn_resolve.proofs.Bools.{or_cases, or_wider, or_left, and_cases, both_true}
+use Rattle.csn_resolve.proofs.Levels.{rule_test, level, decided}
+
+abbrev few_bits : ℕ → Exponent → Bool
+few_bits unit (Number n) = nat_le 1 (unit * n) && nat_le (unit * n) 16
+few_bits unit _ = false
+
+-- a constant width of 1 to 16 bits
+abbrev narrow_width : Option WidthV → Bool
+narrow_width None = false
+narrow_width (Some w) = few_bits w.unit w.count
+
+-- is x narrow, where these names are?
+abbrev mutual
+  is_narrow : Reading → (List ℕ → Bool) → ExprV → Bool
+  is_narrow r h (expr s e f) = narrow_width (width_of (expr s e f)) || form_narrow r h f
+
+  form_narrow : Reading → (List ℕ → Bool) → FormV → Bool
+  form_narrow r h (name n) = h n
+  form_narrow r h (group x) = is_narrow r h x
+  form_narrow Received h (sends x y) = is_narrow Received h x
+  form_narrow Sent h (sends x y) = is_narrow Sent h y
+  form_narrow r h _ = false
+
+-- ---- with more names, no less is narrow
+
+module _ (h g : List ℕ → Bool) (wide : (n : List ℕ) → h n ≡ true → g n ≡ true) where
+  mutual
+    narrow_wider : (r : Reading) (x : ExprV) → is_narrow r h x ≡ true → is_narrow r g x ≡ true
+    narrow_wider r (expr s e f) p =
+        or_wider (narrow_width (width_of (expr s e f))) (form_narrow r h f) (narrow_width (width_of (expr s e f))) (form_narrow r g f)
+        (λ q. q) (λ q. form_wider r f q) p
+
+    form_wider : (r : Reading) (f : FormV) → form_narrow r h f ≡ true → form_narrow r g f ≡ true
+    form_wider r (name n) p = wide n p
+    form_wider r (group x) p = narrow_wider r x p
+    form_wider Received (sends x y) p = narrow_wider Received x p
+    form_wider Sent (sends x y) p = narrow_wider Sent y p
+    form_wider r f p = cc
+
+-- ---- what the test finds is narrow, and what is narrow is found
+
+number_width : (unit n : ℕ) → few_bits unit (Number n) ≡ true → (1 ≤ unit * n) × (unit * n ≤ 16)
+number_width unit n p =
+    let parts = and_cases (nat_le 1 (unit * n)) (nat_le (unit * n) 16) p in
+    (leb-true 1 (unit * n) parts.0, leb-true (unit * n) 16 parts.1)
+
+module _ (rules : RulesV) (r : Reading) where
+  abbrev narrows : ℕ → List ℕ → Bool
+  narrows k = level rules (is_narrow r) k
+
+  abbrev Names : (List ℕ → Bool) → Type 0
+  Names h = (n : List ℕ) → h n ≡ true → (rule : Rule) × (rule_of rules n ≡ Some rule) × Narrow rules r rule.body
+
+  by_width : (x : ExprV) (o : Option WidthV) → width_of x ≡ o → narrow_width o ≡ true → Narrow rules r x
+  by_width x None is p = cc
+  by_width x (Some w) is p = by_count w.count refl p
+    where
+      by_count : (k : Exponent) → w.count ≡ k → few_bits w.unit k ≡ true → Narrow rules r x
+      by_count Any at p = cc
+      by_count (Linear m label c) at p = cc
+      by_count (Number n) at p = let few = number_width w.unit n p in narrow_field w n is at few.0 few.1
+
+  in_sides :
+      (h : List ℕ → Bool) (s e : ℕ) (x y : ExprV) (q : Reading) → r ≡ q → form_narrow q h (sends x y) ≡ true
+      → (is_narrow r h x ≡ true → Narrow rules r x) → (is_narrow r h y ≡ true → Narrow rules r y)
+      → Narrow rules r (expr s e (sends x y))
+  in_sides h s e x y Received is p left right = narrow_received is (left (ap (λ z. is_narrow z h x) is ∙ p))
+  in_sides h s e x y Sent is p left right = narrow_sent is (right (ap (λ z. is_narrow z h y) is ∙ p))
+
+  module _ (h : List ℕ → Bool) (names : Names h) where
+    in_width :
+        (x : ExprV) (f : FormV) → (narrow_width (width_of x) ≡ true) ⊎ (form_narrow r h f ≡ true)
+        → (form_narrow r h f ≡ true → Narrow rules r x) → Narrow rules r x
+    in_width x f (inl p) inner = by_width x (width_of x) refl p
+    in_width x f (inr p) inner = inner p
+
+    mutual
+      narrow_found : (x : ExprV) → is_narrow r h x ≡ true → Narrow rules r x
+      narrow_found (expr s e f) p =
+          in_width (expr s e f) f (or_cases (narrow_width (width_of (expr s e f))) (form_narrow r h f) p)
+          (λ q. form_found s e f q)
+
+      form_found : (s e : ℕ) (f : FormV) → form_narrow r h f ≡ true → Narrow rules r (expr s e f)
+      form_found s e (name n) p = let found = names n p in narrow_name found.0 found.1 found.2
+      form_found s e (group x) p = narrow_group (narrow_found x p)
+      form_found s e (sends x y) p =
+          in_sides h s e x y r refl p (λ q. narrow_found x q) (λ q. narrow_found y q)
+      form_found s e f p = cc
+
+  names_found : (k : ℕ) → Names (narrows k)
+  names_found zero n p = cc
+  names_found (suc k) n p = in_rule (rule_of rules n) refl p (names_found k)
+    where
+      in_rule :
+          (o : Option Rule)
+          → rule_of rules n ≡ o → rule_test rules (is_narrow r) o (narrows k) ≡ true → Names (narrows k)
+          → (rule : Rule) × (rule_of rules n ≡ Some rule) × Narrow rules r rule.body
+      in_rule None at p names = cc
+      in_rule (Some rule) at p names = (rule, at, narrow_found (narrows k) names rule.body p)
+
+  found_name :
+      (n : List ℕ) (rule : Rule) → rule_of rules n ≡ Some rule → (k : ℕ)
+      → is_narrow r (narrows k) rule.body ≡ true → narrows (suc k) n ≡ true
+  found_name n rule at k found = ap (λ o. rule_test rules (is_narrow r) o (narrows k)) at ∙ found
+
+  found_width :
+      (x : ExprV) (w : WidthV) (n : ℕ)
+      → width_of x ≡ Some w → w.count ≡ Number n → 1 ≤ w.unit * n → w.unit * n ≤ 16
+      → narrow_width (width_of x) ≡ true
+  found_width x w n is at some few =
+      ap narrow_width is ∙ (ap (few_bits w.unit) at
+      ∙ both_true (nat_le 1 (w.unit * n)) (nat_le (w.unit * n) 16) (le-leb 1 (w.unit * n) some) (le-leb (w.unit * n) 16 few))
+
+  found_left :
+      (h : List ℕ → Bool) (x y : ExprV)
+      → r ≡ Received → is_narrow r h x ≡ true → form_narrow r h (sends x y) ≡ true
+  found_left h x y is p = ap (λ z. form_narrow z h (sends x y)) is ∙ (sym (ap (λ z. is_narrow z h x) is) ∙ p)
+
+  found_right :
+      (h : List ℕ → Bool) (x y : ExprV)
+      → r ≡ Sent → is_narrow r h y ≡ true → form_narrow r h (sends x y) ≡ true
+  found_right h x y is p = ap (λ z. form_narrow z h (sends x y)) is ∙ (sym (ap (λ z. is_narrow z h y) is) ∙ p)
+
+  narrow_is_found : {x : ExprV} → Narrow rules r x → (k : ℕ) × (is_narrow r (narrows k) x ≡ true)
+  narrow_is_found (narrow_field {x = expr s e f} w n is at some few) =
+      (0, or_left (narrow_width (width_of (expr s e f))) (form_narrow r (narrows 0) f) (found_width (expr s e f) w n is at some few))
+  narrow_is_found (narrow_name {n = n} rule is v) =
+      let at = narrow_is_found v in (suc at.0, found_name n rule is at.0 at.1)
+  narrow_is_found (narrow_group v) = let at = narrow_is_found v in (at.0, at.1)
+  narrow_is_found (narrow_received {x = x} {y = y} is v) =
+      let at = narrow_is_found v in (at.0, found_left (narrows at.0) x y is at.1)
+  narrow_is_found (narrow_sent {x = x} {y = y} is v) =
+      let at = narrow_is_found v in (at.0, found_right (narrows at.0) x y is at.1)
+
+  pub narrow_decided : (x : ExprV) → Narrow rules r x ⊎ (¬ Narrow rules r x)
+  narrow_decided =
+      decided rules (is_narrow r) (λ h g wide x p. narrow_wider h g wide r x p) (λ x. Narrow rules r x)
+      (λ k x p. narrow_found (narrows k) (names_found k) x p) (λ x v. narrow_is_found v)

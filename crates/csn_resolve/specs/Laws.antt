@@ -1,0 +1,82 @@
+-- Laws over the definitions.
+use Rattle.std.specs.Prelude.{◌≡◌, ℕ, ◌⊎◌, List, []}
+use Rattle.csn_desc.specs.declared.reading.Reading.{Reading}
+use Rattle.csn_desc.specs.Nodes.{DescV}
+use Rattle.csn_grammar.specs.ExprV.{ExprV}
+use Rattle.csn_grammar.specs.RulesV.{RulesV}
+use Rattle.csn_grammar.specs.Void.{Void}
+use Rattle.csn_resolve.specs.declared.why.Why.{Why}
+use Rattle.csn_resolve.specs.Why.{Refusal}
+use Rattle.csn_resolve.specs.Seen.{Seen}
+use Rattle.csn_resolve.specs.Gives.{Placed, Gives}
+use Rattle.csn_resolve.specs.Steps.{Step}
+use Rattle.csn_resolve.specs.Counts.{Narrow}
+use Rattle.csn_resolve.specs.Walk.{Around, Walk}
+use Rattle.csn_resolve.specs.Resolved.{NameGives, AreRefusals, IsRefused, IsResolved}
+
+-- an expression gives one list of nodes
+abbrev pub NodesAreGivenOnce : Type 0
+NodesAreGivenOnce =
+    (rules : RulesV) (r : Reading) (x : ExprV) (at : ℕ) (seen : Seen ℕ) (nodes others : List Placed)
+    → Gives rules r x at seen nodes → Gives rules r x at seen others → nodes ≡ others
+
+-- what is empty of strings gives no nodes
+abbrev pub VoidGivesNothing : Type 0
+VoidGivesNothing =
+    (rules : RulesV) (r : Reading) (x : ExprV) (at : ℕ) (seen : Seen ℕ) (nodes : List Placed)
+    → Void rules r x → ¬ Gives rules r x at seen nodes
+
+-- the walk through an expression has one list of steps
+abbrev pub StepsAreWalkedOnce : Type 0
+StepsAreWalkedOnce =
+    (rules : RulesV) (r : Reading) (a : Around) (x : ExprV) (steps others : List Step)
+    → Walk rules r a x steps → Walk rules r a x others → steps ≡ others
+
+-- a named rule has one description
+abbrev pub ResolvedOnce : Type 0
+ResolvedOnce =
+    (rules : RulesV) (r : Reading) (n : List ℕ) (d other : DescV)
+    → IsResolved rules n r d → IsResolved rules n r other → d ≡ other
+
+-- the refusals of a named rule are one list
+abbrev pub RefusalsAreOneList : Type 0
+RefusalsAreOneList =
+    (rules : RulesV) (r : Reading) (n : List ℕ) (refusals others : List Refusal)
+    → AreRefusals rules n r refusals → AreRefusals rules n r others → refusals ≡ others
+
+-- a named rule is refused for one reason, at one place
+abbrev pub RefusedOnce : Type 0
+RefusedOnce =
+    (rules : RulesV) (r : Reading) (n : List ℕ) (why other_why : Why) (place other_place : ℕ)
+    → IsRefused rules n r why place → IsRefused rules n r other_why other_place
+    → (why ≡ other_why) × (place ≡ other_place)
+
+-- a named rule that is refused has no description
+abbrev pub RefusedOrResolved : Type 0
+RefusedOrResolved =
+    (rules : RulesV) (r : Reading) (n : List ℕ) (why : Why) (place : ℕ) (d : DescV)
+    → IsRefused rules n r why place → ¬ IsResolved rules n r d
+
+-- an expression is empty of strings or is not
+abbrev pub EmptinessIsDecided : Type 0
+EmptinessIsDecided = (rules : RulesV) (r : Reading) (x : ExprV) → Void rules r x ⊎ (¬ Void rules r x)
+
+-- an expression is a field of constant width, of 1 to 16 bits, or is not
+abbrev pub WidthsAreDecided : Type 0
+WidthsAreDecided = (rules : RulesV) (r : Reading) (x : ExprV) → Narrow rules r x ⊎ (¬ Narrow rules r x)
+
+-- every expression has a walk
+abbrev pub WalksEnd : Type 0
+WalksEnd =
+    (rules : RulesV) (r : Reading) (a : Around) (x : ExprV) → (steps : List Step) × Walk rules r a x steps
+
+-- every name has a list of refusals, which may be empty
+abbrev pub RefusalsEnd : Type 0
+RefusalsEnd =
+    (rules : RulesV) (r : Reading) (n : List ℕ) → (refusals : List Refusal) × AreRefusals rules n r refusals
+
+-- where nothing is refused on the walk, the named rule gives nodes
+abbrev pub NodesAreGiven : Type 0
+NodesAreGiven =
+    (rules : RulesV) (r : Reading) (n : List ℕ)
+    → AreRefusals rules n r [] → (nodes : List Placed) × NameGives rules n r nodes

@@ -1,0 +1,10 @@
+pub mod Why
+pub mod Seen
+pub mod Gives
+pub mod Counts
+pub mod Steps
+pub mod Walk
+pub mod Overfull
+pub mod Resolved
+pub mod Laws
+pub mod Examples

@@ -1,0 +1,37 @@
+//! Laws over the definitions, each the contract of a function that does nothing.
+
+ghost use Rattle.csn_resolve.specs.Laws.{NodesAreGivenOnce, VoidGivesNothing, StepsAreWalkedOnce, ResolvedOnce, RefusalsAreOneList, RefusedOnce, RefusedOrResolved, EmptinessIsDecided, WidthsAreDecided, WalksEnd, RefusalsEnd, NodesAreGiven};
+
+/// An expression gives one list of nodes, at one number; so a named rule has one description.
+pub fn descriptions_are_one()
+    ensures expression { NodesAreGivenOnce }
+    ensures name { ResolvedOnce }
+{}
+
+/// An expression that is empty of strings gives no nodes.
+pub fn void_gives_nothing()
+    ensures { VoidGivesNothing }
+{}
+
+/// The walk through an expression has one list of steps, and a named rule one list of refusals; so it is
+/// refused in one way, and not where it has a description.
+pub fn refusals_are_one()
+    ensures walk { StepsAreWalkedOnce }
+    ensures list { RefusalsAreOneList }
+    ensures first { RefusedOnce }
+    ensures or_resolved { RefusedOrResolved }
+{}
+
+/// Every expression has a walk, and every name a list of refusals: names that are being put in are not
+/// entered, and what is empty of strings and which widths are constant is decided.
+pub fn walks_end()
+    ensures empty { EmptinessIsDecided }
+    ensures widths { WidthsAreDecided }
+    ensures walk { WalksEnd }
+    ensures list { RefusalsEnd }
+{}
+
+/// A named rule that is not refused on the walk gives nodes.
+pub fn nodes_are_given()
+    ensures { NodesAreGiven }
+{}
