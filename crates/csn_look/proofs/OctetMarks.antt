@@ -1,8 +1,7 @@
 -- What the calls of a set of octet positions do to its marks.
-use Rattle.std.proofs.Common.{◌≡◌, ◌≢◌, ℕ, zero, suc, ◌+◌, ◌*◌, ◌/◌, ◌%◌, ◌^◌, ◌<◌, ◌≤◌, Bool, true, false, ◌&&◌, ◌||◌, nat_eq, nat_le, refl, sym, ap, ◌∙◌, arith, inl, inr}
-use Rattle.std.specs.Prelude.{max, bit_or, ◌==◌}
+use Rattle.std.proofs.Common.{◌≡◌, ℕ, zero, suc, ◌*◌, ◌/◌, ◌%◌, ◌^◌, ◌≤◌, true, ◌&&◌, ◌||◌, nat_eq, nat_le, refl, sym, ap, ◌∙◌, arith, inl, inr}
+use Rattle.std.specs.Prelude.{bit_or, ◌==◌}
 use Rattle.std.specs.Int.{bit_at}
-use Rattle.std.specs.Ordering.{nat_cmp}
 use Rattle.std.specs.Cmp.{nat_cmp_total, unsigned_tied}
 use Rattle.std.specs.FinSet as set
 use Rattle.std.proofs.lemmas.Bool.{le-leb}
@@ -41,8 +40,8 @@ pub marked-or : (marks o : ℕ) → o ≤ 7 → marked (bit_or marks (1 * 2 ^ o 
 marked-or marks o small =
     set.same_set nat_cmp_total set.nat_cmp-IsAntisymmetric _ _
     (λ q. ap (λ m. set.contains (marked (bit_or marks m)) q) (power o small)
-      ∙ contains-marked (bit_or marks (2 ^ o)) q ∙ more marks o q small
-      ∙ sym (set.contains-insert nat_cmp_total (marked marks) o q ∙ (λ i. unsigned_tied q o i || contains-marked marks q i)))
+    ∙ contains-marked (bit_or marks (2 ^ o)) q ∙ more marks o q small
+    ∙ sym (set.contains-insert nat_cmp_total (marked marks) o q ∙ (λ i. unsigned_tied q o i || contains-marked marks q i)))
 
 pub empty_marked : marked 0 ≡ set.empty
 empty_marked = refl

@@ -1,13 +1,12 @@
 -- Small descriptions and what look-ahead knows of them.
-use Rattle.std.specs.Prelude.{◌≡◌, ℕ, List, [], ◌∷◌, Bool, true, false, refl, Some}
+use Rattle.std.specs.Prelude.{[], ◌∷◌, true, refl}
 use Rattle.std.proofs.Common.{lit≤}
 use Rattle.csn_desc.specs.declared.reading.Reading.TheVariants.{Received}
 use Rattle.csn_desc.specs.declared.symbol.Symbol.TheVariants.{Zero, Low}
 use Rattle.csn_desc.specs.declared.node.Count.TheVariants.{Fixed}
-use Rattle.csn_desc.specs.declared.node.Node.{Node}
-use Rattle.csn_desc.specs.declared.node.Node.TheVariants.{Lits, Field, Many, Seq, Named}
+use Rattle.csn_desc.specs.declared.node.Node.TheVariants.{Lits, Field, Many, Named}
 use Rattle.csn_desc.specs.Nodes.{DescV}
-use Rattle.csn_look.specs.Ends.{InEnds, ends_at, ends_many, many_next, many_end, ends_lits}
+use Rattle.csn_look.specs.Ends.{ends_at, many_next, many_end, ends_lits}
 use Rattle.csn_look.specs.Starts.{InStart, starts_at, starts_lits}
 use Rattle.csn_look.specs.Keys.{InKeys, keys_at, keys_named, keys_field, kept}
 use Rattle.csn_look.specs.Reached.{Reached, reached_root, reached_part, reached_many}

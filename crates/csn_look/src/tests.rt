@@ -5,7 +5,11 @@ use std::test::Fail;
 fn sets_have_what_was_added(rt: HostRuntime) -> Result<(), Fail> {
     let octets = OctetSet::empty().with(0).with(5);
     for octet in 0..8 {
-        assert_eq!(rt; octets.has(octet), octet == 0 || octet == 5, "octet {octet}");
+        assert_eq!(rt;
+            octets.has(octet),
+            octet == 0 || octet == 5,
+            "octet {octet}"
+        );
     }
     let signs = SymbolSet::empty().with(Sign::One).with(Sign::End);
     assert!(rt; !signs.has(Sign::Zero));
@@ -22,9 +26,9 @@ fn sets_have_what_was_added(rt: HostRuntime) -> Result<(), Fail> {
 #[test]
 fn a_word_holds_its_bits(rt: HostRuntime) -> Result<(), Fail> {
     let mut word = Word::new();
-    for bit in [1, 0, 1] {
-        word.push(bit);
-    }
+    word.push(1);
+    word.push(0);
+    word.push(1);
     let key = Key { word, whole: true };
     assert_eq!(rt; key.word.len(), 3);
     assert_eq!(rt; key.word.get(0), 1);

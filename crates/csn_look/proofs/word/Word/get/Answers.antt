@@ -1,4 +1,4 @@
-use Rattle.std.proofs.Common.{◌≤◌, List, ℕ, subst, sym, ◌∙◌, slice_index}
+use Rattle.std.proofs.Common.{◌≤◌, List, ℕ, subst, sym, slice_index}
 use Rattle.csn_bits.proofs.Packing.{IsBits-at}
 use Rattle.csn_look.proofs.word.Word.get.Goals as goal
 

@@ -1,4 +1,4 @@
-use Rattle.std.proofs.Common.{◌≡◌, List, ℕ, ◌∷◌, [], ◌++◌, length, ap, arith, length-append}
+use Rattle.std.proofs.Common.{◌≡◌, ◌∷◌, [], length, ap, arith, length-append}
 use Rattle.csn_bits.proofs.Packing.{IsBits-append}
 use Rattle.csn_look.proofs.word.Word.push.Goals as goal
 
