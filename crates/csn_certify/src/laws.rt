@@ -1,0 +1,9 @@
+//! Laws over the definitions, each the contract of a function that does nothing.
+
+ghost use Rattle.csn_certify.specs.Laws.{FirstConflictIsOne, CertifiedHasNoConflict};
+
+/// A description has at most one first conflict, and is not certified where it has one.
+pub fn first_conflict_is_one()
+    ensures one { FirstConflictIsOne }
+    ensures not_certified { CertifiedHasNoConflict }
+{}
