@@ -1,1 +1,2 @@
 pub mod OneBits
+pub mod NoBits

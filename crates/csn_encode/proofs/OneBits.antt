@@ -9,7 +9,7 @@ use Rattle.csn_desc.specs.Means.{NMeans, NodeMeans, PartsMean, TimesMean, ManyMe
 
 module _ (d : DescV) where
   -- what a node's number means is what the node means
-  at_node : {i j o : ℕ} {v : Values} {c : List ℕ} {t : TreeV} (n : Node) → slice_get d.nodes i ≡ Some n → i ≡ j → NMeans d j o v c t → NodeMeans d n o v c t
+  pub at_node : {i j o : ℕ} {v : Values} {c : List ℕ} {t : TreeV} (n : Node) → slice_get d.nodes i ≡ Some n → i ≡ j → NMeans d j o v c t → NodeMeans d n o v c t
   at_node {o = o} {v = v} {c = c} {t = t} n here same (means_at m there h) =
       let one : m ≡ n = cc in
       let P : Node → Type 0 = λ k. NodeMeans d k o v c t in

@@ -6,4 +6,5 @@ pub mod Ends
 pub mod Starts
 pub mod Keys
 pub mod Reached
+pub mod Laws
 pub mod Examples

@@ -2,6 +2,7 @@
 #![tactic(auto)]
 
 mod follow;
+pub mod laws;
 mod octet_set;
 mod symbol_set;
 #[cfg(test)]
