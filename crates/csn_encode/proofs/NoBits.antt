@@ -1,16 +1,15 @@
 -- A tree that misses a description has no bits within a block.
-use Rattle.std.proofs.Common.{◌≡◌, ◌≢◌, ℕ, zero, suc, ◌+◌, ◌*◌, ◌<◌, ◌≤◌, Bool, true, false, List, [], ◌∷◌, ◌++◌, length, refl, sym, ◌∙◌, ap, subst, arith, Some, length-append}
-use Rattle.std.specs.Prelude.{slice_get}
+use Rattle.std.proofs.Common.{◌≡◌, ℕ, zero, suc, ◌+◌, ◌<◌, ◌≤◌, true, List, [], ◌∷◌, ◌++◌, length, refl, sym, ◌∙◌, ap, subst, arith, length-append}
 use Rattle.std.proofs.lemmas.Option.{slice_get_within}
 use Rattle.csn_desc.specs.declared.reading.Reading.{Reading}
 use Rattle.csn_desc.specs.declared.symbol.Symbol.{Symbol}
 use Rattle.csn_desc.specs.declared.symbol.Symbol.TheVariants.{Low}
 use Rattle.csn_desc.specs.declared.node.Node.{Node}
-use Rattle.csn_desc.specs.TreeV.{TreeV, bits, row, alt, named, Trees, none, more}
+use Rattle.csn_desc.specs.TreeV.{TreeV, Trees, none}
 use Rattle.csn_desc.specs.Nodes.{DescV}
 use Rattle.csn_desc.specs.Spelled.{spelled, IsSpare}
-use Rattle.csn_desc.specs.Values.{Values, with_value}
-use Rattle.csn_desc.specs.Means.{NMeans, NodeMeans, PartsMean, TimesMean, ManyMean, LeadMean, means_at, means_lits, means_spare, means_pad, means_null, means_field, means_rest, means_seq, means_choice, means_times, means_many, means_cut, means_trunc, means_window, means_named, parts_end, parts_next, times_end, times_next, many_end, many_next, lead_last, lead_next}
+use Rattle.csn_desc.specs.Values.{Values}
+use Rattle.csn_desc.specs.Means.{NMeans, NodeMeans, PartsMean, TimesMean, ManyMean, LeadMean, means_lits, means_spare, means_pad, means_null, means_field, means_rest, means_seq, means_choice, means_times, means_many, means_cut, means_trunc, means_window, means_named, parts_end, parts_next, times_end, times_next, many_end, many_next, lead_last, lead_next}
 use Rattle.csn_encode.specs.declared.misfit.MisfitWhy.{MisfitWhy}
 use Rattle.csn_encode.specs.Misfits.{has_kind, tree_count, kept_with, kept_count, HavePieces, pieces_end, pieces_next, MissesNode, wrong_kind, wrong_label, wrong_seq, wrong_times, wrong_trunc, idle_trunc, wrong_field, wide_spare, no_pad, wrong_spare, wrong_pad, no_alternative, wrong_window, past_lits, past_field, past_rest, past_spare, past_pad, Misses, MissesIn, MissesParts, MissesRepeats, misses_at, misses_here, misses_named, misses_choice, misses_window, misses_seq, misses_trunc, misses_times, misses_many, parts_here, parts_later, repeats_here, repeats_later}
 use Rattle.csn_encode.proofs.OneBits.{one_bits, at_node}
@@ -19,7 +18,7 @@ length-spelled : (run : List Symbol) (o : ℕ) → length (spelled run o) ≡ le
 length-spelled [] o = refl
 length-spelled (s ∷ run) o = ap suc (length-spelled run (suc o))
 
-spare_in : {r q : Reading} (s : Symbol) {o p : ℕ} {b c : List ℕ} → r ≡ q → o ≡ p → b ≡ c → IsSpare r s o b → IsSpare q s p c
+pub spare_in : {r q : Reading} (s : Symbol) {o p : ℕ} {b c : List ℕ} → r ≡ q → o ≡ p → b ≡ c → IsSpare r s o b → IsSpare q s p c
 spare_in {r} {q} s {o} {p} {b} {c} reading place same h =
     let P : Reading → Type 0 = λ x. IsSpare x s o b in
     let Q : ℕ → Type 0 = λ x. IsSpare q s x b in

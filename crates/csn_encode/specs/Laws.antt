@@ -12,3 +12,6 @@ OneBlock = (d : DescV) (i o : ℕ) (v : Values) (b c : List ℕ) (t : TreeV) →
 
 abbrev pub MisfitsHaveNoBits : Type 0
 MisfitsHaveNoBits = (d : DescV) (i o : ℕ) (v : Values) (t : TreeV) (path : List ℕ) (why : MisfitWhy) (b : List ℕ) → Misses d i o v t path why → NMeans d i o v b t → ¬ IsWithin o b
+
+abbrev pub FirstMisfitIsOne : Type 0
+FirstMisfitIsOne = (d : DescV) (i o : ℕ) (v : Values) (t : TreeV) (path other : List ℕ) (why because : MisfitWhy) → Misses d i o v t path why → Misses d i o v t other because → (path ≡ other) × (why ≡ because)
