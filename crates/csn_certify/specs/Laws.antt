@@ -1,5 +1,5 @@
 -- Laws over the definitions.
-use Rattle.std.specs.Prelude.{◌≡◌, ℕ}
+use Rattle.std.specs.Prelude.{◌≡◌, ℕ, ◌≤◌}
 use Rattle.csn_desc.specs.Nodes.{DescV}
 use Rattle.csn_certify.specs.declared.conflict.Conflict.{Conflict}
 use Rattle.csn_certify.specs.Conflicts.{IsFirstConflict, Certified}
@@ -9,3 +9,6 @@ FirstConflictIsOne = (d : DescV) (most : ℕ) (c e : Conflict) → IsFirstConfli
 
 abbrev pub CertifiedHasNoConflict : Type 0
 CertifiedHasNoConflict = (d : DescV) (most : ℕ) (c : Conflict) → IsFirstConflict d most c → ¬ Certified d most
+
+abbrev pub LongerWordsCertify : Type 0
+LongerWordsCertify = (d : DescV) (short long : ℕ) → short ≤ long → Certified d short → Certified d long

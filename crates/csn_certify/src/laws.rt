@@ -1,9 +1,15 @@
 //! Laws over the definitions, each the contract of a function that does nothing.
 
-ghost use Rattle.csn_certify.specs.Laws.{FirstConflictIsOne, CertifiedHasNoConflict};
+ghost use Rattle.csn_certify.specs.Laws.{FirstConflictIsOne, CertifiedHasNoConflict, LongerWordsCertify};
 
 /// A description has at most one first conflict, and is not certified where it has one.
 pub fn first_conflict_is_one()
     ensures one { FirstConflictIsOne }
     ensures not_certified { CertifiedHasNoConflict }
+{}
+
+/// A description that is certified with words of some length is certified with longer words: with 8
+/// bits, and so with 12.
+pub fn longer_words_certify()
+    ensures { LongerWordsCertify }
 {}
