@@ -1,6 +1,6 @@
 //! Laws over the definitions, each the contract of a function that does nothing.
 
-ghost use Rattle.csn_certify.specs.Laws.{FirstConflictIsOne, CertifiedHasNoConflict, LongerWordsCertify};
+ghost use Rattle.csn_certify.specs.Laws.{FirstConflictIsOne, CertifiedHasNoConflict, LongerWordsCertify, NoContinuation};
 
 /// A description has at most one first conflict, and is not certified where it has one.
 pub fn first_conflict_is_one()
@@ -12,4 +12,10 @@ pub fn first_conflict_is_one()
 /// bits, and so with 12.
 pub fn longer_words_certify()
     ensures { LongerWordsCertify }
+{}
+
+/// Where the first bits of a block can be followed and one more of them cannot, no string of any length
+/// begins with these and that one.
+pub fn no_continuation()
+    ensures { NoContinuation }
 {}

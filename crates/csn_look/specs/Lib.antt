@@ -6,5 +6,6 @@ pub mod Ends
 pub mod Starts
 pub mod Keys
 pub mod Reached
+pub mod Told
 pub mod Laws
 pub mod Examples
