@@ -1,1 +1,5 @@
 pub mod Octets
+pub mod Line
+pub mod Feed
+pub mod Fault
+pub mod Laws

@@ -1,6 +1,6 @@
 -- Bits in octets. The first bit of an octet is its most significant one, as 3GPP TS 44.060 numbers
 -- the bits of a block.
-use Rattle.std.specs.Prelude.{◌≡◌, ℕ, length, take, ◌+◌, ◌*◌, ◌/◌, ◌%◌, ◌≤◌, List, [], ◌∷◌, ◌++◌, slice_index}
+use Rattle.std.specs.Prelude.{◌≡◌, refl, ℕ, map, length, take, ◌+◌, ◌*◌, ◌/◌, ◌%◌, ◌≤◌, List, [], ◌∷◌, ◌++◌, slice_index}
 
 -- each of them is 0 or 1
 abbrev pub IsBits : List ℕ → Type 0
@@ -45,3 +45,21 @@ octet_position place = place % 8
 -- the bit of the padding pattern, 0x2B, at an octet position
 abbrev pub pattern : ℕ → ℕ
 pattern position = slice_index (bits_of_octet 0x2B) position
+
+-- ---- examples
+
+-- three bits of the octet A5
+pub three_bits : take 3 (bits_of_octets (0xA5 ∷ [])) ≡ 1 ∷ 0 ∷ 1 ∷ []
+three_bits = refl
+
+-- they are held in the octet A0, and with a fourth bit 1 in B0
+pub three_held : octets_of (1 ∷ 0 ∷ 1 ∷ []) ≡ 0xA0 ∷ []
+three_held = refl
+
+pub four_held : octets_of (1 ∷ 0 ∷ 1 ∷ 1 ∷ []) ≡ 0xB0 ∷ []
+four_held = refl
+
+-- the padding pattern begins again after eight bits
+pub pattern_bits : map (λ place. pattern (octet_position place)) (0 ∷ 1 ∷ 2 ∷ 3 ∷ 4 ∷ 5 ∷ 6 ∷ 7 ∷ 8 ∷ 9 ∷ [])
+    ≡ 0 ∷ 0 ∷ 1 ∷ 0 ∷ 1 ∷ 0 ∷ 1 ∷ 1 ∷ 0 ∷ 0 ∷ []
+pattern_bits = refl

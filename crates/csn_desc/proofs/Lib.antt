@@ -5,3 +5,9 @@ pub mod MeantBits
 pub mod Empties
 pub mod Numbering
 pub mod WalkFacts
+pub mod OneWalk
+pub mod Nodewise
+pub mod ExampleFacts
+pub mod RefusedExample
+pub mod LabelFacts
+pub mod NumberFacts

@@ -157,10 +157,10 @@ module _ (d : DescV) where
   only_part (span_next middle e h others) = (middle, h)
 
   -- the walk of the rest, from where the first piece ends
-  walk_moved : (P : ℕ → List Move → Type 0) (o : ℕ) {f1 f2 r : List Move} → f1 ≡ f2 → P (o + length (bits_of f2)) r → P (o + length (bits_of f1)) r
+  pub walk_moved : (P : ℕ → List Move → Type 0) (o : ℕ) {f1 f2 r : List Move} → f1 ≡ f2 → P (o + length (bits_of f2)) r → P (o + length (bits_of f1)) r
   walk_moved P o {r = r} same h = let S : List Move → Type 0 = λ f. P (o + length (bits_of f)) r in subst S (sym same) h
 
-  at_node : {n m : Node} {o : ℕ} {u : TreeV} {c : List Move} → n ≡ m → NodeWalk d m o u c → NodeWalk d n o u c
+  pub at_node : {n m : Node} {o : ℕ} {u : TreeV} {c : List Move} → n ≡ m → NodeWalk d m o u c → NodeWalk d n o u c
   at_node {o = o} {u = u} {c = c} same h = let S : Node → Type 0 = λ n. NodeWalk d n o u c in subst S (sym same) h
 
   mutual

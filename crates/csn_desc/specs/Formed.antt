@@ -50,11 +50,17 @@ module _ (nodes : List Node) where
     -- node i and all that is inside it are the nodes from i up to, and without, `end`: its first part is
     -- the node after it, and each next part is the node where the part before it ends
     pub data Spans : ℕ → ℕ → Type 0 where
-      spans : {i end : ℕ} (n : Node) → slice_get nodes i ≡ Some n → PartsSpan (parts_of n) (suc i) end → Spans i end
+      spans :
+          {i end : ℕ}
+          (n : Node) → slice_get nodes i ≡ Some n → PartsSpan (parts_of n) (suc i) end
+          → Spans i end
 
     pub data PartsSpan : List ℕ → ℕ → ℕ → Type 0 where
       span_end : {at end : ℕ} → end ≡ at → PartsSpan [] at end
-      span_next : {i at end : ℕ} {parts : List ℕ} (middle : ℕ) → i ≡ at → Spans i middle → PartsSpan parts middle end → PartsSpan (i ∷ parts) at end
+      span_next :
+          {i at end : ℕ} {parts : List ℕ}
+          (middle : ℕ) → i ≡ at → Spans i middle → PartsSpan parts middle end
+          → PartsSpan (i ∷ parts) at end
 
 -- ---- what each node must be
 
@@ -116,11 +122,20 @@ module _ (nodes : List Node) where
     -- inside it: at most 64 nodes are inside one another, and a field that a count stands on has fewer
     -- than 64 such fields before it
     pub data Formed : List ℕ → ℕ → ℕ → Type 0 where
-      formed : {seen : List ℕ} {round i : ℕ} (n : Node) → slice_get nodes i ≡ Some n → round < 64 → IsHead nodes seen (head_of n) → HasParts (head_of n) (length (parts_of n)) → (IsTrue (is_counted nodes i) → count_by (is_counted nodes) seen < 64) → PartsFormed (shows_earlier n) seen (suc round) (parts_of n) → Formed seen round i
+      formed :
+          {seen : List ℕ} {round i : ℕ}
+          (n : Node) → slice_get nodes i ≡ Some n → round < 64 → IsHead nodes seen (head_of n)
+          → HasParts (head_of n) (length (parts_of n))
+          → (IsTrue (is_counted nodes i) → count_by (is_counted nodes) seen < 64)
+          → PartsFormed (shows_earlier n) seen (suc round) (parts_of n)
+          → Formed seen round i
 
     pub data PartsFormed : Bool → List ℕ → ℕ → List ℕ → Type 0 where
       formed_end : {shows : Bool} {seen : List ℕ} {round : ℕ} → PartsFormed shows seen round []
-      formed_next : {shows : Bool} {seen : List ℕ} {round i : ℕ} {parts : List ℕ} → Formed seen round i → PartsFormed shows (with_seen nodes shows i seen) round parts → PartsFormed shows seen round (i ∷ parts)
+      formed_next :
+          {shows : Bool} {seen : List ℕ} {round i : ℕ} {parts : List ℕ}
+          → Formed seen round i → PartsFormed shows (with_seen nodes shows i seen) round parts
+          → PartsFormed shows seen round (i ∷ parts)
 
 -- at most 16,384 nodes, numbered through from the root, and each of them well formed
 pub record IsDescription (d : DescV) : Type 0 where

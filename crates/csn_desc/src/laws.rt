@@ -1,6 +1,6 @@
 //! Laws over the definitions, each the contract of a function that does nothing.
 
-ghost use Rattle.csn_desc.specs.Laws.{PrefixesAreFollowed, StringsAreFollowed, MeaningsAreBits, FollowedAreBits, EmptyBitsAreFollowed, EmptyBlocksAreFollowed, TreesHaveMoves, MovesAreOfOneTree};
+ghost use Rattle.csn_desc.specs.Laws.{PrefixesAreFollowed, StringsAreFollowed, MeaningsAreBits, FollowedAreBits, EmptyBitsAreFollowed, EmptyBlocksAreFollowed, TreesHaveMoves, TreesHaveOneListOfMoves, MovesAreOfOneTree, ValuesHaveTheirWidth, NumbersFitTheirWidth, WordsAreLabels, WordsStandBeforeLabels};
 
 /// The first few of bits that a node follows are followed by it.
 pub fn prefixes_are_followed()
@@ -25,12 +25,27 @@ pub fn empty_bits_are_followed()
     ensures block { EmptyBlocksAreFollowed }
 {}
 
-/// A tree that bits have has moves, and these take the bits.
+/// A tree that bits have has moves, and these take the bits; and no tree has two lists of moves at one
+/// node and place.
 pub fn trees_have_moves()
-    ensures { TreesHaveMoves }
+    ensures some { TreesHaveMoves }
+    ensures one { TreesHaveOneListOfMoves }
 {}
 
 /// Two trees with the same moves at one node, at one place, are one tree.
 pub fn moves_are_of_one_tree()
     ensures { MovesAreOfOneTree }
+{}
+
+/// A labelled field of constant width has bits of that width, and the number that they write is below
+/// the power of two with this exponent.
+pub fn values_have_their_width()
+    ensures width { ValuesHaveTheirWidth }
+    ensures number { NumbersFitTheirWidth }
+{}
+
+/// A word is a label, and so are a word, a space and a label.
+pub fn words_make_labels()
+    ensures one { WordsAreLabels }
+    ensures more { WordsStandBeforeLabels }
 {}
