@@ -33,20 +33,53 @@ module _ (d : DescV) (most : ℕ) where
   -- the description has this conflict
   pub data IsConflict : Conflict → Type 0 where
     -- two alternatives i and j of a choice take no bits
-    two_empty : {node i j p q : ℕ} {parts : List ℕ} → slice_get d.nodes node ≡ Some (Choice parts) → i < j → slice_get parts i ≡ Some p → slice_get parts j ≡ Some q → IsNull d p → IsNull d q → IsConflict (TwoEmpty node i j)
+    two_empty :
+        {node i j p q : ℕ} {parts : List ℕ}
+        → slice_get d.nodes node ≡ Some (Choice parts) → i < j → slice_get parts i ≡ Some p
+        → slice_get parts j ≡ Some q → IsNull d p → IsNull d q
+        → IsConflict (TwoEmpty node i j)
     -- an alternative of a choice that takes bits is not firm, and so is the part of a free repetition;
     -- the part of a counted one is nullable
-    choice_not_firm : {node i p : ℕ} {parts : List ℕ} → slice_get d.nodes node ≡ Some (Choice parts) → slice_get parts i ≡ Some p → ¬ IsNull d p → Nullable d p ⊎ HasEmptyKey d most p → IsConflict (NotFirm node i)
-    many_not_firm : {node i p : ℕ} → slice_get d.nodes node ≡ Some (Many p) → i ≡ 0 → Nullable d p ⊎ HasEmptyKey d most p → IsConflict (NotFirm node i)
-    times_not_firm : {node i p : ℕ} {count : Count} → slice_get d.nodes node ≡ Some (Times count p) → i ≡ 0 → Nullable d p → IsConflict (NotFirm node i)
+    choice_not_firm :
+        {node i p : ℕ} {parts : List ℕ}
+        → slice_get d.nodes node ≡ Some (Choice parts) → slice_get parts i ≡ Some p → ¬ IsNull d p
+        → Nullable d p ⊎ HasEmptyKey d most p
+        → IsConflict (NotFirm node i)
+    many_not_firm :
+        {node i p : ℕ}
+        → slice_get d.nodes node ≡ Some (Many p) → i ≡ 0 → Nullable d p ⊎ HasEmptyKey d most p
+        → IsConflict (NotFirm node i)
+    times_not_firm :
+        {node i p : ℕ} {count : Count}
+        → slice_get d.nodes node ≡ Some (Times count p) → i ≡ 0 → Nullable d p
+        → IsConflict (NotFirm node i)
     -- two alternatives that take bits have keys of which one begins with the other
-    overlap : {node octet i j p q : ℕ} {word_i word_j : List ℕ} {parts : List ℕ} (mark_i mark_j : Bool) → slice_get d.nodes node ≡ Some (Choice parts) → Reached d node octet → i < j → slice_get parts i ≡ Some p → slice_get parts j ≡ Some q → ¬ IsNull d p → ¬ IsNull d q → InKeys d most p octet word_i mark_i → InKeys d most q octet word_j mark_j → IsBegunBy word_i word_j ⊎ IsBegunBy word_j word_i → IsConflict (Overlap node octet i j word_i word_j)
+    overlap :
+        {node octet i j p q : ℕ} {word_i word_j : List ℕ} {parts : List ℕ}
+        (mark_i mark_j : Bool) → slice_get d.nodes node ≡ Some (Choice parts) → Reached d node octet
+        → i < j → slice_get parts i ≡ Some p → slice_get parts j ≡ Some q → ¬ IsNull d p
+        → ¬ IsNull d q → InKeys d most p octet word_i mark_i → InKeys d most q octet word_j mark_j
+        → IsBegunBy word_i word_j ⊎ IsBegunBy word_j word_i
+        → IsConflict (Overlap node octet i j word_i word_j)
     -- beside an alternative i that takes no bits, another one may begin with a bit that may follow the choice
-    empty_clash : {node octet bit i j p q : ℕ} {parts : List ℕ} → slice_get d.nodes node ≡ Some (Choice parts) → Reached d node octet → slice_get parts i ≡ Some p → IsNull d p → slice_get parts j ≡ Some q → j ≢ i → InStart d q octet bit → InFollow d node octet (Some bit) → IsConflict (EmptyClash node octet bit)
+    empty_clash :
+        {node octet bit i j p q : ℕ} {parts : List ℕ}
+        → slice_get d.nodes node ≡ Some (Choice parts) → Reached d node octet
+        → slice_get parts i ≡ Some p → IsNull d p → slice_get parts j ≡ Some q → j ≢ i
+        → InStart d q octet bit → InFollow d node octet (Some bit)
+        → IsConflict (EmptyClash node octet bit)
     -- where a free repetition may begin its part, the part may begin with a bit that may follow the repetition
-    loop_clash : {node octet bit p : ℕ} → slice_get d.nodes node ≡ Some (Many p) → Reached d p octet → InStart d p octet bit → InFollow d node octet (Some bit) → IsConflict (LoopClash node octet bit)
+    loop_clash :
+        {node octet bit p : ℕ}
+        → slice_get d.nodes node ≡ Some (Many p) → Reached d p octet → InStart d p octet bit
+        → InFollow d node octet (Some bit)
+        → IsConflict (LoopClash node octet bit)
     -- where a node that must be last ends, a bit may follow
-    not_last : {node octet bit : ℕ} (n : Node) (from : ℕ) → slice_get d.nodes node ≡ Some n → IsLast n → Reached d node from → InEnds d node from octet → InFollow d node octet (Some bit) → IsConflict (NotLast node octet)
+    not_last :
+        {node octet bit : ℕ}
+        (n : Node) (from : ℕ) → slice_get d.nodes node ≡ Some n → IsLast n → Reached d node from
+        → InEnds d node from octet → InFollow d node octet (Some bit)
+        → IsConflict (NotLast node octet)
 
   -- none of the conflicts holds
   abbrev pub Certified : Type 0

@@ -34,7 +34,10 @@ module _ (d : DescV) (most : ℕ) where
 
   -- what may follow the node stands next: the first held bit may, or the block has ended
   pub data StandsBehind : ℕ → ℕ → List ℕ → Bool → Type 0 where
-    behind_bit : {node octet bit : ℕ} {rest : List ℕ} {ended : Bool} → InFollow d node octet (Some bit) → StandsBehind node octet (bit ∷ rest) ended
+    behind_bit :
+        {node octet bit : ℕ} {rest : List ℕ} {ended : Bool}
+        → InFollow d node octet (Some bit)
+        → StandsBehind node octet (bit ∷ rest) ended
     behind_end : {node octet : ℕ} {ended : Bool} → ended ≡ true → StandsBehind node octet [] ended
 
   -- the alternative i takes no bits, and what may follow the choice stands next
@@ -47,15 +50,47 @@ module _ (d : DescV) (most : ℕ) where
   -- the answer at the octet position, each where none before it is
   pub data Picks : ℕ → ℕ → List ℕ → Bool → Pick → Type 0 where
     -- an alternative whose key the held bits begin with
-    pick_key : {node octet j : ℕ} {held : List ℕ} {ended : Bool} (parts : List ℕ) → slice_get d.nodes node ≡ Some (Choice parts) → BeginsWithKey parts octet held j → Picks node octet held ended (Take j)
+    pick_key :
+        {node octet j : ℕ} {held : List ℕ} {ended : Bool}
+        (parts : List ℕ) → slice_get d.nodes node ≡ Some (Choice parts)
+        → BeginsWithKey parts octet held j
+        → Picks node octet held ended (Take j)
     -- the one that takes no bits
-    pick_none : {node octet i : ℕ} {held : List ℕ} {ended : Bool} (parts : List ℕ) → slice_get d.nodes node ≡ Some (Choice parts) → ((j : ℕ) → ¬ BeginsWithKey parts octet held j) → TakesNone node parts octet held ended i → Picks node octet held ended (Take i)
+    pick_none :
+        {node octet i : ℕ} {held : List ℕ} {ended : Bool}
+        (parts : List ℕ) → slice_get d.nodes node ≡ Some (Choice parts)
+        → ((j : ℕ) → ¬ BeginsWithKey parts octet held j) → TakesNone node parts octet held ended i
+        → Picks node octet held ended (Take i)
     -- none yet, where further bits may make a key
-    pick_wait : {node octet : ℕ} {held : List ℕ} {ended : Bool} (parts : List ℕ) → slice_get d.nodes node ≡ Some (Choice parts) → ((j : ℕ) → ¬ BeginsWithKey parts octet held j) → ((i : ℕ) → ¬ TakesNone node parts octet held ended i) → ended ≡ false → BeginsKey parts octet held → Picks node octet held ended Wait
+    pick_wait :
+        {node octet : ℕ} {held : List ℕ} {ended : Bool}
+        (parts : List ℕ) → slice_get d.nodes node ≡ Some (Choice parts)
+        → ((j : ℕ) → ¬ BeginsWithKey parts octet held j)
+        → ((i : ℕ) → ¬ TakesNone node parts octet held ended i) → ended ≡ false
+        → BeginsKey parts octet held
+        → Picks node octet held ended Wait
     -- and else none
-    pick_refuse : {node octet : ℕ} {held : List ℕ} {ended : Bool} (parts : List ℕ) → slice_get d.nodes node ≡ Some (Choice parts) → ((j : ℕ) → ¬ BeginsWithKey parts octet held j) → ((i : ℕ) → ¬ TakesNone node parts octet held ended i) → (ended ≡ false → ¬ BeginsKey parts octet held) → Picks node octet held ended Refuse
+    pick_refuse :
+        {node octet : ℕ} {held : List ℕ} {ended : Bool}
+        (parts : List ℕ) → slice_get d.nodes node ≡ Some (Choice parts)
+        → ((j : ℕ) → ¬ BeginsWithKey parts octet held j)
+        → ((i : ℕ) → ¬ TakesNone node parts octet held ended i)
+        → (ended ≡ false → ¬ BeginsKey parts octet held)
+        → Picks node octet held ended Refuse
     -- a repetition: a bit is needed, or the first one begins the part, or it does not
-    pick_bit : {node octet : ℕ} {ended : Bool} (part : ℕ) → slice_get d.nodes node ≡ Some (Many part) → ended ≡ false → Picks node octet [] ended Wait
-    pick_again : {node octet bit : ℕ} {rest : List ℕ} {ended : Bool} (part : ℕ) → slice_get d.nodes node ≡ Some (Many part) → InStart d part octet bit → Picks node octet (bit ∷ rest) ended (Take 0)
-    pick_leave : {node octet bit : ℕ} {rest : List ℕ} {ended : Bool} (part : ℕ) → slice_get d.nodes node ≡ Some (Many part) → ¬ InStart d part octet bit → Picks node octet (bit ∷ rest) ended Leave
-    pick_ended : {node octet : ℕ} {ended : Bool} (part : ℕ) → slice_get d.nodes node ≡ Some (Many part) → ended ≡ true → Picks node octet [] ended Leave
+    pick_bit :
+        {node octet : ℕ} {ended : Bool}
+        (part : ℕ) → slice_get d.nodes node ≡ Some (Many part) → ended ≡ false
+        → Picks node octet [] ended Wait
+    pick_again :
+        {node octet bit : ℕ} {rest : List ℕ} {ended : Bool}
+        (part : ℕ) → slice_get d.nodes node ≡ Some (Many part) → InStart d part octet bit
+        → Picks node octet (bit ∷ rest) ended (Take 0)
+    pick_leave :
+        {node octet bit : ℕ} {rest : List ℕ} {ended : Bool}
+        (part : ℕ) → slice_get d.nodes node ≡ Some (Many part) → ¬ InStart d part octet bit
+        → Picks node octet (bit ∷ rest) ended Leave
+    pick_ended :
+        {node octet : ℕ} {ended : Bool}
+        (part : ℕ) → slice_get d.nodes node ≡ Some (Many part) → ended ≡ true
+        → Picks node octet [] ended Leave

@@ -22,7 +22,11 @@ two_fields =
 
 -- its tree with four bits in the first field, of which it has three
 wide : TreeV
-wide = row (more (named (65 ∷ []) (bits (0 ∷ 1 ∷ 0 ∷ 1 ∷ []))) (more empty (more (named (66 ∷ []) (bits (0 ∷ 1 ∷ 0 ∷ 1 ∷ []))) none)))
+wide =
+    row (
+    more (named (65 ∷ []) (bits (0 ∷ 1 ∷ 0 ∷ 1 ∷ []))) (
+    more empty (
+    more (named (66 ∷ []) (bits (0 ∷ 1 ∷ 0 ∷ 1 ∷ []))) none)))
 
 is_wide : IsMisfit two_fields wide (0 ∷ 0 ∷ []) (WrongWidth 3 4)
 unfolding wide
@@ -43,7 +47,11 @@ windowed =
 
 -- three bits inside a window of two
 overfull : TreeV
-overfull = row (more (named (76 ∷ []) (bits (0 ∷ 0 ∷ 1 ∷ []))) (more (row (more (named (65 ∷ []) (bits (1 ∷ 1 ∷ []))) (more (row (more (bits (0 ∷ [])) none)) none))) (more empty none)))
+overfull =
+    row (
+    more (named (76 ∷ []) (bits (0 ∷ 0 ∷ 1 ∷ []))) (
+    more (row (more (named (65 ∷ []) (bits (1 ∷ 1 ∷ []))) (more (row (more (bits (0 ∷ [])) none)) none))) (
+    more empty none)))
 
 is_overfull : IsMisfit windowed overfull (1 ∷ []) (WindowLength 2 3)
 unfolding overfull

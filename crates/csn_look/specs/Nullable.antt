@@ -26,10 +26,16 @@ module _ (d : DescV) where
       nullable_times : {count : Count} {i : ℕ} → Nullable i → NodeNullable (Times count i)
       nullable_no_times : {m field c i : ℕ} → c ≡ 0 → NodeNullable (Times (Counted m field c) i)
       -- a window whose length may be 0 and whose part is
-      nullable_window : {unit m field c i : ℕ} → c ≡ 0 → Nullable i → NodeNullable (Window unit (Counted m field c) i)
+      nullable_window :
+          {unit m field c i : ℕ}
+          → c ≡ 0 → Nullable i
+          → NodeNullable (Window unit (Counted m field c) i)
       -- a sequence of which all parts are, and a choice of which some part is
       nullable_seq : {parts : List ℕ} → AllNullable parts → NodeNullable (Seq parts)
-      nullable_choice : {parts : List ℕ} {i : ℕ} (j : ℕ) → slice_get parts j ≡ Some i → Nullable i → NodeNullable (Choice parts)
+      nullable_choice :
+          {parts : List ℕ} {i : ℕ}
+          (j : ℕ) → slice_get parts j ≡ Some i → Nullable i
+          → NodeNullable (Choice parts)
       nullable_named : {label : List ℕ} {i : ℕ} → Nullable i → NodeNullable (Named label i)
 
     -- each of the parts is nullable
