@@ -4,8 +4,7 @@ use Rattle.std.proofs.lemmas.Bool.Decides.{leb_tells}
 use Rattle.std.proofs.lemmas.List.{take-append-le}
 use Rattle.csn_desc.specs.declared.node.Node.{Node}
 use Rattle.csn_desc.specs.Nodes.{DescV}
-use Rattle.csn_look.specs.Nullable.{Nullable}
-use Rattle.csn_look.specs.Keys.{Cut, kept, cut, InKeys, NodeKeys, PartsKeys, TimesKeys, HasEmptyKey, keys_at, keys_lits, keys_spare, keys_field, keys_pad, keys_null, keys_rest, keys_many, keys_trunc, keys_window, keys_counted_field, keys_counted_times, keys_seq, keys_times, keys_choice, keys_named, parts_none, parts_cut, parts_whole, times_none, times_cut, times_whole}
+use Rattle.csn_look.specs.Keys.{Cut, kept, cut, InKeys, NodeKeys, PartsKeys, TimesKeys, HasEmptyKey, IsNotFirm, keys_at, keys_lits, keys_spare, keys_field, keys_pad, keys_null, keys_rest, keys_many, keys_trunc, keys_window, keys_counted_field, keys_counted_times, keys_seq, keys_times, keys_choice, keys_named, parts_none, parts_cut, parts_whole, times_none, times_cut, times_whole}
 use Rattle.csn_certify.specs.declared.conflict.Conflict.{Conflict}
 use Rattle.csn_certify.specs.Conflicts.{IsConflict, IsBegunBy, two_empty, choice_not_firm, many_not_firm, times_not_firm, overlap, empty_clash, loop_clash, not_last}
 
@@ -168,7 +167,7 @@ module _ (d : DescV) (n m : ℕ) (less : n ≤ m) where
   empty_cut : {i : ℕ} → HasEmptyKey d m i → HasEmptyKey d n i
   empty_cut h = (h.0, h.1, h.2, key_cut h.3 (kept (omega arith) refl refl))
 
-  unfirm_cut : {i : ℕ} → Nullable d i ⊎ HasEmptyKey d m i → Nullable d i ⊎ HasEmptyKey d n i
+  unfirm_cut : {i : ℕ} → IsNotFirm d m i → IsNotFirm d n i
   unfirm_cut (inl none) = inl none
   unfirm_cut (inr h) = inr (empty_cut h)
 

@@ -8,7 +8,7 @@ use Rattle.csn_desc.specs.Nodes.{DescV}
 use Rattle.csn_look.specs.Nullable.{Nullable}
 use Rattle.csn_look.specs.Ends.{InEnds}
 use Rattle.csn_look.specs.Starts.{InStart}
-use Rattle.csn_look.specs.Keys.{InKeys, HasEmptyKey}
+use Rattle.csn_look.specs.Keys.{InKeys, IsNotFirm}
 use Rattle.csn_look.specs.Reached.{Reached, InFollow}
 use Rattle.csn_certify.specs.declared.conflict.Conflict.{Conflict}
 use Rattle.csn_certify.specs.declared.conflict.Conflict.TheVariants.{TwoEmpty, NotFirm, Overlap, EmptyClash, LoopClash, NotLast}
@@ -38,16 +38,16 @@ module _ (d : DescV) (most : ℕ) where
         → slice_get d.nodes node ≡ Some (Choice parts) → i < j → slice_get parts i ≡ Some p
         → slice_get parts j ≡ Some q → IsNull d p → IsNull d q
         → IsConflict (TwoEmpty node i j)
-    -- an alternative of a choice that takes bits is not firm, and so is the part of a free repetition;
-    -- the part of a counted one is nullable
+    -- an alternative of a choice that takes bits is not firm, or the part of a free repetition is not;
+    -- or the part of a repetition by number is nullable
     choice_not_firm :
         {node i p : ℕ} {parts : List ℕ}
         → slice_get d.nodes node ≡ Some (Choice parts) → slice_get parts i ≡ Some p → ¬ IsNull d p
-        → Nullable d p ⊎ HasEmptyKey d most p
+        → IsNotFirm d most p
         → IsConflict (NotFirm node i)
     many_not_firm :
         {node i p : ℕ}
-        → slice_get d.nodes node ≡ Some (Many p) → i ≡ 0 → Nullable d p ⊎ HasEmptyKey d most p
+        → slice_get d.nodes node ≡ Some (Many p) → i ≡ 0 → IsNotFirm d most p
         → IsConflict (NotFirm node i)
     times_not_firm :
         {node i p : ℕ} {count : Count}
@@ -61,14 +61,16 @@ module _ (d : DescV) (most : ℕ) where
         → ¬ IsNull d q → InKeys d most p octet word_i mark_i → InKeys d most q octet word_j mark_j
         → IsBegunBy word_i word_j ⊎ IsBegunBy word_j word_i
         → IsConflict (Overlap node octet i j word_i word_j)
-    -- beside an alternative i that takes no bits, another one may begin with a bit that may follow the choice
+    -- beside an alternative i that takes no bits, another one may begin with a bit that may follow the
+    -- choice
     empty_clash :
         {node octet bit i j p q : ℕ} {parts : List ℕ}
         → slice_get d.nodes node ≡ Some (Choice parts) → Reached d node octet
         → slice_get parts i ≡ Some p → IsNull d p → slice_get parts j ≡ Some q → j ≢ i
         → InStart d q octet bit → InFollow d node octet (Some bit)
         → IsConflict (EmptyClash node octet bit)
-    -- where a free repetition may begin its part, the part may begin with a bit that may follow the repetition
+    -- where a free repetition may begin its part, the part may begin with a bit that may follow the
+    -- repetition
     loop_clash :
         {node octet bit p : ℕ}
         → slice_get d.nodes node ≡ Some (Many p) → Reached d p octet → InStart d p octet bit
@@ -96,7 +98,8 @@ text_of word = map suc word ++ 0 ∷ []
 abbrev pub rank_of : Conflict → List ℕ
 rank_of (TwoEmpty node i j) = node ∷ 1 ∷ i ∷ j ∷ []
 rank_of (NotFirm node i) = node ∷ 2 ∷ i ∷ []
-rank_of (Overlap node octet i j word_i word_j) = node ∷ 3 ∷ octet ∷ 3 ∷ i ∷ j ∷ (text_of word_i ++ text_of word_j)
+rank_of (Overlap node octet i j word_i word_j) =
+    node ∷ 3 ∷ octet ∷ 3 ∷ i ∷ j ∷ (text_of word_i ++ text_of word_j)
 rank_of (EmptyClash node octet bit) = node ∷ 3 ∷ octet ∷ 4 ∷ bit ∷ []
 rank_of (LoopClash node octet bit) = node ∷ 3 ∷ octet ∷ 5 ∷ bit ∷ []
 rank_of (NotLast node octet) = node ∷ 3 ∷ octet ∷ 6 ∷ []

@@ -8,4 +8,4 @@ mod path;
 mod tests;
 
 pub use misfit::{Misfit, MisfitWhy};
-pub use path::Path;
+pub use path::{MOST_STEPS, Path};

@@ -4,6 +4,9 @@ use csn_bits::NoMemory;
 use std::alloc::Global;
 use std::marker::Model;
 
+/// The most steps that a path has: as many as there are nodes inside one another.
+pub const MOST_STEPS: u32 = 64;
+
 /// The way from the root of a tree to a tree inside it: at each tree the number of the next one, counted
 /// from 0, and 0 below an alternative and below a label. A contract sees the list of the numbers.
 #[derive(Drop)]
@@ -18,7 +21,6 @@ impl Model for Path {
 
     ghost view = { λ p. p.numbers.items };
 
-    // no more than there are nodes inside one another
     ghost invariant = { λ p. length p.numbers.items ≤ 64 };
 }
 
@@ -34,7 +36,7 @@ impl Path {
 
     /// Goes on to the tree with this number.
     pub(crate) fn push(&mut self, number: u32) -> Result<(), NoMemory>
-        requires { length self.old < 64 }
+        requires { length self.old < MOST_STEPS }
         ensures ok { OnOk result (self.new ≡ self.old ++ number ∷ []) }
         ensures err { OnErr result (self.new ≡ self.old) }
     {
@@ -47,7 +49,7 @@ impl Path {
     /// How many steps the path has.
     pub fn len(&self) -> u32
         ensures count { result ≡ length self.now }
-        ensures within { result ≤ 64 }
+        ensures within { result ≤ MOST_STEPS }
     {
         self.numbers.len() as u32
     }

@@ -1,7 +1,7 @@
 -- The keys of a node at an octet position: the words that bits of it begin with, of at most `most` bits. A
 -- key is whole where it is all of some bits of the node, and cut where these may go on or are not looked
 -- at. (This project's own choice.)
-use Rattle.std.specs.Prelude.{◌≡◌, ℕ, suc, ◌+◌, ◌*◌, ◌%◌, ◌<◌, ◌≤◌, Bool, true, false, List, [], ◌∷◌, ◌++◌, length, take, slice_get, Some}
+use Rattle.std.specs.Prelude.{◌≡◌, ℕ, suc, ◌+◌, ◌*◌, ◌%◌, ◌<◌, ◌≤◌, ◌⊎◌, Bool, true, false, List, [], ◌∷◌, ◌++◌, length, take, slice_get, Some}
 use Rattle.csn_bits.specs.Octets.{IsBits}
 use Rattle.csn_desc.specs.declared.symbol.Symbol.{Symbol}
 use Rattle.csn_desc.specs.declared.symbol.Symbol.TheVariants.{Low}
@@ -131,7 +131,10 @@ module _ (d : DescV) (most : ℕ) where
   abbrev pub HasEmptyKey : ℕ → Type 0
   HasEmptyKey i = (o : ℕ) × (o < 8) × (mark : Bool) × InKeys i o [] mark
 
-  -- node i is firm: its bits show themselves by a bit at least
-  pub record IsFirm (i : ℕ) : Type 0 where
-    pub not_nullable : ¬ Nullable d i
-    pub no_empty_key : ¬ HasEmptyKey i
+  -- node i is not firm: it may have no bits, or none of its bits is looked at
+  abbrev pub IsNotFirm : ℕ → Type 0
+  IsNotFirm i = Nullable d i ⊎ HasEmptyKey i
+
+  -- node i is firm: it is not nullable, and no key of it is empty
+  abbrev pub IsFirm : ℕ → Type 0
+  IsFirm i = ¬ IsNotFirm i

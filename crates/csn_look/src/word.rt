@@ -39,7 +39,7 @@ impl Word {
     /// Adds a bit at the end.
     pub fn push(&mut self, bit: u8)
         requires bit { bit ≤ 1 }
-        requires room { length self.old < 12 }
+        requires room { length self.old < MOST_WORD }
         ensures { self.new ≡ self.old ++ bit ∷ [] }
     {
         self.bits.push(bit);
@@ -48,7 +48,7 @@ impl Word {
     /// How many bits there are.
     pub fn len(&self) -> u8
         ensures count { result ≡ length self.now }
-        ensures within { result ≤ 12 }
+        ensures within { result ≤ MOST_WORD }
         ensures bits { IsBits self.now }
     {
         self.bits.len() as u8
