@@ -1,8 +1,9 @@
 ghost use Rattle.std.specs.Prelude.{◌≡◌, ℕ, ◌≤◌, List, Option, Some, IfOk, vec_len};
 ghost use Rattle.csn_io.specs.Faults.{Rose};
 ghost use Rattle.csn_io.specs.ShelfFault.{OnMissing, OnFailed, UnlessFailed, BeginsFile, LacksFile};
+ghost use Rattle.csn_io.specs.declared.shelf.ShelfFault.TheVariants.{NoMemory};
 
-use std::alloc::Global;
+use std::alloc::{AllocError, Global};
 
 /// Why a shelf gave no file.
 #[derive(Clone, Copy, Debug, PartialEq, Eq)]
@@ -50,4 +51,12 @@ pub trait Shelf {
         ensures steady_stays { steady self.old → steady self.new }
         ensures steady_count { steady self.old → faults self.new ≡ faults self.old }
         ensures steady_not_failed { OnFailed result (steady self.old → ⊥) };
+}
+
+impl From<AllocError> for ShelfFault {
+    ghost from_gives = { λ _ fault. fault ≡ NoMemory };
+
+    fn from(_: AllocError) -> ShelfFault {
+        ShelfFault::NoMemory
+    }
 }

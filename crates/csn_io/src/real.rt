@@ -1,0 +1,8 @@
+//! Forms of the outside over files, readers and writers. They tell nothing of content.
+mod shelf;
+mod sink;
+mod source;
+
+pub use shelf::DirShelf;
+pub use sink::StdSink;
+pub use source::StdSource;

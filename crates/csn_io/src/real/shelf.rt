@@ -1,0 +1,63 @@
+ghost use Rattle.std.specs.Prelude.{◌≡◌, ◌≤◌, None, IfOk, vec_len};
+ghost use Rattle.csn_io.specs.Faults.{name_of};
+
+use crate::faults::NamedFaults;
+use crate::shelf::{Shelf, ShelfFault};
+use std::alloc::Global;
+use std::fs;
+use std::io::{self, ErrorKind, Read};
+use std::rt::Files;
+
+/// A shelf of the files of the system, where a name is a path.
+#[derive(Drop)]
+pub struct DirShelf<'a, R> {
+    rt: &'a R,
+    faults: NamedFaults,
+}
+
+impl<'a, R: Files> DirShelf<'a, R> {
+    /// It takes no memory.
+    pub fn new(rt: &'a R) -> DirShelf<'a, R>
+        ensures files { ⟦<DirShelf<'a, R> as Shelf>⟧.files result ≡ None }
+        ensures faults { ⟦<DirShelf<'a, R> as Shelf>⟧.faults result ≡ 0 }
+        ensures last_fault { ⟦<DirShelf<'a, R> as Shelf>⟧.last_fault result ≡ None }
+    {
+        DirShelf {
+            rt,
+            faults: NamedFaults::none(),
+        }
+    }
+}
+
+impl<'a, R: Files> Shelf for DirShelf<'a, R> {
+    ghost files = { λ _. None };
+
+    ghost faults = { λ s. s.faults.count };
+
+    ghost last_fault = { λ s. name_of s.faults.last };
+
+    ghost steady = { λ _. ⊥ };
+
+    fn fetch(&mut self, alloc: Global, name: &str, most: u32) -> Result<Vec<u8>, ShelfFault> {
+        match read_front(self.rt, alloc, name, most) {
+            Ok(file) => Ok(file),
+            Err(error) if error.kind() == ErrorKind::OutOfMemory => Err(ShelfFault::NoMemory),
+            Err(_) => {
+                self.faults.rise(alloc, name)?;
+                Err(ShelfFault::Failed)
+            }
+        }
+    }
+}
+
+/// The first `most` bytes of a file, or all.
+fn read_front<R: Files>(rt: &R, alloc: Global, name: &str, most: u32) -> io::Result<Vec<u8>>
+    ensures { IfOk result (λ front. vec_len front ≤ most) }
+{
+    let mut front = Vec::new(alloc);
+    let file = fs::open(rt, name)?;
+    file.take(u64::from(most)).read_to_end(&mut front)?;
+    // No clause of a reader's `take` says that it keeps to its limit.
+    front.truncate(most as usize);
+    Ok(front)
+}

@@ -1,0 +1,57 @@
+ghost use Rattle.std.specs.Prelude.{◌≡◌, None};
+
+use crate::faults::Faults;
+use crate::sink::{Put, Sink};
+use std::io::Write;
+
+/// A sink over a writer, as standard output.
+#[derive(Drop)]
+pub struct StdSink<W> {
+    writer: W,
+    faults: Faults,
+}
+
+impl<W: Write> StdSink<W> {
+    /// It takes no memory.
+    pub fn new(writer: W) -> StdSink<W>
+        ensures taken { ⟦<StdSink<W> as Sink>⟧.taken result ≡ None }
+        ensures flushed { ⟦<StdSink<W> as Sink>⟧.flushed result ≡ None }
+        ensures faults { ⟦<StdSink<W> as Sink>⟧.faults result ≡ 0 }
+    {
+        StdSink {
+            writer,
+            faults: Faults::none(),
+        }
+    }
+}
+
+impl<W: Write> Sink for StdSink<W> {
+    ghost taken = { λ _. None };
+
+    ghost flushed = { λ _. None };
+
+    ghost faults = { λ s. s.faults };
+
+    ghost steady = { λ _. ⊥ };
+
+    /// A write that takes nothing of the piece is a fault.
+    fn put(&mut self, piece: &[u8]) -> Put {
+        match self.writer.write(piece) {
+            Ok(n) if n > 0 => Put::Took(n),
+            _ => {
+                self.faults.rise();
+                Put::Failed
+            }
+        }
+    }
+
+    fn flush(&mut self) -> Put {
+        match self.writer.flush() {
+            Ok(()) => Put::Took(0),
+            Err(_) => {
+                self.faults.rise();
+                Put::Failed
+            }
+        }
+    }
+}

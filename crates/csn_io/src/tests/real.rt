@@ -1,0 +1,69 @@
+use crate::{DirShelf, Got, Put, Shelf, ShelfFault, Sink, Source, StdSink, StdSource};
+use std::io::{self, ErrorKind, Read, Write};
+use std::test::Fail;
+
+/// Moves one byte in a call, but for its second call, which fails, its third, which moves none,
+/// and its later calls, which do the same as the third.
+#[derive(Drop)]
+struct Faltering {
+    calls: u8,
+}
+
+impl Faltering {
+    fn next(&mut self) -> io::Result<usize> {
+        self.calls = self.calls.saturating_add(1);
+        match self.calls {
+            1 => Ok(1),
+            2 => Err(io::Error::from(ErrorKind::BrokenPipe)),
+            _ => Ok(0),
+        }
+    }
+}
+
+impl Read for Faltering {
+    fn read(&mut self, buf: &mut [u8]) -> io::Result<usize> {
+        let moved = self.next()?;
+        Ok(moved.min(buf.len()))
+    }
+}
+
+impl Write for Faltering {
+    fn write(&mut self, buf: &[u8]) -> io::Result<usize> {
+        let moved = self.next()?;
+        Ok(moved.min(buf.len()))
+    }
+
+    fn flush(&mut self) -> io::Result<()> {
+        self.next()?;
+        Ok(())
+    }
+}
+
+#[test]
+fn a_reader_fails_in_mid_stream(rt: HostRuntime) {
+    let mut source = StdSource::new(Faltering { calls: 0 });
+    let mut room = [0; 8];
+    assert_eq!(rt; source.take(&mut room), Got::Bytes(1));
+    assert_eq!(rt; source.take(&mut room), Got::Failed);
+    assert_eq!(rt; source.take(&mut room), Got::End);
+}
+
+#[test]
+fn a_writer_fails_in_mid_stream(rt: HostRuntime) {
+    let mut sink = StdSink::new(Faltering { calls: 0 });
+    assert_eq!(rt; sink.put(b"ok"), Put::Took(1));
+    assert_eq!(rt; sink.flush(), Put::Failed);
+    assert_eq!(rt; sink.put(b"k"), Put::Failed, "nothing was taken");
+    assert_eq!(rt; sink.flush(), Put::Took(0));
+}
+
+#[test]
+fn a_file_is_read_no_further_than_asked(rt: HostRuntime) -> Result<(), Fail> {
+    let mut shelf = DirShelf::new(&rt);
+    let file = shelf.fetch(rt.alloc(), "/dev/zero", 5)?;
+    assert_eq!(rt; file.as_slice(), [0, 0, 0, 0, 0].as_slice());
+    assert_eq!(rt; shelf.fetch(rt.alloc(), "/dev/null", 5)?.len(), 0);
+    let fault = shelf.fetch(rt.alloc(), "no such file", 5).err();
+    assert_eq!(rt; fault, Some(ShelfFault::Failed));
+    Ok(())
+}
