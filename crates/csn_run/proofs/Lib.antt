@@ -1,3 +1,4 @@
 pub mod LinesLemmas
 pub mod OutsideLemmas
+pub mod ProgressLemmas
 pub mod Words

@@ -1,5 +1,5 @@
 -- The lines of an input, and the text that answers them. They are this project's own choice.
-use Rattle.std.specs.Prelude.{◌≡◌, ◌≢◌, ℕ, ◌<◌, ◌==◌, Bool, if◌then◌else◌, ◌||◌, nat_lt, List, [], ◌∷◌, ◌++◌, length, map, filter, codes, nat_eq}
+use Rattle.std.specs.Prelude.{◌≡◌, ◌≢◌, ℕ, ◌<◌, ◌==◌, Bool, if◌then◌else◌, ◌||◌, nat_lt, ◌-◌, slice_index, take, List, [], ◌∷◌, ◌++◌, length, map, filter, codes, nat_eq}
 use Rattle.std.specs.List.{AllZip, AllByRecursion, flat_map, list_any, starts_with}
 
 -- a byte before the first of some lines
@@ -19,9 +19,7 @@ HasNoFeed bytes = AllByRecursion (λ c. c ≢ 10) bytes
 
 -- a line without one carriage return, 13, at its end
 abbrev pub without_return : List ℕ → List ℕ
-without_return [] = []
-without_return (c ∷ []) = if c == 13 then [] else c ∷ []
-without_return (c ∷ d ∷ rest) = c ∷ without_return (d ∷ rest)
+without_return line = if slice_index line (length line - 1) == 13 then take (length line - 1) line else line
 
 -- the lines among some pieces that have an answer, as they are answered: each without its carriage
 -- return, and no empty one

@@ -8,7 +8,5 @@ mod lines;
 mod output;
 mod show;
 mod small;
-mod top;
 
 pub use ended::Ended;
-pub use top::run;

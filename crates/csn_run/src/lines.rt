@@ -1,15 +1,15 @@
 //! The lines of an input, each answered as soon as its line feed was taken.
 
-ghost use Rattle.std.specs.Prelude.{◌≡◌, ◌+◌, ◌≤◌, length, vec_len, OnOk};
+ghost use Rattle.std.specs.Prelude.{◌≡◌, ◌≤◌, ◌<◌, ◌+◌, ◌||◌, [], ◌∷◌, ◌++◌, List, ℕ, length, vec_len, OnOk, OnErr, IfOk};
 ghost use Rattle.csn_run.specs.declared.lines.TheConstants.{MOST_INPUT};
+ghost use Rattle.csn_run.specs.Lines.{HasNoFeed, without_return, is_refusal};
+ghost use Rattle.csn_run.specs.Progress.{AddsAnswers, Advances, Halts};
 
 use crate::fault::Fault;
 use crate::output::pass_on;
-use crate::show::answer;
-use crate::small::Thing;
 use csn_io::{Got, Sink, Source};
 use memchr::memchr;
-use std::alloc::Global;
+use std::alloc::{AllocError, Global};
 
 /// The most bytes that an input may have.
 pub const MOST_INPUT: usize = 16_777_216;
@@ -17,20 +17,24 @@ pub const MOST_INPUT: usize = 16_777_216;
 /// The most bytes that are asked for at once.
 const PIECE: usize = 4096;
 
-/// What stands between the input and the output of a job over lines.
-#[derive(Drop)]
-pub struct Lines {
-    /// What was taken of the line that has not ended.
-    line: Vec<u8>,
-    /// The answers that the sink has not taken.
-    pub pending: Vec<u8>,
-    /// Whether some line was refused.
-    pub refused: bool,
+/// A command that answers each line of the input.
+pub trait LineCommand {
+    /// What may answer a line.
+    ghost answers: { Self → List ℕ → List ℕ → Type 0 };
+
+    /// Writes the answer to a line, without a line feed, and tells whether it refuses the line.
+    fn answer(&self, alloc: Global, line: &[u8], out: &mut Vec<u8>) -> Result<bool, AllocError>
+        requires some { 0 < length line.now }
+        requires fits { length line.now ≤ MOST_INPUT }
+        ensures ok { IfOk result (λ refused. (answer : List ℕ) × (out.new.items ≡ out.old.items ++ answer)
+            × answers self.now line.now answer × (refused ≡ is_refusal answer)) }
+        ensures err { OnErr result ((tail : List ℕ) × (out.new.items ≡ out.old.items ++ tail)) };
 }
 
 /// A line without the carriage return at its end.
-fn without_return(line: &[u8]) -> &[u8]
-    ensures { length result.now ≤ length line.now }
+fn strip_return(line: &[u8]) -> &[u8]
+    ensures value { result.now ≡ without_return line.now }
+    ensures fits { length result.now ≤ length line.now }
 {
     match line {
         [front @ .., b'\r'] => front,
@@ -38,89 +42,45 @@ fn without_return(line: &[u8]) -> &[u8]
     }
 }
 
-/// Writes the output line of a line, and tells whether the line was refused. An empty line has none.
-fn answer_line(
+/// Writes an answer and a line feed.
+fn answer_with_feed<C: LineCommand>(
+    command: &C,
     alloc: Global,
-    things: &[Thing],
     line: &[u8],
     out: &mut Vec<u8>,
-) -> Result<bool, Fault>
-    requires { length line.now ≤ MOST_INPUT }
+) -> Result<bool, AllocError>
+    requires some { 0 < length line.now }
+    requires fits { length line.now ≤ MOST_INPUT }
+    ensures ok { IfOk result (λ refused. (answer : List ℕ) × (out.new.items ≡ out.old.items ++ (answer ++ 10 ∷ []))
+        × C.answers command.now line.now answer × (refused ≡ is_refusal answer)) }
+    ensures err { OnErr result ((tail : List ℕ) × (out.new.items ≡ out.old.items ++ tail)) }
 {
-    let line = without_return(line);
-    if line.is_empty() {
-        return Ok(false);
-    }
-    let ok = answer(alloc, things, line, out)?;
-    out.extend_from_slice(b"\n")?;
-    Ok(!ok)
+    let refused = command.answer(alloc, line, out)?;
+    out.push(b'\n')?;
+    Ok(refused)
 }
 
-impl Lines {
-    pub fn new(alloc: Global) -> Lines
-        ensures { vec_len result.line ≡ 0 }
-    {
-        Lines {
-            line: Vec::new(alloc),
-            pending: Vec::new(alloc),
-            refused: false,
-        }
+/// Writes the output line of a line, and tells whether the line was refused. An empty line has none.
+fn answer_line<C: LineCommand>(
+    command: &C,
+    alloc: Global,
+    line: &[u8],
+    out: &mut Vec<u8>,
+) -> Result<bool, AllocError>
+    requires { length line.now ≤ MOST_INPUT }
+    ensures ok { IfOk result (AddsAnswers (C.answers command.now) (line.now ∷ []) out.old.items out.new.items) }
+    ensures err { OnErr result (out.new.items ≡ out.old.items) }
+{
+    let line = strip_return(line);
+    if line.len() == 0 {
+        return Ok(false);
     }
-
-    /// Answers the line that ends here.
-    fn end_line(&mut self, alloc: Global, things: &[Thing]) -> Result<(), Fault>
-        requires { vec_len self.old.line ≤ MOST_INPUT }
-        ensures { OnOk result (vec_len self.new.line ≡ 0) }
-    {
-        if answer_line(alloc, things, &self.line, &mut self.pending)? {
-            self.refused = true;
+    let start = out.len();
+    match answer_with_feed(command, alloc, line, out) {
+        Ok(refused) => Ok(refused),
+        Err(error) => {
+            out.truncate(start);
+            Err(error)
         }
-        self.line.clear();
-        Ok(())
-    }
-
-    /// Takes the next bytes, and answers each line whose line feed is among them.
-    fn take(&mut self, alloc: Global, things: &[Thing], piece: &[u8]) -> Result<(), Fault>
-        requires { vec_len self.old.line + length piece.now ≤ MOST_INPUT }
-        ensures { OnOk result (vec_len self.new.line ≤ vec_len self.old.line + length piece.now) }
-    {
-        let mut rest = piece;
-        while let Some(end) = memchr(b'\n', rest) {
-            let (front, back) = rest.split_at(end);
-            self.line.extend_from_slice(front)?;
-            self.end_line(alloc, things)?;
-            rest = &back[1..];
-        }
-        self.line.extend_from_slice(rest)?;
-        Ok(())
-    }
-
-    /// Answers all lines of the input. The sink has taken the answers to a piece before the next
-    /// one is asked for; the answer to a last line without a line feed is left pending.
-    pub fn answer_all<S: Source, K: Sink>(
-        &mut self,
-        alloc: Global,
-        things: &[Thing],
-        input: &mut S,
-        out: &mut K,
-    ) -> Result<(), Fault>
-        requires { vec_len self.old.line ≡ 0 }
-    {
-        let mut piece = [0u8; PIECE];
-        let mut room = MOST_INPUT + 1;
-        while room > 0 {
-            let most = room.min(PIECE);
-            match input.take(&mut piece[..most]) {
-                Got::Bytes(n) => {
-                    room -= n;
-                    let within = if room == 0 { n - 1 } else { n };
-                    self.take(alloc, things, &piece[..within])?;
-                    pass_on(&mut self.pending, out)?;
-                }
-                Got::End => return self.end_line(alloc, things),
-                Got::Failed => return Err(Fault::Read),
-            }
-        }
-        Err(Fault::TooLong)
     }
 }
