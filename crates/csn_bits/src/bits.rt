@@ -1,12 +1,14 @@
-ghost use Rattle.std.specs.Prelude.{◌≡◌, [], length};
+ghost use Rattle.std.specs.Prelude.{◌≡◌, ◌≢◌, ◌+◌, ◌*◌, ◌<◌, ◌≤◌, ◌↔◌, [], ◌∷◌, ◌++◌, length, slice_index, take, ◌⊎◌, IfOk, IfErr, OnOk, OnErr, IsErrOf, vec_len};
+ghost use Rattle.csn_bits.specs.Octets.{IsBits, IsPacked, bits_of_octets, octets_of};
 
+use crate::fault::{BitsFault, NoMemory};
 use std::alloc::Global;
 use std::marker::Model;
 
 /// The most bits that a block has: 65,536 octets.
 pub const MOST_BITS: u32 = 524_288;
 
-/// A string of bits. A contract sees the list of them, each 0 or 1.
+/// A string of bits. A contract sees the list of them, each 0 or 1, at most 524,288.
 #[derive(Drop)]
 pub struct Bits {
     octets: Vec<u8>,
@@ -14,14 +16,14 @@ pub struct Bits {
 }
 
 impl Model for Bits {
-    ghost use Rattle.std.specs.Prelude.{List, ℕ, ◌≡◌, ◌*◌, ◌≤◌, take, length};
-    ghost use Rattle.csn_bits.specs.Octets.{bits_of_octets};
+    ghost use Rattle.std.specs.Prelude.{List, ℕ, take};
+    ghost use Rattle.csn_bits.specs.Octets.{bits_of_octets, IsPacked};
 
     ghost Value = { List ℕ };
 
     ghost view = { λ b. take b.len (bits_of_octets b.octets.items) };
 
-    ghost invariant = { λ b. b.len ≤ 524288 };
+    ghost invariant = { λ b. IsPacked b.octets.items b.len };
 }
 
 impl Bits {
@@ -33,5 +35,88 @@ impl Bits {
             octets: Vec::new(alloc),
             len: 0,
         }
+    }
+
+    /// How many bits there are.
+    pub fn len(&self) -> u32
+        ensures count { result ≡ length self.now }
+        ensures within { result ≤ MOST_BITS }
+        ensures bits { IsBits self.now }
+    {
+        self.len
+    }
+
+    /// The bit at a place, counted from 0.
+    pub fn get(&self, at: u32) -> u8
+        requires { at < length self.now }
+        ensures value { result ≡ slice_index self.now at }
+        ensures bit { result ≤ 1 }
+    {
+        let octet = self.octets[(at / 8) as usize];
+        (octet >> (7 - at % 8)) % 2
+    }
+
+    /// Adds a bit at the end. After an error the bits are as they were.
+    pub fn push(&mut self, bit: u8) -> Result<(), BitsFault>
+        requires { bit ≤ 1 }
+        ensures ok { OnOk result (self.new ≡ self.old ++ bit ∷ []) }
+        ensures full { IsErrOf result BitsFault.TooManyBits ↔ (length self.old ≡ MOST_BITS) }
+        ensures only { IfErr result (λ e. (e ≡ BitsFault.TooManyBits) ⊎ (e ≡ BitsFault.NoMemory)) }
+        ensures err { OnErr result (self.new ≡ self.old) }
+    {
+        if self.len == MOST_BITS {
+            return Err(BitsFault::TooManyBits);
+        }
+        let used = self.len % 8;
+        if used == 0 {
+            self.octets.push(128 * bit)?;
+        } else {
+            let last = (self.len / 8) as usize;
+            self.octets[last] += bit << (7 - used);
+        }
+        self.len += 1;
+        Ok(())
+    }
+
+    /// The first `bits` bits of some octets, of each octet the most significant one first.
+    pub fn from_octets(alloc: Global, octets: &[u8], bits: u32) -> Result<Bits, BitsFault>
+        requires { bits ≤ 8 * length octets.now }
+        ensures ok { IfOk result (λ b. b ≡ take bits (bits_of_octets octets.now)) }
+        ensures many { IsErrOf result BitsFault.TooManyBits ↔ (MOST_BITS < bits) }
+        ensures only { IfErr result (λ e. (e ≡ BitsFault.TooManyBits) ⊎ (e ≡ BitsFault.NoMemory)) }
+    {
+        if bits > MOST_BITS {
+            return Err(BitsFault::TooManyBits);
+        }
+        let whole = (bits / 8) as usize;
+        let used = bits % 8;
+        if used == 0 {
+            let octets = Vec::from_slice(alloc, &octets[..whole])?;
+            return Ok(Bits { octets, len: bits });
+        }
+        let mut packed = Vec::from_slice(alloc, &octets[..whole + 1])?;
+        packed[whole] = packed[whole] >> (8 - used) << (8 - used);
+        Ok(Bits {
+            octets: packed,
+            len: bits,
+        })
+    }
+
+    /// The same bits once more.
+    pub fn copy(&self, alloc: Global) -> Result<Bits, NoMemory>
+        ensures { IfOk result (λ b. b ≡ self.now) }
+    {
+        Ok(Bits {
+            octets: Vec::from_slice(alloc, &self.octets)?,
+            len: self.len,
+        })
+    }
+
+    /// The octets that hold the bits, eight to an octet, the first bit of each octet its most
+    /// significant one. In the last octet what is unused is 0.
+    pub fn octets(&self) -> &[u8]
+        ensures { result.now ≡ octets_of self.now }
+    {
+        &self.octets
     }
 }

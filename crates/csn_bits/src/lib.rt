@@ -2,5 +2,9 @@
 #![tactic(auto)]
 
 mod bits;
+mod fault;
+mod pattern;
 
 pub use bits::{Bits, MOST_BITS};
+pub use fault::{BitsFault, NoMemory};
+pub use pattern::pattern_bit;
