@@ -1,0 +1,4 @@
+pub mod Label
+pub mod TreeV
+pub mod TreeCode
+pub mod ShapeView

@@ -1,0 +1,81 @@
+ghost use Rattle.std.specs.Prelude.{◌≡◌, ◌↔◌, IsTrue, IfOk, OnOk};
+ghost use Rattle.csn_desc.specs.Label.{IsLabel, is_label};
+ghost use Rattle.csn_lexer.specs.Word.{is_word};
+
+use csn_bits::NoMemory;
+use csn_lexer::is_word;
+use std::alloc::Global;
+use std::marker::Model;
+use thiserror::Error;
+
+/// The name of a rule or of a labelled part: words with one space between. A contract sees its bytes.
+#[derive(Drop)]
+pub struct Label {
+    bytes: Vec<u8>,
+}
+
+impl Model for Label {
+    ghost use Rattle.std.specs.Prelude.{List, ℕ};
+    ghost use Rattle.csn_desc.specs.Label.{IsLabel};
+
+    ghost Value = { List ℕ };
+
+    ghost view = { λ l. l.bytes.items };
+
+    ghost invariant = { λ l. IsLabel l.bytes.items };
+}
+
+/// Why there is no label of some bytes.
+#[derive(Clone, Copy, Debug, PartialEq, Eq, Hash, Error)]
+pub enum LabelFault {
+    #[error("a label is words with one space between")]
+    BadLabel,
+    #[error("out of memory")]
+    NoMemory,
+}
+
+impl Label {
+    /// The label that these bytes spell.
+    pub fn new(alloc: Global, words: &[u8]) -> Result<Label, LabelFault>
+        ensures ok { IfOk result (λ label. label ≡ words.now) }
+        ensures valid { OnOk result (IsLabel words.now) }
+        ensures bad { (result ≡ Err LabelFault.BadLabel) ↔ (¬ IsLabel words.now) }
+    {
+        if !is_label(words) {
+            return Err(LabelFault::BadLabel);
+        }
+        match Vec::from_slice(alloc, words) {
+            Ok(bytes) => Ok(Label { bytes }),
+            Err(_) => Err(LabelFault::NoMemory),
+        }
+    }
+
+    /// The bytes as they are written.
+    pub fn bytes(&self) -> &[u8]
+        ensures value { result.now ≡ self.now }
+        ensures label { IsLabel result.now }
+    {
+        self.bytes.as_slice()
+    }
+
+    /// The same label again.
+    pub fn copy(&self, alloc: Global) -> Result<Label, NoMemory>
+        ensures { IfOk result (λ label. label ≡ self.now) }
+    {
+        match Vec::from_slice(alloc, self.bytes.as_slice()) {
+            Ok(bytes) => Ok(Label { bytes }),
+            Err(_) => Err(NoMemory),
+        }
+    }
+}
+
+/// Whether the bytes are words with one space between.
+pub fn is_label(bytes: &[u8]) -> bool
+    ensures { result ≡ is_label bytes.now }
+{
+    bytes.split(|byte: &u8| *byte == b' ').all(
+        |word: &[u8]| -> bool
+            ensures { result ≡ is_word word.now }
+        { is_word(word) },
+    )
+}

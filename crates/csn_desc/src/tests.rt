@@ -1,0 +1,53 @@
+use super::*;
+use std::test::Fail;
+
+#[test]
+fn labels_are_words_with_one_space_between(rt: HostRuntime) -> Result<(), Fail> {
+    let cases: [(&[u8], bool); 7] = [
+        (b"PAGE_MODE", true),
+        (b"GPRS Cell Options", true),
+        (b"C_VALUE, 3'7.b-1/2", true),
+        (b"", false),
+        (b"  ", false),
+        (b"a  b", false),
+        (b"a ", false),
+    ];
+    for (bytes, valid) in cases {
+        let label = Label::new(rt.alloc(), bytes);
+        match label {
+            Ok(label) => {
+                assert!(rt; valid, "{bytes:?}");
+                assert_eq!(rt; label.bytes(), bytes);
+                let copy = label.copy(rt.alloc()).map_err(|_| "out of memory")?;
+                assert_eq!(rt; copy.bytes(), bytes);
+            }
+            Err(fault) => {
+                assert!(rt; !valid, "{bytes:?}");
+                assert_eq!(rt; fault, LabelFault::BadLabel);
+            }
+        }
+    }
+    Ok(())
+}
+
+#[test]
+fn a_run_holds_its_symbols(rt: HostRuntime) -> Result<(), Fail> {
+    let mut run = Run::new(rt.alloc());
+    run.push(Symbol::High).map_err(|_| "out of memory")?;
+    assert_eq!(rt; run.len(), 1);
+    assert_eq!(rt; run.get(0), Symbol::High);
+    Ok(())
+}
+
+#[test]
+fn rows_hold_their_trees(rt: HostRuntime) -> Result<(), Fail> {
+    let mut rows = Rows::new(rt.alloc());
+    let given = rows.push(Tree {
+        shape: Shape::Empty,
+    });
+    assert!(rt; given.is_ok());
+    assert_eq!(rt; rows.len(), 1);
+    let first = rows.get(0);
+    assert!(rt; matches!(first.shape, Shape::Empty));
+    Ok(())
+}
