@@ -1,6 +1,6 @@
 -- Lines, and the text that answers them.
-use Rattle.std.proofs.Common.{◌≡◌, ◌≢◌, ℕ, ◌<◌, Bool, true, false, cond, eqb, ◌||◌, List, [], ◌∷◌, ◌++◌, length, refl, sym, ◌∙◌, ap, arith, map, ltb}
-use Rattle.std.proofs.lemmas.List.{map-append}
+use Rattle.std.proofs.Common.{◌≡◌, ◌≢◌, ℕ, suc, ◌+◌, ◌<◌, add-one, get_or, take, drop, drop-cons, Bool, true, false, cond, eqb, ◌||◌, List, [], ◌∷◌, ◌++◌, length, refl, sym, ◌∙◌, ap, arith, map, ltb}
+use Rattle.std.proofs.lemmas.List.{map-append, take-append-drop}
 use Rattle.std.proofs.lemmas.List.Elements.{filter-append}
 use Rattle.std.specs.List.{AllByRecursion, AllZip, filter}
 use Rattle.csn_run.specs.Lines.{begin_first, between_feeds, HasNoFeed, without_return, answered, text_of}
@@ -52,3 +52,14 @@ AllZip-append R [] us [] vs h k = k
 AllZip-append R [] us (y ∷ ys) vs h k = absurd h
 AllZip-append R (x ∷ xs) us [] vs h k = absurd h
 AllZip-append R (x ∷ xs) us (y ∷ ys) vs h k = (h.0, AllZip-append R xs us ys vs h.1 k)
+
+-- bytes of which none is a line feed, place by place
+pub HasNoFeed-from_places : (bytes : List ℕ) → ((k : ℕ) → k < length bytes → get_or bytes k 0 ≡ 10 → ⊥) → HasNoFeed bytes
+HasNoFeed-from_places [] h = tt
+HasNoFeed-from_places (c ∷ bytes) h =
+    (λ is. h 0 (omega arith) is, HasNoFeed-from_places bytes (λ k less is. h (suc k) (omega arith) is))
+
+-- what stands before the first line feed, the line feed, and what stands behind it
+pub split_at : (bytes : List ℕ) (k : ℕ) → k < length bytes → get_or bytes k 0 ≡ 10 → bytes ≡ take k bytes ++ 10 ∷ drop (k + 1) bytes
+split_at bytes k h is =
+    sym (take-append-drop k bytes) ∙ ap (λ rest. take k bytes ++ rest) (drop-cons bytes k 0 h ∙ ap (λ c. c ∷ drop (suc k) bytes) is ∙ ap (λ j. 10 ∷ drop j bytes) (sym (add-one k)))

@@ -3,6 +3,7 @@ use Rattle.std.proofs.Common.{◌≡◌, ℕ, ◌<◌, Bool, true, false, cond, 
 use Rattle.std.proofs.lemmas.List.{append-nil}
 use Rattle.std.proofs.lemmas.Grind.{flat_map-append}
 use Rattle.std.proofs.lemmas.List.Folds.{list_any-append}
+use Rattle.std.proofs.Math.Bool.{or_assoc}
 use Rattle.std.specs.List.{AllZip, list_any, flat_map}
 use Rattle.csn_run.specs.Lines.{between_feeds, HasNoFeed, without_return, answered, text_of, is_refusal}
 use Rattle.csn_run.specs.Progress.{Answers, AddsAnswers, EndsIn, Advances, Halts}
@@ -48,3 +49,91 @@ adds_more Answer p q old mid new r s a b = record {
     };
     new_is = b.new_is ∙ ap (λ t. t ++ b.text) a.new_is ∙ append_assoc old a.text b.text;
   }
+
+-- a job that stood at a line has gone through the front of a piece, and `rest` is left of it
+pub record SoFar (Answer : List ℕ → List ℕ → Type 0) (line piece rest new_line old new : List ℕ) (was_refused is_refused : Bool) : Type 0 where
+  pub front : List ℕ
+  pub refused : Bool
+  pub split : piece ≡ front ++ rest
+  pub advances : Advances Answer (line ++ front) new_line old new refused
+  pub refused_is : is_refused ≡ (was_refused || refused)
+
+-- nothing of the piece is done yet
+pub so_far_none : (Answer : List ℕ → List ℕ → Type 0) (line piece old : List ℕ) (r : Bool) → HasNoFeed line → SoFar Answer line piece piece line old old r r
+so_far_none Answer line piece old r h = record {
+    front = [];
+    refused = false;
+    split = refl;
+    advances = record {
+      ended = [];
+      ends = record { whole = λ more. ap (λ l. between_feeds (l ++ more)) (append-nil line); unended = h };
+      adds = adds_none Answer old;
+    };
+    refused_is = sym (or_false r);
+  }
+
+-- a line is answered
+pub so_far_line : (Answer : List ℕ → List ℕ → Type 0) (line piece rest here front back old mid new : List ℕ) (w r s t : Bool) → SoFar Answer line piece rest here old mid w r → rest ≡ front ++ 10 ∷ back → HasNoFeed front → AddsAnswers Answer ((here ++ front) ∷ []) mid new s → t ≡ (r || s) → SoFar Answer line piece back [] old new w t
+so_far_line Answer line piece rest here front back old mid new w r s t so is h adds refusal =
+    let one : between_feeds (here ++ front) ≡ (here ++ front) ∷ [] = between_feeds-one (here ++ front) (HasNoFeed-append here front so.advances.ends.unended h) in
+    record {
+      front = so.front ++ (front ++ 10 ∷ []);
+      refused = so.refused || s;
+      split = so.split ∙ ap (λ l. so.front ++ l) is ∙ simp append_assoc;
+      advances = record {
+        ended = so.advances.ended ++ (here ++ front) ∷ [];
+        ends = record {
+          whole = λ more.
+            ap between_feeds (regroup line so.front front more)
+            ∙ so.advances.ends.whole (front ++ 10 ∷ more)
+            ∙ ap (λ l. so.advances.ended ++ between_feeds l) (sym (append_assoc here front (10 ∷ more)))
+            ∙ ap (λ l. so.advances.ended ++ l) (between_feeds-append (here ++ front) more ∙ ap (λ l. l ++ between_feeds more) one)
+            ∙ sym (append_assoc so.advances.ended ((here ++ front) ∷ []) (between_feeds more));
+          unended = tt;
+        };
+        adds = adds_more Answer _ _ _ _ _ _ _ so.advances.adds adds;
+      };
+      refused_is = refusal ∙ ap (λ b. b || s) so.refused_is ∙ or_assoc w so.refused s;
+    }
+  where
+    regroup : (a b c d : List ℕ) → (a ++ (b ++ (c ++ 10 ∷ []))) ++ d ≡ (a ++ b) ++ (c ++ 10 ∷ d)
+    regroup a b c d = simp append_assoc
+
+-- what is left of the piece ends no line
+pub so_far_rest : (Answer : List ℕ → List ℕ → Type 0) (line piece rest here old new : List ℕ) (w r : Bool) → SoFar Answer line piece rest here old new w r → HasNoFeed rest → (refused : Bool) × Advances Answer (line ++ piece) (here ++ rest) old new refused × (r ≡ (w || refused))
+so_far_rest Answer line piece rest here old new w r so h = (
+    so.refused,
+    record {
+      ended = so.advances.ended;
+      ends = record {
+        whole = λ more.
+          ap (λ l. between_feeds ((line ++ l) ++ more)) so.split
+          ∙ ap between_feeds (regroup line so.front rest more)
+          ∙ so.advances.ends.whole (rest ++ more)
+          ∙ ap (λ l. so.advances.ended ++ between_feeds l) (sym (append_assoc here rest more));
+        unended = HasNoFeed-append here rest so.advances.ends.unended h;
+      };
+      adds = so.advances.adds;
+    },
+    so.refused_is,
+  )
+  where
+    regroup : (a b c d : List ℕ) → (a ++ (b ++ c)) ++ d ≡ (a ++ b) ++ (c ++ d)
+    regroup a b c d = simp append_assoc
+
+-- the job stops here
+pub so_far_halts : (Answer : List ℕ → List ℕ → Type 0) (line piece rest here old new : List ℕ) (w r : Bool) → SoFar Answer line piece rest here old new w r → Halts Answer (line ++ piece) old new
+so_far_halts Answer line piece rest here old new w r so = record {
+    ended = so.advances.ended;
+    refused = so.refused;
+    begins = λ more. (
+      between_feeds (here ++ (rest ++ more)),
+      ap (λ l. between_feeds ((line ++ l) ++ more)) so.split
+      ∙ ap between_feeds (regroup line so.front rest more)
+      ∙ so.advances.ends.whole (rest ++ more),
+    );
+    adds = so.advances.adds;
+  }
+  where
+    regroup : (a b c d : List ℕ) → (a ++ (b ++ c)) ++ d ≡ (a ++ b) ++ (c ++ d)
+    regroup a b c d = simp append_assoc

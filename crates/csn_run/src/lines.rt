@@ -1,9 +1,10 @@
 //! The lines of an input, each answered as soon as its line feed was taken.
 
-ghost use Rattle.std.specs.Prelude.{◌≡◌, ◌≤◌, ◌<◌, ◌+◌, ◌||◌, [], ◌∷◌, ◌++◌, List, ℕ, length, vec_len, OnOk, OnErr, IfOk};
+ghost use Rattle.std.specs.Prelude.{◌≡◌, ◌≤◌, ◌<◌, ◌+◌, ◌||◌, [], ◌∷◌, ◌++◌, List, ℕ, Bool, length, vec_len, false, OnOk, OnErr, IfOk, IfErr, IfNone, IfSome};
+ghost use Rattle.csn_io.specs.Faults.{Rose};
 ghost use Rattle.csn_run.specs.declared.lines.TheConstants.{MOST_INPUT};
 ghost use Rattle.csn_run.specs.Lines.{HasNoFeed, without_return, is_refusal};
-ghost use Rattle.csn_run.specs.Progress.{AddsAnswers, Advances, Halts};
+ghost use Rattle.csn_run.specs.Progress.{AddsAnswers, Advances, Halts, AnswersAll, Stops};
 
 use crate::fault::Fault;
 use crate::output::pass_on;
@@ -40,6 +41,15 @@ fn strip_return(line: &[u8]) -> &[u8]
         [front @ .., b'\r'] => front,
         _ => line,
     }
+}
+
+/// The bytes before the first line feed, and those behind it.
+fn split_at_feed(bytes: &[u8]) -> Option<(&[u8], &[u8])>
+    ensures none { IfNone result (HasNoFeed bytes.now) }
+    ensures some { IfSome result (λ parts. (bytes.now ≡ parts.0.now ++ 10 ∷ parts.1.now) × HasNoFeed parts.0.now) }
+{
+    let end = memchr(b'\n', bytes)?;
+    Some((&bytes[..end], &bytes[end + 1..]))
 }
 
 /// Writes an answer and a line feed.
@@ -82,5 +92,72 @@ fn answer_line<C: LineCommand>(
             out.truncate(start);
             Err(error)
         }
+    }
+}
+
+/// What stands between the input and the output of a job over lines.
+#[derive(Drop)]
+pub struct Lines {
+    /// What was taken of the line that has not ended.
+    line: Vec<u8>,
+    /// The answers that the sink has not taken.
+    pub pending: Vec<u8>,
+    /// Whether some line was refused.
+    pub refused: bool,
+}
+
+impl Lines {
+    pub fn new(alloc: Global) -> Lines
+        ensures line { result.line.items ≡ [] }
+        ensures pending { result.pending.items ≡ [] }
+        ensures refused { result.refused ≡ false }
+    {
+        Lines {
+            line: Vec::new(alloc),
+            pending: Vec::new(alloc),
+            refused: false,
+        }
+    }
+
+    /// Answers the line that ends here.
+    fn end_line<C: LineCommand>(&mut self, command: &C, alloc: Global) -> Result<(), AllocError>
+        requires { length self.old.line.items ≤ MOST_INPUT }
+        ensures ok { OnOk result ((refused : Bool)
+            × AddsAnswers (C.answers command.now) (self.old.line.items ∷ []) self.old.pending.items self.new.pending.items refused
+            × (self.new.refused ≡ (self.old.refused || refused))) }
+        ensures line { OnOk result (self.new.line.items ≡ []) }
+        ensures err { OnErr result (self.new.pending.items ≡ self.old.pending.items) }
+    {
+        let refused = answer_line(command, alloc, &self.line, &mut self.pending)?;
+        self.refused = self.refused || refused;
+        self.line.clear();
+        Ok(())
+    }
+
+    /// Takes the next bytes, and answers each line whose line feed is among them.
+    fn take<C: LineCommand>(
+        &mut self,
+        command: &C,
+        alloc: Global,
+        piece: &[u8],
+    ) -> Result<(), AllocError>
+        requires fits { length self.old.line.items + length piece.now ≤ MOST_INPUT }
+        requires unended { HasNoFeed self.old.line.items }
+        ensures ok { OnOk result ((refused : Bool)
+            × Advances (C.answers command.now) (self.old.line.items ++ piece.now) self.new.line.items
+                self.old.pending.items self.new.pending.items refused
+            × (self.new.refused ≡ (self.old.refused || refused))) }
+        ensures fits { OnOk result (length self.new.line.items ≤ length self.old.line.items + length piece.now) }
+        ensures err { OnErr result (Halts (C.answers command.now) (self.old.line.items ++ piece.now)
+            self.old.pending.items self.new.pending.items) }
+    {
+        let mut rest = piece;
+        while let Some((front, back)) = split_at_feed(rest) {
+            self.line.extend_from_slice(front)?;
+            self.end_line(command, alloc)?;
+            rest = back;
+        }
+        self.line.extend_from_slice(rest)?;
+        Ok(())
     }
 }
