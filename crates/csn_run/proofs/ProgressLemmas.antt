@@ -1,12 +1,14 @@
 -- Jobs over the lines of an input, step after step.
-use Rattle.std.proofs.Common.{◌≡◌, ℕ, ◌<◌, Bool, true, false, cond, ltb, ◌||◌, List, [], ◌∷◌, ◌++◌, length, filter, refl, sym, ◌∙◌, ap, subst, arith, append_assoc}
+use Rattle.std.proofs.Common.{◌≡◌, ℕ, ◌<◌, Bool, true, false, cond, ltb, ◌||◌, Option, Some, None, Result, Ok, Err, OnErr, List, [], ◌∷◌, ◌++◌, length, filter, refl, sym, ◌∙◌, ap, subst, arith, append_assoc}
 use Rattle.std.proofs.lemmas.List.{append-nil}
 use Rattle.std.proofs.lemmas.Grind.{flat_map-append}
 use Rattle.std.proofs.lemmas.List.Folds.{list_any-append}
 use Rattle.std.proofs.Math.Bool.{or_assoc}
 use Rattle.std.specs.List.{AllZip, list_any, flat_map}
+use Rattle.csn_io.specs.Got.{Gave, NothingLeft}
+use Rattle.csn_io.specs.Put.{Appended}
 use Rattle.csn_run.specs.Lines.{between_feeds, HasNoFeed, without_return, answered, text_of, is_refusal}
-use Rattle.csn_run.specs.Progress.{Answers, AddsAnswers, EndsIn, Advances, Halts}
+use Rattle.csn_run.specs.Progress.{Answers, AddsAnswers, EndsIn, Advances, Halts, PassesOn, HaltsAt, AnswersAll, StopsAfter, StopsWithin, Stops}
 use Rattle.csn_run.proofs.LinesLemmas.{between_feeds-append, between_feeds-one, HasNoFeed-append, answered-append, AllZip-append}
 
 or_false : (b : Bool) → (b || false) ≡ b
@@ -137,3 +139,28 @@ so_far_halts Answer line piece rest here old new w r so = record {
   where
     regroup : (a b c d : List ℕ) → (a ++ (b ++ c)) ++ d ≡ (a ++ b) ++ (c ++ d)
     regroup a b c d = simp append_assoc
+
+-- a fact holds where the answer is an error
+pub OnErr-from : {T E P : Type 0} (r : Result T E) → P → OnErr r P
+OnErr-from (Ok x) p = tt
+OnErr-from (Err e) p = p
+
+-- a job that went through the bytes can stop there
+pub halts_from_advances : (Answer : List ℕ → List ℕ → Type 0) (bytes line old new : List ℕ) (refused : Bool) → Advances Answer bytes line old new refused → Halts Answer bytes old new
+halts_from_advances Answer bytes line old new refused a = record {
+    ended = a.ended;
+    refused = refused;
+    begins = λ more. (between_feeds (line ++ more), a.ends.whole more);
+    adds = a.adds;
+  }
+
+-- a job went through the bytes, and the sink took a part of the answers
+pub pass_halts : (Answer : List ℕ → List ℕ → Type 0) (bytes line old new front rest waits : List ℕ) (taken taken' : Option (List ℕ)) (refused : Bool) → old ≡ [] → Advances Answer bytes line old new refused → new ≡ front ++ rest → Appended taken taken' front → waits ≡ [] → HaltsAt Answer bytes taken taken' waits
+pass_halts Answer bytes line old new front rest waits taken taken' refused nothing a split sink none = record {
+    text = new;
+    took = front;
+    rest = rest;
+    halts = subst (λ (l : List ℕ). Halts Answer bytes l new) nothing (halts_from_advances Answer bytes line old new refused a);
+    sink = sink;
+    text_begins = split ∙ ap (λ l. l ++ rest) (sym (append-nil front) ∙ ap (λ l. front ++ l) (sym none));
+  }

@@ -1,5 +1,5 @@
 -- How far a job over the lines of an input has come.
-use Rattle.std.specs.Prelude.{◌≡◌, ℕ, ◌+◌, ◌≤◌, Bool, List, ◌++◌, length, take, Option}
+use Rattle.std.specs.Prelude.{◌≡◌, ℕ, ◌+◌, ◌≤◌, Bool, ◌||◌, List, [], ◌++◌, length, take, Option}
 use Rattle.std.specs.List.{AllZip, list_any}
 use Rattle.csn_io.specs.Got.{Gave, NothingLeft}
 use Rattle.csn_io.specs.Put.{Appended}
@@ -39,6 +39,25 @@ pub record Halts (Answer : List ℕ → List ℕ → Type 0) (bytes old new : Li
   pub refused : Bool
   pub begins : (more : List ℕ) → (behind : List (List ℕ)) × (between_feeds (bytes ++ more) ≡ ended ++ behind)
   pub adds : AddsAnswers Answer ended old new refused
+
+-- a job went through the bytes, and the sink took all that answers the pieces which a line feed ends
+-- in them
+pub record PassesOn (Answer : List ℕ → List ℕ → Type 0) (bytes line : List ℕ) (taken taken' : Option (List ℕ)) (was_refused is_refused : Bool) : Type 0 where
+  pub text : List ℕ
+  pub refused : Bool
+  pub advances : Advances Answer bytes line [] text refused
+  pub sink : Appended taken taken' text
+  pub refused_is : is_refused ≡ (was_refused || refused)
+
+-- a job stopped on the way through the bytes: what the sink took, with what waits for it, begins the
+-- answers to some of the first pieces
+pub record HaltsAt (Answer : List ℕ → List ℕ → Type 0) (bytes : List ℕ) (taken taken' : Option (List ℕ)) (waits : List ℕ) : Type 0 where
+  pub text : List ℕ
+  pub took : List ℕ
+  pub rest : List ℕ
+  pub halts : Halts Answer bytes [] text
+  pub sink : Appended taken taken' took
+  pub text_begins : text ≡ (took ++ waits) ++ rest
 
 -- all lines of an input are answered: what the source gave until nothing was left, `gave`, is the
 -- whole input, and what the sink took, with what waits for it, is the text that answers it

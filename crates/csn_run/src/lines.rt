@@ -1,10 +1,12 @@
 //! The lines of an input, each answered as soon as its line feed was taken.
 
-ghost use Rattle.std.specs.Prelude.{◌≡◌, ◌≤◌, ◌<◌, ◌+◌, ◌||◌, [], ◌∷◌, ◌++◌, List, ℕ, Bool, length, vec_len, false, OnOk, OnErr, IfOk, IfErr, IfNone, IfSome};
+ghost use Rattle.std.specs.Prelude.{◌≡◌, ◌≤◌, ◌<◌, ◌+◌, ◌⊎◌, ◌||◌, [], ◌∷◌, ◌++◌, List, ℕ, Bool, length, take, false, OnOk, OnErr, IfOk, IfErr, IfNone, IfSome};
 ghost use Rattle.csn_io.specs.Faults.{Rose};
+ghost use Rattle.csn_io.specs.Got.{IfBytes, OnEnd, OnFailed, UnlessBytes, Gave, NothingLeft};
+ghost use Rattle.csn_io.specs.Put.{Appended};
 ghost use Rattle.csn_run.specs.declared.lines.TheConstants.{MOST_INPUT};
 ghost use Rattle.csn_run.specs.Lines.{HasNoFeed, without_return, is_refusal};
-ghost use Rattle.csn_run.specs.Progress.{AddsAnswers, Advances, Halts, AnswersAll, Stops};
+ghost use Rattle.csn_run.specs.Progress.{AddsAnswers, Advances, Halts, PassesOn, HaltsAt, AnswersAll, Stops};
 
 use crate::fault::Fault;
 use crate::output::pass_on;
@@ -95,6 +97,23 @@ fn answer_line<C: LineCommand>(
     }
 }
 
+/// Asks a source for at most so many bytes.
+fn take_piece<S: Source>(input: &mut S, buffer: &mut [u8], room: usize) -> Got
+    requires buffer { 0 < length buffer.old }
+    requires room { 0 < room }
+    ensures gave { IfBytes result (λ n. Gave (S.left input.old) (S.left input.new) (take n buffer.new)) }
+    ensures at_least_one { IfBytes result (λ n. 0 < n) }
+    ensures within { IfBytes result (λ n. n ≤ length buffer.new) }
+    ensures room { IfBytes result (λ n. n ≤ room) }
+    ensures end { OnEnd result (NothingLeft (S.left input.old)) }
+    ensures left_stays { UnlessBytes result (S.left input.new ≡ S.left input.old) }
+    ensures failed { OnFailed result (Rose (S.faults input.old) (S.faults input.new)) }
+    ensures never_falls { S.faults input.old ≤ S.faults input.new }
+{
+    let most = room.min(buffer.len());
+    input.take(&mut buffer[..most])
+}
+
 /// What stands between the input and the output of a job over lines.
 #[derive(Drop)]
 pub struct Lines {
@@ -159,5 +178,32 @@ impl Lines {
         }
         self.line.extend_from_slice(rest)?;
         Ok(())
+    }
+
+    /// Takes the next bytes, and hands the answers to the sink.
+    fn pass_piece<C: LineCommand, K: Sink>(
+        &mut self,
+        command: &C,
+        alloc: Global,
+        piece: &[u8],
+        out: &mut K,
+    ) -> Result<(), Fault>
+        requires fits { length self.old.line.items + length piece.now ≤ MOST_INPUT }
+        requires unended { HasNoFeed self.old.line.items }
+        requires pending { self.old.pending.items ≡ [] }
+        ensures ok { OnOk result (PassesOn (C.answers command.now) (self.old.line.items ++ piece.now) self.new.line.items
+            (K.taken out.old) (K.taken out.new) self.old.refused self.new.refused) }
+        ensures pending { OnOk result (self.new.pending.items ≡ []) }
+        ensures fits { OnOk result (length self.new.line.items ≤ length self.old.line.items + length piece.now) }
+        ensures err { OnErr result (HaltsAt (C.answers command.now) (self.old.line.items ++ piece.now)
+            (K.taken out.old) (K.taken out.new) self.new.pending.items) }
+        ensures causes { IfErr result (λ fault. (fault ≡ Fault.Write) ⊎ (fault ≡ Fault.Memory)) }
+        ensures write { result ≡ Err Fault.Write → Rose (K.faults out.old) (K.faults out.new) }
+        ensures never_falls { K.faults out.old ≤ K.faults out.new }
+    {
+        match self.take(command, alloc, piece) {
+            Ok(()) => pass_on(&mut self.pending, out),
+            Err(AllocError) => Err(Fault::Memory),
+        }
     }
 }
