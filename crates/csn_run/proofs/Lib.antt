@@ -1,4 +1,5 @@
 pub mod LinesLemmas
 pub mod OutsideLemmas
 pub mod ProgressLemmas
+pub mod StandingLemmas
 pub mod Words

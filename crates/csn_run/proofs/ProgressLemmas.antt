@@ -1,5 +1,5 @@
 -- Jobs over the lines of an input, step after step.
-use Rattle.std.proofs.Common.{◌≡◌, ℕ, ◌<◌, Bool, true, false, cond, ltb, ◌||◌, Option, Some, None, Result, Ok, Err, OnErr, List, [], ◌∷◌, ◌++◌, length, filter, refl, sym, ◌∙◌, ap, subst, arith, append_assoc}
+use Rattle.std.proofs.Common.{◌≡◌, ℕ, ◌+◌, ◌<◌, ◌≤◌, lit<, take, Bool, true, false, cond, ltb, ◌||◌, Option, Some, None, Result, Ok, Err, OnErr, List, [], ◌∷◌, ◌++◌, length, filter, refl, sym, ◌∙◌, ap, subst, arith, append_assoc}
 use Rattle.std.proofs.lemmas.List.{append-nil}
 use Rattle.std.proofs.lemmas.Grind.{flat_map-append}
 use Rattle.std.proofs.lemmas.List.Folds.{list_any-append}
@@ -7,6 +7,8 @@ use Rattle.std.proofs.Math.Bool.{or_assoc}
 use Rattle.std.specs.List.{AllZip, list_any, flat_map}
 use Rattle.csn_io.specs.Got.{Gave, NothingLeft}
 use Rattle.csn_io.specs.Put.{Appended}
+use Rattle.csn_run.specs.declared.lines.TheConstants.{MOST_INPUT}
+use Rattle.csn_run.proofs.OutsideLemmas.{Appended-nil, Appended-trans, Gave-nil, Gave-trans}
 use Rattle.csn_run.specs.Lines.{between_feeds, HasNoFeed, without_return, answered, text_of, is_refusal}
 use Rattle.csn_run.specs.Progress.{Answers, AddsAnswers, EndsIn, Advances, Halts, PassesOn, HaltsAt, AnswersAll, StopsAfter, StopsWithin, Stops}
 use Rattle.csn_run.proofs.LinesLemmas.{between_feeds-append, between_feeds-one, HasNoFeed-append, answered-append, AllZip-append}
@@ -164,3 +166,53 @@ pass_halts Answer bytes line old new front rest waits taken taken' refused nothi
     sink = sink;
     text_begins = split ∙ ap (λ l. l ++ rest) (sym (append-nil front) ∙ ap (λ l. front ++ l) (sym none));
   }
+
+-- between two pieces of the input: what the source gave so far, what the sink took, and the line that
+-- has not ended. There is room for one byte at least
+pub record Standing (Answer : List ℕ → List ℕ → Type 0) (left left' : Option (List ℕ)) (taken taken' : Option (List ℕ)) (line waits : List ℕ) (refused : Bool) (room : ℕ) : Type 0 where
+  pub given : List ℕ
+  pub took : List ℕ
+  pub source : Gave left left' given
+  pub sink : Appended taken taken' took
+  pub advances : Advances Answer given line [] took refused
+  pub none_waits : waits ≡ []
+  pub some_room : 0 < room
+  pub room_is : length given + room ≡ MOST_INPUT + 1
+  pub fits : length line ≤ length given
+
+-- before the first piece
+pub standing_begin : (Answer : List ℕ → List ℕ → Type 0) (left taken : Option (List ℕ)) (line waits : List ℕ) (refused : Bool) → line ≡ [] → waits ≡ [] → refused ≡ false → Standing Answer left left taken taken line waits refused (MOST_INPUT + 1)
+standing_begin Answer left taken line waits refused none_line none not_refused = record {
+    given = [];
+    took = [];
+    source = Gave-nil left;
+    sink = Appended-nil taken;
+    advances = record {
+      ended = [];
+      ends = record { whole = λ more. ap (λ (l : List ℕ). between_feeds (l ++ more)) (sym none_line); unended = subst HasNoFeed (sym none_line) tt };
+      adds = subst (λ r. AddsAnswers Answer [] [] [] r) (sym not_refused) (adds_none Answer []);
+    };
+    none_waits = none;
+    some_room = lit< tt;
+    room_is = refl;
+    fits = rw none_line (omega arith);
+  }
+
+-- a job goes through one piece more
+pub advances_more : (Answer : List ℕ → List ℕ → Type 0) (given piece line new_line took text : List ℕ) (r s : Bool) → Advances Answer given line [] took r → Advances Answer (line ++ piece) new_line [] text s → Advances Answer (given ++ piece) new_line [] (took ++ text) (r || s)
+advances_more Answer given piece line new_line took text r s a b = record {
+    ended = a.ended ++ b.ended;
+    ends = record {
+      whole = λ more.
+        ap between_feeds (append_assoc given piece more)
+        ∙ a.ends.whole (piece ++ more)
+        ∙ ap (λ l. a.ended ++ between_feeds l) (sym (append_assoc line piece more))
+        ∙ ap (λ l. a.ended ++ l) (b.ends.whole more)
+        ∙ sym (append_assoc a.ended b.ended (between_feeds (new_line ++ more)));
+      unended = b.ends.unended;
+    };
+    adds = adds_more Answer a.ended b.ended [] took (took ++ text) r s a.adds (shift b.adds);
+  }
+  where
+    shift : AddsAnswers Answer b.ended [] text s → AddsAnswers Answer b.ended took (took ++ text) s
+    shift c = record { text = c.text; answers = c.answers; new_is = ap (λ l. took ++ l) c.new_is }

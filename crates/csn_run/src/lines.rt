@@ -206,4 +206,46 @@ impl Lines {
             Err(AllocError) => Err(Fault::Memory),
         }
     }
+
+    /// Answers all lines of the input. The sink has taken the answers to a piece before the next
+    /// piece is asked for; the answer to a last line without a line feed is left pending.
+    pub fn answer_all<C: LineCommand, S: Source, K: Sink>(
+        &mut self,
+        command: &C,
+        alloc: Global,
+        input: &mut S,
+        out: &mut K,
+    ) -> Result<(), Fault>
+        requires line { self.old.line.items ≡ [] }
+        requires pending { self.old.pending.items ≡ [] }
+        requires refused { self.old.refused ≡ false }
+        ensures ok { OnOk result (AnswersAll (C.answers command.now) (S.left input.old) (S.left input.new)
+            (K.taken out.old) (K.taken out.new) self.new.pending.items self.new.refused) }
+        ensures err { IfErr result (λ fault. Stops (C.answers command.now) fault (S.left input.old) (S.left input.new)
+            (K.taken out.old) (K.taken out.new) self.new.pending.items) }
+        ensures read { result ≡ Err Fault.Read → Rose (S.faults input.old) (S.faults input.new) }
+        ensures write { result ≡ Err Fault.Write → Rose (K.faults out.old) (K.faults out.new) }
+        ensures input_never_falls { S.faults input.old ≤ S.faults input.new }
+        ensures out_never_falls { K.faults out.old ≤ K.faults out.new }
+    {
+        let mut buffer = [0u8; PIECE];
+        let mut room = MOST_INPUT + 1;
+        'pieces: loop {
+            match take_piece(input, &mut buffer, room) {
+                Got::Bytes(n) if n == room => {
+                    self.pass_piece(command, alloc, &buffer[..n - 1], out)?;
+                    return Err(Fault::TooLong);
+                }
+                Got::Bytes(n) => {
+                    self.pass_piece(command, alloc, &buffer[..n], out)?;
+                    room -= n;
+                }
+                Got::End => {
+                    self.end_line(command, alloc)?;
+                    return Ok(());
+                }
+                Got::Failed => return Err(Fault::Read),
+            }
+        }
+    }
 }
