@@ -1,5 +1,9 @@
+pub mod Calls
 pub mod Faults
 pub mod Files
 pub mod Got
+pub mod MemShelf
+pub mod MemSink
+pub mod MemSource
 pub mod Put
 pub mod ShelfFault

@@ -11,6 +11,13 @@ OnMissing (Err Missing) P = P
 OnMissing (Err Failed) P = ⊤
 OnMissing (Err NoMemory) P = ⊤
 
+-- the answer is Missing, or this holds
+abbrev pub UnlessMissing : {T : Type 0} → Result T ShelfFault → Type 0 → Type 0
+UnlessMissing (Ok file) P = P
+UnlessMissing (Err Missing) P = ⊤
+UnlessMissing (Err Failed) P = P
+UnlessMissing (Err NoMemory) P = P
+
 -- the answer is Failed only where this holds
 abbrev pub OnFailed : {T : Type 0} → Result T ShelfFault → Type 0 → Type 0
 OnFailed (Ok file) P = ⊤

@@ -1,4 +1,5 @@
-ghost use Rattle.std.specs.Prelude.{◌≡◌, ℕ, ◌≤◌, List, Option, Some, IfOk, vec_len};
+ghost use Rattle.std.specs.Prelude.{◌≡◌, ℕ, ◌≤◌, List, Option, Some, IfOk, Vec, Result, vec_len, ⊤};
+ghost use Rattle.std.specs.declared.alloc.Global.{Global};
 ghost use Rattle.csn_io.specs.Faults.{Rose};
 ghost use Rattle.csn_io.specs.ShelfFault.{OnMissing, OnFailed, UnlessFailed, BeginsFile, LacksFile};
 ghost use Rattle.csn_io.specs.declared.shelf.ShelfFault.TheVariants.{NoMemory};
@@ -17,6 +18,8 @@ pub enum ShelfFault {
 
 /// Files that are fetched by their names.
 pub trait Shelf {
+    ghost use Rattle.csn_io.specs.declared.shelf.ShelfFault.{ShelfFault};
+
     /// The files by their names, for a shelf that tells what it holds.
     ghost files: { Self → Option (List ℕ → Option (List ℕ)) };
 
@@ -28,6 +31,10 @@ pub trait Shelf {
 
     /// No call fails any more.
     ghost steady: { Self → Type 0 };
+
+    /// What a form promises of a call beyond what every shelf does: of itself before the call, the
+    /// name, the answer, and itself afterwards.
+    ghost fetch_gives: { Self → List ℕ → Result (Vec ℕ Global) ShelfFault → Self → Type 0 } = { λ _ _ _ _. ⊤ };
 
     /// The first `most` bytes of the file with this name, or all of them where it has fewer.
     ///
@@ -50,7 +57,9 @@ pub trait Shelf {
 
         ensures steady_stays { steady self.old → steady self.new }
         ensures steady_count { steady self.old → faults self.new ≡ faults self.old }
-        ensures steady_not_failed { OnFailed result (steady self.old → ⊥) };
+        ensures steady_not_failed { OnFailed result (steady self.old → ⊥) }
+
+        ensures gives { fetch_gives self.old name.now result self.new };
 }
 
 impl From<AllocError> for ShelfFault {

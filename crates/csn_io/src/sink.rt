@@ -1,4 +1,4 @@
-ghost use Rattle.std.specs.Prelude.{◌≡◌, ℕ, ◌<◌, ◌≤◌, List, Option, length, take};
+ghost use Rattle.std.specs.Prelude.{◌≡◌, ℕ, ◌<◌, ◌≤◌, List, Option, length, take, ⊤};
 ghost use Rattle.csn_io.specs.Faults.{Rose};
 ghost use Rattle.csn_io.specs.Put.{IfTook, UnlessTook, OnFailed, UnlessFailed, Appended, FlushedAll, KeepsFlushed};
 
@@ -14,6 +14,8 @@ pub enum Put {
 
 /// A place to put bytes in their order.
 pub trait Sink {
+    ghost use Rattle.csn_io.specs.declared.sink.Put.{Put};
+
     /// All bytes that were taken, for a sink that tells them.
     ghost taken: { Self → Option (List ℕ) };
 
@@ -25,6 +27,13 @@ pub trait Sink {
 
     /// No call fails any more.
     ghost steady: { Self → Type 0 };
+
+    /// What a form promises of a put beyond what every sink does: of itself before the call, the
+    /// length of the piece, the answer, and itself afterwards.
+    ghost put_gives: { Self → ℕ → Put → Self → Type 0 } = { λ _ _ _ _. ⊤ };
+
+    /// The same of a flush.
+    ghost flush_gives: { Self → Put → Self → Type 0 } = { λ _ _ _. ⊤ };
 
     /// Takes some bytes from the front of the piece.
     fn put(&mut self, piece: &[u8]) -> Put
@@ -42,7 +51,9 @@ pub trait Sink {
 
         ensures steady_stays { steady self.old → steady self.new }
         ensures steady_count { steady self.old → faults self.new ≡ faults self.old }
-        ensures steady_not_failed { OnFailed result (steady self.old → ⊥) };
+        ensures steady_not_failed { OnFailed result (steady self.old → ⊥) }
+
+        ensures gives { put_gives self.old (length piece.now) result self.new };
 
     /// Hands on what was taken. Whatever it answers, no further byte is taken.
     fn flush(&mut self) -> Put
@@ -58,5 +69,7 @@ pub trait Sink {
 
         ensures steady_stays { steady self.old → steady self.new }
         ensures steady_count { steady self.old → faults self.new ≡ faults self.old }
-        ensures steady_not_failed { OnFailed result (steady self.old → ⊥) };
+        ensures steady_not_failed { OnFailed result (steady self.old → ⊥) }
+
+        ensures gives { flush_gives self.old result self.new };
 }

@@ -1,4 +1,4 @@
-ghost use Rattle.std.specs.Prelude.{◌≡◌, ◌≢◌, ℕ, ◌<◌, ◌≤◌, List, [], Option, Some, length, take};
+ghost use Rattle.std.specs.Prelude.{◌≡◌, ◌≢◌, ℕ, ◌<◌, ◌≤◌, List, [], Option, Some, length, take, ⊤};
 ghost use Rattle.csn_io.specs.Faults.{Rose};
 ghost use Rattle.csn_io.specs.Got.{IfBytes, OnEnd, OnFailed, UnlessBytes, UnlessFailed, Gave, NothingLeft};
 
@@ -15,6 +15,8 @@ pub enum Got {
 
 /// Bytes that are taken in their order.
 pub trait Source {
+    ghost use Rattle.csn_io.specs.declared.source.Got.{Got};
+
     /// The bytes that are left, for a source that tells them.
     ghost left: { Self → Option (List ℕ) };
 
@@ -23,6 +25,10 @@ pub trait Source {
 
     /// No call fails any more.
     ghost steady: { Self → Type 0 };
+
+    /// What a form promises of a call beyond what every source does: of itself before the call, the
+    /// room, the answer, and itself afterwards.
+    ghost take_gives: { Self → ℕ → Got → Self → Type 0 } = { λ _ _ _ _. ⊤ };
 
     /// Moves the next bytes to the front of `into`. What stands there behind them is left open.
     fn take(&mut self, into: &mut [u8]) -> Got
@@ -43,5 +49,7 @@ pub trait Source {
 
         ensures steady_stays { steady self.old → steady self.new }
         ensures steady_count { steady self.old → faults self.new ≡ faults self.old }
-        ensures steady_not_failed { OnFailed result (steady self.old → ⊥) };
+        ensures steady_not_failed { OnFailed result (steady self.old → ⊥) }
+
+        ensures gives { take_gives self.old (length into.old) result self.new };
 }

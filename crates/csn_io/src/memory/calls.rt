@@ -1,4 +1,4 @@
-ghost use Rattle.std.specs.Prelude.{◌≡◌, ◌+◌, ◌-◌, ◌^◌, ◌↔◌, min, IsTrue, Contains};
+ghost use Rattle.std.specs.Prelude.{◌≡◌, ◌^◌, ◌≤◌, ◌↔◌, false, IsTrue};
 
 /// Counts calls from 0, and knows which of them are to fail.
 #[derive(Drop)]
@@ -8,8 +8,10 @@ pub struct Calls {
 }
 
 impl Calls {
+    ghost use Rattle.csn_io.specs.Calls.{IsPlanned, IsDue, after_call};
+
     pub fn new(failing: Vec<u32>) -> Calls
-        ensures { result ≡ record { made = 0; failing = failing } }
+        ensures { IsPlanned result failing.items }
     {
         Calls { made: 0, failing }
     }
@@ -17,8 +19,9 @@ impl Calls {
     /// Counts the next call, and tells whether it is to fail. A call past the greatest u32 has no
     /// number that could be listed.
     pub fn next_fails(&mut self) -> bool
-        ensures listed { IsTrue result ↔ Contains self.old.failing.items self.old.made }
-        ensures counted { self.new ≡ record self.old { made = min (self.old.made + 1) (2 ^ 64 - 1) } }
+        ensures due { IsTrue result ↔ IsDue self.old }
+        ensures counted { self.new ≡ after_call self.old }
+        ensures past_u32 { 2 ^ 32 ≤ self.old.made → result ≡ false }
     {
         let number = self.made;
         self.made = number.saturating_add(1);

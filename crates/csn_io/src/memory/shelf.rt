@@ -17,12 +17,15 @@ pub struct MemShelf {
 }
 
 impl MemShelf {
+    ghost use Rattle.csn_io.specs.MemShelf.{Plans};
+
     /// The calls whose numbers, counted from 0, are in `failing` fail, but for those that ask for
     /// a name that is not held. It takes no memory.
     pub fn new(files: BTreeMap<String, Vec<u8>>, failing: Vec<u32>) -> MemShelf
         ensures files { ⟦<MemShelf as Shelf>⟧.files result ≡ Some (file_of files) }
         ensures faults { ⟦<MemShelf as Shelf>⟧.faults result ≡ 0 }
         ensures last_fault { ⟦<MemShelf as Shelf>⟧.last_fault result ≡ None }
+        ensures plan { Plans result failing.items }
         ensures steady { failing.items ≡ [] → ⟦<MemShelf as Shelf>⟧.steady result }
     {
         MemShelf {
@@ -34,6 +37,8 @@ impl MemShelf {
 }
 
 impl Shelf for MemShelf {
+    ghost use Rattle.csn_io.specs.MemShelf.{FetchesAsPlanned};
+
     ghost files = { λ s. Some (file_of s.files) };
 
     ghost faults = { λ s. s.faults.count };
@@ -41,6 +46,8 @@ impl Shelf for MemShelf {
     ghost last_fault = { λ s. name_of s.faults.last };
 
     ghost steady = { λ s. s.calls.failing.items ≡ [] };
+
+    ghost fetch_gives = { FetchesAsPlanned };
 
     fn fetch(&mut self, alloc: Global, name: &str, most: u32) -> Result<Vec<u8>, ShelfFault> {
         let fails = self.calls.next_fails();

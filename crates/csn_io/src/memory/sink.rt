@@ -18,6 +18,8 @@ pub struct MemSink {
 }
 
 impl MemSink {
+    ghost use Rattle.csn_io.specs.MemSink.{Plans};
+
     /// Takes at most `most` bytes in a call. The calls whose numbers are in `failing` fail, where
     /// `put` and `flush` are counted together from 0. It takes no memory.
     pub fn new(alloc: Global, most: u32, failing: Vec<u32>) -> MemSink
@@ -25,6 +27,7 @@ impl MemSink {
         ensures taken { ⟦<MemSink as Sink>⟧.taken result ≡ Some [] }
         ensures flushed { ⟦<MemSink as Sink>⟧.flushed result ≡ Some 0 }
         ensures faults { ⟦<MemSink as Sink>⟧.faults result ≡ 0 }
+        ensures plan { Plans result most failing.items }
         ensures steady { failing.items ≡ [] → ⟦<MemSink as Sink>⟧.steady result }
     {
         MemSink {
@@ -45,6 +48,8 @@ impl MemSink {
 }
 
 impl Sink for MemSink {
+    ghost use Rattle.csn_io.specs.MemSink.{AnswersAsPlanned, PutsAsPlanned};
+
     ghost taken = { λ s. Some s.taken.items };
 
     ghost flushed = { λ s. Some s.flushed };
@@ -52,6 +57,10 @@ impl Sink for MemSink {
     ghost faults = { λ s. s.faults };
 
     ghost steady = { λ s. s.calls.failing.items ≡ [] };
+
+    ghost put_gives = { PutsAsPlanned };
+
+    ghost flush_gives = { AnswersAsPlanned };
 
     fn put(&mut self, piece: &[u8]) -> Put {
         if self.calls.next_fails() {

@@ -16,12 +16,15 @@ pub struct MemSource {
 }
 
 impl MemSource {
+    ghost use Rattle.csn_io.specs.MemSource.{Plans};
+
     /// Gives at most `most` bytes in a call. The calls whose numbers, counted from 0, are in
     /// `failing` fail. It takes no memory.
     pub fn new(bytes: Vec<u8>, most: u32, failing: Vec<u32>) -> MemSource
         requires { 1 ≤ most }
         ensures left { ⟦<MemSource as Source>⟧.left result ≡ Some bytes.items }
         ensures faults { ⟦<MemSource as Source>⟧.faults result ≡ 0 }
+        ensures plan { Plans result most failing.items }
         ensures steady { failing.items ≡ [] → ⟦<MemSource as Source>⟧.steady result }
     {
         MemSource {
@@ -34,11 +37,15 @@ impl MemSource {
 }
 
 impl Source for MemSource {
+    ghost use Rattle.csn_io.specs.MemSource.{TakesAsPlanned};
+
     ghost left = { λ s. Some s.unread };
 
     ghost faults = { λ s. s.faults };
 
     ghost steady = { λ s. s.calls.failing.items ≡ [] };
+
+    ghost take_gives = { TakesAsPlanned };
 
     fn take(&mut self, into: &mut [u8]) -> Got {
         if self.calls.next_fails() {
