@@ -8,5 +8,8 @@ mod lines;
 mod output;
 mod show;
 mod small;
+mod text;
+mod top;
 
 pub use ended::Ended;
+pub use top::run;
