@@ -1,5 +1,5 @@
 -- Calls that are planned to fail, of the forms in memory: each has the numbers of such calls, counted
--- from 0. (This project's own choice.)
+-- from 0. The numbers have 32 bits, so a later call does not fail. (This project's own choice.)
 use Rattle.std.specs.Prelude.{◌≡◌, ℕ, ◌+◌, ◌-◌, ◌^◌, min, List, Contains}
 use Rattle.csn_io.specs.declared.memory.calls.Calls.{Calls}
 

@@ -1,5 +1,5 @@
 -- A shelf in memory, call by call. (This project's own choice.)
-use Rattle.std.specs.Prelude.{◌≡◌, ℕ, List, None, Result, Vec, OnOk}
+use Rattle.std.specs.Prelude.{◌≡◌, ℕ, ◌^◌, ◌<◌, List, None, Result, Vec, OnOk}
 use Rattle.std.specs.declared.alloc.Global.{Global}
 use Rattle.csn_io.specs.declared.memory.shelf.MemShelf.{MemShelf}
 use Rattle.csn_io.specs.declared.shelf.ShelfFault.{ShelfFault}
@@ -16,5 +16,6 @@ Plans shelf failing = IsPlanned shelf.calls failing
 pub record FetchesAsPlanned (old : MemShelf) (name : List ℕ) (fetched : Result (Vec ℕ Global) ShelfFault) (new : MemShelf) : Type 0 where
   pub held : UnlessMissing fetched (file_of old.files name ≡ None → ⊥)
   pub due : OnFailed fetched (IsDue old.calls)
+  pub in_range : OnFailed fetched (old.calls.made < 2 ^ 32)
   pub not_due : OnOk fetched (IsDue old.calls → ⊥)
   pub counted : new.calls ≡ after_call old.calls

@@ -1,5 +1,5 @@
 -- A sink in memory, call by call. (This project's own choice.)
-use Rattle.std.specs.Prelude.{◌≡◌, ℕ, List, min}
+use Rattle.std.specs.Prelude.{◌≡◌, ℕ, ◌^◌, ◌<◌, List, min}
 use Rattle.csn_io.specs.declared.memory.sink.MemSink.{MemSink}
 use Rattle.csn_io.specs.declared.sink.Put.{Put}
 use Rattle.csn_io.specs.Put.{IfTook, OnFailed, UnlessFailed}
@@ -12,6 +12,7 @@ Plans sink most failing = (sink.most ≡ most) × IsPlanned sink.calls failing
 -- one call, be it a put or a flush
 pub record AnswersAsPlanned (old : MemSink) (put : Put) (new : MemSink) : Type 0 where
   pub due : OnFailed put (IsDue old.calls)
+  pub in_range : OnFailed put (old.calls.made < 2 ^ 32)
   pub not_due : UnlessFailed put (IsDue old.calls → ⊥)
   pub counted : new.calls ≡ after_call old.calls
   pub most : new.most ≡ old.most

@@ -1,4 +1,4 @@
-ghost use Rattle.std.specs.Prelude.{◌≡◌, ◌^◌, ◌≤◌, ◌↔◌, false, IsTrue};
+ghost use Rattle.std.specs.Prelude.{◌≡◌, ◌^◌, ◌<◌, ◌↔◌, IsTrue};
 
 /// Counts calls from 0, and knows which of them are to fail.
 #[derive(Drop)]
@@ -16,12 +16,11 @@ impl Calls {
         Calls { made: 0, failing }
     }
 
-    /// Counts the next call, and tells whether it is to fail. A call past the greatest u32 has no
-    /// number that could be listed.
+    /// Counts the next call, and tells whether it is to fail.
     pub fn next_fails(&mut self) -> bool
         ensures due { IsTrue result ↔ IsDue self.old }
         ensures counted { self.new ≡ after_call self.old }
-        ensures past_u32 { 2 ^ 32 ≤ self.old.made → result ≡ false }
+        ensures in_range { IsTrue result → self.old.made < 2 ^ 32 }
     {
         let number = self.made;
         self.made = number.saturating_add(1);
