@@ -2,3 +2,11 @@ pub mod Label
 pub mod TreeV
 pub mod TreeCode
 pub mod ShapeView
+pub mod Nodes
+pub mod Spelled
+pub mod Values
+pub mod Means
+pub mod Follows
+pub mod Walks
+pub mod Formed
+pub mod Laws

@@ -1,15 +1,25 @@
 //! What a description is made of, and the trees that its blocks have.
 #![tactic(auto)]
 
+mod desc;
 mod label;
+pub mod laws;
+mod moves;
+mod node;
+mod parts;
+mod reading;
 mod run;
 mod symbol;
+#[cfg(test)]
+mod tests;
 mod tree;
 
+pub use desc::{Desc, MOST_NODES};
 pub use label::{Label, LabelFault, is_label};
+pub use moves::Move;
+pub use node::{Count, Head, Node};
+pub use parts::Parts;
+pub use reading::Reading;
 pub use run::{MOST_SYMBOLS, Run};
 pub use symbol::Symbol;
 pub use tree::{MOST_TREES, Rows, Shape, Tree};
-
-#[cfg(test)]
-mod tests;

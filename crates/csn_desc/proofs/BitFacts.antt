@@ -1,0 +1,34 @@
+-- Zeros and ones.
+use Rattle.std.proofs.Common.{◌≡◌, ℕ, suc, ◌≤◌, List, [], ◌∷◌, ◌++◌, length, sym, arith, subst, lit<}
+use Rattle.std.specs.Prelude.{replicate}
+use Rattle.csn_bits.specs.Octets.{IsBits, bits_of_octet, pattern, octet_position}
+use Rattle.csn_bits.proofs.Packing.{IsBits-at, IsBits-bits_of_octet}
+use Rattle.csn_desc.specs.declared.reading.Reading.{Reading}
+use Rattle.csn_desc.specs.declared.reading.Reading.TheVariants.{Received, Sent}
+use Rattle.csn_desc.specs.declared.symbol.Symbol.{Symbol}
+use Rattle.csn_desc.specs.declared.symbol.Symbol.TheVariants.{Zero, One, Low, High}
+use Rattle.csn_desc.specs.Spelled.{symbol_bit, spelled, IsSpare}
+
+pub IsBits-front : (a b : List ℕ) → IsBits (a ++ b) → IsBits a
+IsBits-front [] b p = tt
+IsBits-front (x ∷ a) b p = (p.0, IsBits-front a b p.1)
+
+pub IsBits-along : {a b : List ℕ} → a ≡ b → IsBits b → IsBits a
+IsBits-along {a} {b} e p = let P : List ℕ → Type 0 = λ l. IsBits l in subst P (sym e) p
+
+pub pattern-le-one : (position : ℕ) → pattern position ≤ 1
+pattern-le-one position = IsBits-at (bits_of_octet 0x2B) position (IsBits-bits_of_octet 0x2B (lit< tt))
+
+pub symbol_bit-le-one : (s : Symbol) (place : ℕ) → symbol_bit s place ≤ 1
+symbol_bit-le-one Zero place = omega arith
+symbol_bit-le-one One place = omega arith
+symbol_bit-le-one Low place = pattern-le-one (octet_position place)
+symbol_bit-le-one High place = omega arith
+
+pub IsBits-spelled : (run : List Symbol) (place : ℕ) → IsBits (spelled run place)
+IsBits-spelled [] place = tt
+IsBits-spelled (s ∷ run) place = (symbol_bit-le-one s place, IsBits-spelled run (suc place))
+
+pub IsBits-spare : (r : Reading) (s : Symbol) (place : ℕ) (b : List ℕ) → IsSpare r s place b → IsBits b
+IsBits-spare Received s place b p = p
+IsBits-spare Sent s place b p = IsBits-along p (IsBits-spelled (replicate (length b) s) place)

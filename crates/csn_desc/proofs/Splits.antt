@@ -1,0 +1,20 @@
+-- Two splits of one list.
+use Rattle.std.proofs.Common.{◌≡◌, List, [], ◌∷◌, ◌++◌, refl, sym, ap, subst}
+
+-- where the first piece of one split ends: inside the first piece of the other, or behind it
+pub data Splits {A : Type 0} (a b c e : List A) : Type 0 where
+  inside : (m : List A) → a ≡ c ++ m → e ≡ m ++ b → Splits a b c e
+  behind : (m : List A) → c ≡ a ++ m → b ≡ m ++ e → Splits a b c e
+
+longer : {A : Type 0} (x : A) {a b c e : List A} → Splits a b c e → Splits (x ∷ a) b (x ∷ c) e
+longer x (inside m p q) = inside m (ap (λ l. x ∷ l) p) q
+longer x (behind m p q) = behind m (ap (λ l. x ∷ l) p) q
+
+pub splits : {A : Type 0} (a b c e : List A) → a ++ b ≡ c ++ e → Splits a b c e
+splits [] b c e p = behind c refl p
+splits (x ∷ a) b [] e p = inside (x ∷ a) refl (sym p)
+splits {A} (x ∷ a) b (y ∷ c) e p =
+    let same : x ≡ y = cc in
+    let rest : a ++ b ≡ c ++ e = cc in
+    let P : A → Type 0 = λ z. Splits (x ∷ a) b (z ∷ c) e in
+    subst P same (longer x (splits a b c e rest))

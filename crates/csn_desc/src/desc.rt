@@ -1,0 +1,67 @@
+ghost use Rattle.std.specs.Prelude.{◌≡◌, ◌<◌, ◌≤◌, length, slice_get};
+ghost use Rattle.csn_desc.specs.Formed.{IsDescription, is_counted};
+
+use crate::node::Node;
+use crate::reading::Reading;
+use std::marker::Model;
+
+/// The most nodes that a description has.
+pub const MOST_NODES: u16 = 16_384;
+
+/// A description in one reading: nodes, numbered from the root on, each part before the next. A contract
+/// sees the reading and the list of nodes.
+#[derive(Drop)]
+pub struct Desc {
+    reading: Reading,
+    nodes: Vec<Node>,
+    // for each node, whether some count stands on it
+    counted: Vec<bool>,
+}
+
+impl Model for Desc {
+    ghost use Rattle.std.specs.Prelude.{List, ◌≡◌};
+    ghost use Rattle.csn_desc.specs.Nodes.{DescV};
+
+    ghost Value = { DescV };
+
+    ghost use Rattle.csn_desc.specs.Formed.{IsDescription, counted_marks};
+
+    ghost view = { λ d. record { reading = d.reading; nodes = d.nodes.items } };
+
+    ghost invariant = { λ d. IsDescription (record { reading = d.reading; nodes = d.nodes.items })
+        × (d.counted.items ≡ counted_marks d.nodes.items) };
+}
+
+impl Desc {
+    /// The reading that the description is in.
+    pub fn reading(&self) -> Reading
+        ensures { result ≡ self.now.reading }
+    {
+        self.reading
+    }
+
+    /// How many nodes there are.
+    pub fn len(&self) -> u16
+        ensures len { result ≡ length self.now.nodes }
+        ensures bound { result ≤ 16384 }
+        ensures description { IsDescription self.now }
+    {
+        self.nodes.len() as u16
+    }
+
+    /// The node with the number `i`; the root is 0.
+    pub fn node(&self, i: u16) -> &Node
+        requires { i < length self.now.nodes }
+        ensures { slice_get self.now.nodes i ≡ Some result.now }
+    {
+        &self.nodes[i as usize]
+    }
+
+    /// Whether some count stands on the field whose label is node `i`.
+    pub fn counts(&self, i: u16) -> bool
+        requires { i < length self.now.nodes }
+        ensures { result ≡ is_counted self.now.nodes i }
+    {
+        self.counted[i as usize]
+    }
+}

@@ -1,0 +1,60 @@
+ghost use Rattle.std.specs.Prelude.{◌≡◌, ◌<◌, ◌≤◌, [], ◌∷◌, ◌++◌, length, slice_get, OnOk, OnErr};
+
+use csn_bits::NoMemory;
+use std::alloc::Global;
+use std::marker::Model;
+
+/// The numbers of the parts of a node, in their order. A contract sees the list of them.
+#[derive(Drop)]
+pub struct Parts {
+    numbers: Vec<u16>,
+}
+
+impl Model for Parts {
+    ghost use Rattle.std.specs.Prelude.{List, ℕ, ◌≤◌, length};
+
+    ghost Value = { List ℕ };
+
+    ghost view = { λ p. p.numbers.items };
+
+    ghost invariant = { λ p. length p.numbers.items ≤ 16384 };
+}
+
+impl Parts {
+    /// No parts. It takes no memory.
+    pub(crate) fn new(alloc: Global) -> Parts
+        ensures { result ≡ [] }
+    {
+        Parts {
+            numbers: Vec::new(alloc),
+        }
+    }
+
+    /// Adds a part at the end.
+    pub(crate) fn push(&mut self, part: u16) -> Result<(), NoMemory>
+        requires { length self.old < 16384 }
+        ensures ok { OnOk result (self.new ≡ self.old ++ part ∷ []) }
+        ensures err { OnErr result (self.new ≡ self.old) }
+    {
+        match self.numbers.push(part) {
+            Ok(()) => Ok(()),
+            Err(_) => Err(NoMemory),
+        }
+    }
+
+    /// How many parts there are.
+    pub fn len(&self) -> u16
+        ensures len { result ≡ length self.now }
+        ensures bound { result ≤ 16384 }
+    {
+        self.numbers.len() as u16
+    }
+
+    /// The number of the part at the place `at`, counted from 0.
+    pub fn get(&self, at: u16) -> u16
+        requires { at < length self.now }
+        ensures { slice_get self.now at ≡ Some result }
+    {
+        self.numbers[at as usize]
+    }
+}
