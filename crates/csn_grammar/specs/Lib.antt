@@ -1,0 +1,4 @@
+pub mod ExprV
+pub mod ExprCode
+pub mod FormView
+pub mod RulesV

@@ -1,0 +1,12 @@
+use csn_desc::Label;
+
+/// How often a part stands, or how many bits a field has.
+#[derive(Drop)]
+pub enum Exponent {
+    /// `**`, `(*)` or `(**)`: any number.
+    Any,
+    /// A number, as written.
+    Number(u32),
+    /// `m * val(label) + c`: a number made of the value of a labelled field.
+    Linear { m: u32, label: Label, c: u32 },
+}

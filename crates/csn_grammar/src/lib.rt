@@ -1,0 +1,12 @@
+//! The grammar of CSN.1 descriptions: the rules of a text, and where a text has none.
+#![tactic(auto)]
+
+mod exponent;
+mod expr;
+mod fault;
+mod rules;
+
+pub use exponent::Exponent;
+pub use expr::{Branch, Branches, Expr, Exprs, Form, Span};
+pub use fault::GrammarFault;
+pub use rules::{Rule, Rules};

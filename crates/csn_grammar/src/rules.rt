@@ -1,0 +1,50 @@
+ghost use Rattle.std.specs.Prelude.{◌≡◌, ◌<◌, ◌≤◌, length, slice_get, Some};
+
+use crate::expr::{Expr, Span};
+use csn_desc::Label;
+use std::marker::Model;
+
+/// A rule: its name, the piece of the text from its `<` to its `;`, and what it says.
+#[derive(Drop)]
+pub struct Rule {
+    pub name: Label,
+    pub span: Span,
+    pub body: Expr,
+}
+
+/// The rules of a description, in their order. A contract sees the list of them.
+#[derive(Drop)]
+pub struct Rules {
+    rules: Vec<Rule>,
+}
+
+impl Model for Rules {
+    ghost use Rattle.std.specs.Prelude.{◌≤◌, length};
+    ghost use Rattle.csn_grammar.specs.RulesV.{RulesV, rules_code};
+
+    ghost Value = { RulesV };
+
+    ghost coded = { rules_code };
+
+    ghost view = { λ r. r.rules.items };
+
+    ghost invariant = { λ r. length r.rules.items ≤ 262144 };
+}
+
+impl Rules {
+    /// How many rules there are.
+    pub fn len(&self) -> u32
+        ensures len { result ≡ length self.now }
+        ensures bound { result ≤ 262144 }
+    {
+        self.rules.len() as u32
+    }
+
+    /// The rule at the place `at`, counted from 0.
+    pub fn get(&self, at: u32) -> &Rule
+        requires { at < length self.now }
+        ensures { slice_get self.now at ≡ Some result.now }
+    {
+        &self.rules[at as usize]
+    }
+}
