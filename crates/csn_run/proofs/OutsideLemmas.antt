@@ -24,22 +24,10 @@ pub Appended-nil : (a : Option (List ℕ)) → Appended a a []
 Appended-nil None = refl
 Appended-nil (Some t) = ap Some (sym (append-nil t))
 
--- what was taken in one call, and then in another
-pub Appended-trans : (a b c : Option (List ℕ)) (x y : List ℕ) → Appended a b x → Appended b c y → Appended a c (x ++ y)
-Appended-trans None b c x y h k = k ∙ ap (option_map (λ taken. taken ++ y)) h
-Appended-trans (Some t) b c x y h k = k ∙ ap (option_map (λ taken. taken ++ y)) h ∙ ap Some (append_assoc t x y)
-
 -- a source that gave nothing
 pub Gave-nil : (a : Option (List ℕ)) → Gave a a []
 Gave-nil None = refl
 Gave-nil (Some left) = (left, refl, refl)
-
--- what a source gave in one call, and then in another
-pub Gave-trans : (a b c : Option (List ℕ)) (x y : List ℕ) → Gave a b x → Gave b c y → Gave a c (x ++ y)
-Gave-trans None b c x y h k = subst (λ (o : Option (List ℕ)). Gave o c y) h k
-Gave-trans (Some left) b c x y h k =
-    let there : Gave (Some h.0) c y = subst (λ (o : Option (List ℕ)). Gave o c y) h.2 k in
-    (there.0, h.1 ∙ ap (λ l. x ++ l) there.1 ∙ sym (append_assoc x y there.0), there.2)
 
 -- the last of some first bytes
 pub last_byte : (n : ℕ) (xs : List ℕ) → 0 < n → n ≤ length xs → (past : List ℕ) × (take n xs ≡ take (n - 1) xs ++ past) × (length past ≡ 1)

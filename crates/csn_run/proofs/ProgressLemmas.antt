@@ -8,7 +8,8 @@ use Rattle.std.specs.List.{AllZip, list_any, flat_map}
 use Rattle.csn_io.specs.Got.{Gave, NothingLeft}
 use Rattle.csn_io.specs.Put.{Appended}
 use Rattle.csn_run.specs.declared.lines.TheConstants.{MOST_INPUT}
-use Rattle.csn_run.proofs.OutsideLemmas.{Appended-nil, Appended-trans, Gave-nil, Gave-trans}
+use Rattle.csn_run.proofs.OutsideLemmas.{Appended-nil, Gave-nil}
+use Rattle.csn_io.proofs.Told.{appended_more, gave_more}
 use Rattle.csn_run.specs.Lines.{between_feeds, HasNoFeed, without_return, answered, text_of, is_refusal}
 use Rattle.csn_run.specs.Progress.{Answers, AddsAnswers, EndsIn, Advances, Halts, PassesOn, HaltsAt, AnswersAll, StopsAfter, StopsWithin, Stops}
 use Rattle.csn_run.proofs.LinesLemmas.{between_feeds-append, between_feeds-one, HasNoFeed-append, answered-append, AllZip-append}

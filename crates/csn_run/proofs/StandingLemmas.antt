@@ -10,7 +10,8 @@ use Rattle.csn_run.specs.declared.lines.TheConstants.{MOST_INPUT}
 use Rattle.csn_run.specs.Lines.{between_feeds, HasNoFeed, answered, text_of}
 use Rattle.csn_run.specs.Progress.{Answers, AddsAnswers, EndsIn, Advances, Halts, PassesOn, HaltsAt, AnswersAll, StopsAfter, StopsWithin, StopsBy, Stops}
 use Rattle.csn_run.proofs.LinesLemmas.{between_feeds-one}
-use Rattle.csn_run.proofs.OutsideLemmas.{Appended-nil, Appended-trans, Gave-nil, Gave-trans}
+use Rattle.csn_run.proofs.OutsideLemmas.{Appended-nil, Gave-nil}
+use Rattle.csn_io.proofs.Told.{appended_more, gave_more}
 use Rattle.csn_run.proofs.ProgressLemmas.{adds_more, advances_more, Standing}
 
 -- the answers, where they are all that is written
@@ -27,8 +28,8 @@ pub stops_halted : (Answer : List ℕ → List ℕ → Type 0) (fault : Fault) (
 stops_halted Answer fault left left' left'' taken taken' taken'' line waits waits' piece fed past r room st gave is h cause = record {
     given = st.given ++ piece;
     took = st.took ++ h.took;
-    source = Gave-trans _ _ _ _ _ st.source gave;
-    sink = Appended-trans _ _ _ _ _ st.sink h.sink;
+    source = gave_more _ _ _ _ _ st.source gave;
+    sink = appended_more _ _ _ _ _ st.sink h.sink;
     by = stops_by_within Answer fault _ _ cause (record {
       ended = st.advances.ended ++ h.halts.ended;
       whole_text = st.took ++ h.text;
@@ -92,8 +93,8 @@ pub standing_more : (Answer : List ℕ → List ℕ → Type 0) (left left' left
 standing_more Answer left left' left'' taken taken' taken'' line line' waits waits' piece r s room n st gave len less passes none fits = record {
     given = st.given ++ piece;
     took = st.took ++ passes.text;
-    source = Gave-trans _ _ _ _ _ st.source gave;
-    sink = Appended-trans _ _ _ _ _ st.sink passes.sink;
+    source = gave_more _ _ _ _ _ st.source gave;
+    sink = appended_more _ _ _ _ _ st.sink passes.sink;
     advances = subst (λ b. Advances Answer (st.given ++ piece) line' [] (st.took ++ passes.text) b) (sym passes.refused_is) (advances_more Answer st.given piece line line' st.took passes.text r passes.refused st.advances passes.advances);
     none_waits = none;
     some_room = omega arith;
@@ -106,8 +107,8 @@ pub stops_too_long : (Answer : List ℕ → List ℕ → Type 0) (left left' lef
 stops_too_long Answer left left' left'' taken taken' taken'' line line' waits waits' piece fed past r s room st gave is len one passes none = record {
     given = st.given ++ piece;
     took = st.took ++ passes.text;
-    source = Gave-trans _ _ _ _ _ st.source gave;
-    sink = Appended-trans _ _ _ _ _ st.sink passes.sink;
+    source = gave_more _ _ _ _ _ st.source gave;
+    sink = appended_more _ _ _ _ _ st.sink passes.sink;
     by = (
       omega (arith, st.room_is, length-append st.given piece, ap length is, length-append fed past),
       record {

@@ -6,6 +6,7 @@ ghost use Rattle.csn_io.specs.Got.{IfBytes, OnEnd, OnFailed, UnlessBytes, Gave, 
 ghost use Rattle.csn_io.specs.Put.{Appended};
 ghost use Rattle.csn_run.specs.declared.lines.TheConstants.{MOST_INPUT};
 ghost use Rattle.csn_run.specs.Lines.{HasNoFeed, without_return, is_refusal};
+ghost use Rattle.csn_run.specs.Outside.{KeepsSteady};
 ghost use Rattle.csn_run.specs.Progress.{AddsAnswers, Advances, Halts, PassesOn, HaltsAt, AnswersAll, Stops};
 
 use crate::fault::Fault;
@@ -109,6 +110,7 @@ fn take_piece<S: Source>(input: &mut S, buffer: &mut [u8], room: usize) -> Got
     ensures left_stays { UnlessBytes result (S.left input.new ≡ S.left input.old) }
     ensures failed { OnFailed result (Rose (S.faults input.old) (S.faults input.new)) }
     ensures never_falls { S.faults input.old ≤ S.faults input.new }
+    ensures steady { KeepsSteady (S.steady input.old) (S.steady input.new) (S.faults input.old) (S.faults input.new) }
 {
     let most = room.min(buffer.len());
     input.take(&mut buffer[..most])
@@ -200,6 +202,7 @@ impl Lines {
         ensures causes { IfErr result (λ fault. (fault ≡ Fault.Write) ⊎ (fault ≡ Fault.Memory)) }
         ensures write { result ≡ Err Fault.Write → Rose (K.faults out.old) (K.faults out.new) }
         ensures never_falls { K.faults out.old ≤ K.faults out.new }
+        ensures steady { KeepsSteady (K.steady out.old) (K.steady out.new) (K.faults out.old) (K.faults out.new) }
     {
         match self.take(command, alloc, piece) {
             Ok(()) => pass_on(&mut self.pending, out),
@@ -227,6 +230,8 @@ impl Lines {
         ensures write { result ≡ Err Fault.Write → Rose (K.faults out.old) (K.faults out.new) }
         ensures input_never_falls { S.faults input.old ≤ S.faults input.new }
         ensures out_never_falls { K.faults out.old ≤ K.faults out.new }
+        ensures steady_input { KeepsSteady (S.steady input.old) (S.steady input.new) (S.faults input.old) (S.faults input.new) }
+        ensures steady_out { KeepsSteady (K.steady out.old) (K.steady out.new) (K.faults out.old) (K.faults out.new) }
     {
         let mut buffer = [0u8; PIECE];
         let mut room = MOST_INPUT + 1;

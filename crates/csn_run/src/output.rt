@@ -3,6 +3,7 @@
 ghost use Rattle.std.specs.Prelude.{◌≡◌, ◌≢◌, ◌≤◌, ◌⊎◌, ◌++◌, List, ℕ, [], OnOk, IfErr};
 ghost use Rattle.csn_io.specs.Faults.{Rose};
 ghost use Rattle.csn_io.specs.Put.{Appended, FlushedAll};
+ghost use Rattle.csn_run.specs.Outside.{KeepsSteady};
 
 use crate::fault::Fault;
 use csn_io::{Put, Sink};
@@ -13,6 +14,7 @@ fn put_all<K: Sink>(text: &[u8], out: &mut K) -> Result<(), Fault>
     ensures causes { IfErr result (λ fault. (fault ≡ Fault.Write) ⊎ (fault ≡ Fault.Memory)) }
     ensures write { result ≡ Err Fault.Write → Rose (K.faults out.old) (K.faults out.new) }
     ensures never_falls { K.faults out.old ≤ K.faults out.new }
+    ensures steady { KeepsSteady (K.steady out.old) (K.steady out.new) (K.faults out.old) (K.faults out.new) }
 {
     let mut passed = 0;
     while passed < text.len() {
@@ -32,6 +34,7 @@ pub fn pass_on<K: Sink>(pending: &mut Vec<u8>, out: &mut K) -> Result<(), Fault>
     ensures causes { IfErr result (λ fault. (fault ≡ Fault.Write) ⊎ (fault ≡ Fault.Memory)) }
     ensures write { result ≡ Err Fault.Write → Rose (K.faults out.old) (K.faults out.new) }
     ensures never_falls { K.faults out.old ≤ K.faults out.new }
+    ensures steady { KeepsSteady (K.steady out.old) (K.steady out.new) (K.faults out.old) (K.faults out.new) }
 {
     let passed = put_all(pending, out);
     pending.clear();
@@ -45,6 +48,7 @@ pub fn flush<K: Sink>(out: &mut K) -> Result<(), Fault>
     ensures causes { IfErr result (λ fault. (fault ≡ Fault.Write) ⊎ (fault ≡ Fault.Memory)) }
     ensures write { result ≡ Err Fault.Write → Rose (K.faults out.old) (K.faults out.new) }
     ensures never_falls { K.faults out.old ≤ K.faults out.new }
+    ensures steady { KeepsSteady (K.steady out.old) (K.steady out.new) (K.faults out.old) (K.faults out.new) }
 {
     match out.flush() {
         Put::Took(_) => Ok(()),

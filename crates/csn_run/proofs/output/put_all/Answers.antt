@@ -1,7 +1,8 @@
-use Rattle.std.proofs.Common.{◌≤◌, ◌+◌, ◌-◌, ◌<◌, length, take, drop, length-drop, arith, sym, subst}
+use Rattle.std.proofs.Common.{◌≤◌, ◌+◌, ◌-◌, ◌<◌, length, take, drop, length-drop, arith, sym, subst, ◌∙◌}
 use Rattle.std.proofs.lemmas.List.{take-append-drop}
 use Rattle.csn_io.specs.Put.{Appended}
-use Rattle.csn_run.proofs.OutsideLemmas.{slice_from, take_more_of, Appended-trans}
+use Rattle.csn_run.proofs.OutsideLemmas.{slice_from, take_more_of}
+use Rattle.csn_io.proofs.Told.{appended_more}
 use Rattle.csn_run.proofs.output.put_all.Goals as goal
 
 pub loop-passed-preserved : goal.loop-passed-preserved
@@ -11,8 +12,9 @@ loop-passed-preserved g c =
     let more = take_more_of c.loop-passed.passed c.in-Took.n c.args.text.now c.loop-passed.invariant.within in
     record {
       within = within;
-      took = subst (Appended (g.K.Sink.taken c.args.out.now) (g.K.Sink.taken c.put.new.self)) (sym more) (Appended-trans _ _ _ _ _ c.loop-passed.invariant.took c.in-Took.ensures.appended);
+      took = subst (Appended (g.K.Sink.taken c.args.out.now) (g.K.Sink.taken c.put.new.self)) (sym more) (appended_more _ _ _ _ _ c.loop-passed.invariant.took c.in-Took.ensures.appended);
       never_falls = omega arith;
+      steady = λ was. let now = c.loop-passed.invariant.steady was in (c.in-Took.ensures.steady_stays now.0, c.in-Took.ensures.steady_count now.0 ∙ now.1);
     }
 
 pub returns-in-Failed-clause-took : goal.returns-in-Failed-clause-took
