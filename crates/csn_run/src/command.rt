@@ -1,6 +1,6 @@
-ghost use Rattle.std.specs.Prelude.{◌≡◌, ◌↔◌, IsTrue, IsSome, map};
+ghost use Rattle.std.specs.Prelude.{◌≡◌, ◌↔◌, IsTrue, IsSome, IfSome, map};
 ghost use Rattle.std.specs.String.{string_bytes};
-ghost use Rattle.csn_run.specs.Command.{IsArgument, IsCommand, IsReading};
+ghost use Rattle.csn_run.specs.Command.{IsArgument, IsCommand, IsReadAs, IsReading};
 
 /// Which side speaks: the receiver of a block takes spare bits of any value, and its sender
 /// gives them the one value that is sent.
@@ -41,7 +41,8 @@ fn reading_of(word: &str) -> Option<Reading>
 
 /// The row of the command table that the words are.
 pub fn command_of(words: &[String]) -> Option<Command<'_>>
-    ensures { IsSome result ↔ IsCommand (map string_bytes words.now) }
+    ensures row { IsSome result ↔ IsCommand (map string_bytes words.now) }
+    ensures names { IfSome result (IsReadAs (map string_bytes words.now)) }
 {
     let [command, file, name, reading] = words else {
         return None;
