@@ -145,7 +145,7 @@ length-bits_of_octets [] = refl
 length-bits_of_octets (n ∷ rest) = let later = length-bits_of_octets rest in omega (arith, later)
 
 -- the octet that has all bits of an octet, or all but the last of them as zeros
-octet_of-bits_of_octet : (n : ℕ) → octet_of (bits_of_octet n) ≡ n
+pub octet_of-bits_of_octet : (n : ℕ) → octet_of (bits_of_octet n) ≡ n
 octet_of-bits_of_octet n = omega arith
 
 octet_of-take : (n r : ℕ) → 0 < r → r < 8 → octet_of (take r (bits_of_octet n)) ≡ n / 2 ^ (8 - r) * 2 ^ (8 - r)
@@ -252,7 +252,7 @@ bit_of_octet octets len at octet p below read =
 abbrev pub Packs : List ℕ → ℕ → List ℕ → Type 0
 Packs octets len bits = IsPacked octets len × (take len (bits_of_octets octets) ≡ bits)
 
-packs_from : (octets bits : List ℕ) (len : ℕ) → octets ≡ octets_of bits → len ≡ length bits → IsBits bits → len ≤ 524288
+pub packs_from : (octets bits : List ℕ) (len : ℕ) → octets ≡ octets_of bits → len ≡ length bits → IsBits bits → len ≤ 524288
     → Packs octets len bits
 packs_from octets bits len exact count s few =
     (is_packed_from octets bits len exact count s few, take_packed octets bits len exact count s)
@@ -268,7 +268,7 @@ packs_first octets len bit p room small whole =
     packs_from _ _ _ exact (omega (arith, length-append old (bit ∷ [])))
     (IsBits-append old (bit ∷ []) p.bits (small, tt)) (omega arith)
 
-power_small : (k : ℕ) → k ≤ 7 → 2 ^ k ≤ 128
+pub power_small : (k : ℕ) → k ≤ 7 → 2 ^ k ≤ 128
 power_small zero h = omega arith
 power_small (suc zero) h = omega arith
 power_small (suc (suc zero)) h = omega arith

@@ -1,1 +1,4 @@
 pub mod Octets
+pub mod Line
+pub mod Feed
+pub mod Fault

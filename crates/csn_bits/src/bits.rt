@@ -1,12 +1,17 @@
 ghost use Rattle.std.specs.Prelude.{◌≡◌, ◌≢◌, ◌+◌, ◌*◌, ◌<◌, ◌≤◌, ◌↔◌, [], ◌∷◌, ◌++◌, length, slice_index, take, ◌⊎◌, IfOk, IfErr, OnOk, OnErr, IsErrOf, vec_len};
-ghost use Rattle.csn_bits.specs.Octets.{IsBits, IsPacked, bits_of_octets, octets_of};
+ghost use Rattle.csn_bits.specs.Fault.{IsLineFault};
+ghost use Rattle.csn_bits.specs.Line.{BlockLine, written};
+ghost use Rattle.csn_bits.specs.Octets.{IsBits, bits_of_octets, octets_of};
 
 use crate::fault::{BitsFault, NoMemory};
+use crate::feed::{HexEnd, HexFeed, HexStep};
 use std::alloc::Global;
 use std::marker::Model;
 
 /// The most bits that a block has: 65,536 octets.
 pub const MOST_BITS: u32 = 524_288;
+
+const MOST_OCTETS: usize = 65_536;
 
 /// A string of bits. A contract sees the list of them, each 0 or 1, at most 524,288.
 #[derive(Drop)]
@@ -100,6 +105,48 @@ impl Bits {
             octets: packed,
             len: bits,
         })
+    }
+
+    /// The bits that a block line spells, as [`to_hex_line`](Bits::to_hex_line) writes them, with
+    /// digits in either case.
+    pub fn from_hex_line(alloc: Global, line: &[u8]) -> Result<Bits, BitsFault>
+        requires { length line.now ≤ 16777216 }
+        ensures ok { IfOk result (λ b. BlockLine line.now b) }
+        ensures refused { IfErr result (λ e. (e ≡ BitsFault.NoMemory) ⊎ IsLineFault line.now e) }
+    {
+        let mut octets = Vec::with_capacity(alloc, (line.len() / 2).min(MOST_OCTETS))?;
+        let mut feed = HexFeed::new();
+        for &byte in line {
+            if let HexStep::Octet(octet) = feed.byte(byte) {
+                octets.push(octet)?;
+            }
+        }
+        match feed.finish() {
+            HexEnd::Empty => Ok(Bits::new(alloc)),
+            HexEnd::Last { octet, bits } => {
+                let len = 8 * octets.len() as u32 + bits as u32;
+                octets.push(octet)?;
+                Ok(Bits { octets, len })
+            }
+            HexEnd::Fault(why) => Err(why.into()),
+        }
+    }
+
+    /// The block line of the bits: `.` for none, else two digits in upper case for each octet and,
+    /// where only the first n bits of the last octet belong to the block, `/n`.
+    pub fn to_hex_line(&self, alloc: Global) -> Result<Vec<u8>, NoMemory>
+        ensures { IfOk result (λ line. line.items ≡ written self.now) }
+    {
+        if self.len == 0 {
+            return Ok(Vec::from_slice(alloc, b".")?);
+        }
+        let mut line = hex::encode_upper(alloc, self.octets.as_slice())?.into_bytes();
+        let used = (self.len % 8) as u8;
+        if used > 0 {
+            line.push(b'/')?;
+            line.push(b'0' + used)?;
+        }
+        Ok(line)
     }
 
     /// The same bits once more.

@@ -1,4 +1,5 @@
 ghost use Rattle.std.specs.Prelude.{◌≡◌};
+ghost use Rattle.csn_bits.specs.Fault.{fault_for};
 ghost use Rattle.csn_bits.specs.declared.fault.BitsFault.TheVariants.{NoMemory as no_memory};
 
 use std::alloc::{AllocError, AllocFailed};
@@ -37,6 +38,33 @@ impl<T: Drop> From<AllocFailed<T>> for BitsFault {
 
     fn from(_e: AllocFailed<T>) -> BitsFault {
         BitsFault::NoMemory
+    }
+}
+
+/// Why a line is no block line. Where several reasons hold, the first of them in this order is
+/// told.
+#[derive(Clone, Copy, Debug, Drop, PartialEq, Eq)]
+pub enum LineWhy {
+    /// The first byte before any `/` that is no hexadecimal digit; columns count from 0.
+    BadDigit { column: u32 },
+    /// No digits, an odd number of them, or a tail that is not one digit from 1 to 7.
+    BadLength,
+    /// A bit past those that the tail counts is 1.
+    BadFill,
+    /// More than 65,536 octets.
+    TooManyBits,
+}
+
+impl From<LineWhy> for BitsFault {
+    ghost from_gives = { λ why e. e ≡ fault_for why };
+
+    fn from(why: LineWhy) -> BitsFault {
+        match why {
+            LineWhy::BadDigit { column } => BitsFault::BadDigit { column },
+            LineWhy::BadLength => BitsFault::BadLength,
+            LineWhy::BadFill => BitsFault::BadFill,
+            LineWhy::TooManyBits => BitsFault::TooManyBits,
+        }
     }
 }
 

@@ -3,8 +3,13 @@
 
 mod bits;
 mod fault;
+mod feed;
 mod pattern;
 
 pub use bits::{Bits, MOST_BITS};
-pub use fault::{BitsFault, NoMemory};
+pub use fault::{BitsFault, LineWhy, NoMemory};
+pub use feed::{HexEnd, HexFeed, HexStep};
 pub use pattern::pattern_bit;
+
+#[cfg(test)]
+mod tests;
