@@ -5,3 +5,6 @@ pub mod MeantBits
 pub mod Empties
 pub mod Numbering
 pub mod WalkFacts
+pub mod Nodewise
+pub mod ExampleFacts
+pub mod RefusedExample

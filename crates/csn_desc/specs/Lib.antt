@@ -10,3 +10,4 @@ pub mod Follows
 pub mod Walks
 pub mod Formed
 pub mod Laws
+pub mod Examples

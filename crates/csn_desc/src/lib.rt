@@ -2,6 +2,7 @@
 #![tactic(auto)]
 
 mod desc;
+pub mod examples;
 mod label;
 pub mod laws;
 mod moves;

@@ -40,6 +40,15 @@ fn a_run_holds_its_symbols(rt: HostRuntime) -> Result<(), Fail> {
 }
 
 #[test]
+fn parts_hold_their_numbers(rt: HostRuntime) -> Result<(), Fail> {
+    let mut parts = Parts::new(rt.alloc());
+    parts.push(7).map_err(|_| "out of memory")?;
+    assert_eq!(rt; parts.len(), 1);
+    assert_eq!(rt; parts.get(0), 7);
+    Ok(())
+}
+
+#[test]
 fn rows_hold_their_trees(rt: HostRuntime) -> Result<(), Fail> {
     let mut rows = Rows::new(rt.alloc());
     let given = rows.push(Tree {
