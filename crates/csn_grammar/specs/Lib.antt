@@ -2,3 +2,8 @@ pub mod ExprV
 pub mod ExprCode
 pub mod FormView
 pub mod RulesV
+pub mod TokenV
+pub mod Writing
+pub mod Counts
+pub mod Grammar
+pub mod Place
