@@ -1,9 +1,9 @@
 -- Lines, and the text that answers them.
-use Rattle.std.proofs.Common.{◌≡◌, ◌≢◌, ℕ, suc, ◌+◌, ◌<◌, add-one, get_or, take, drop, drop-cons, Bool, true, false, cond, eqb, ◌||◌, List, [], ◌∷◌, ◌++◌, length, refl, sym, ◌∙◌, ap, arith, map, ltb}
+use Rattle.std.proofs.Common.{◌≡◌, ℕ, suc, ◌+◌, ◌<◌, add-one, get_or, take, drop, drop-cons, Bool, true, false, cond, eqb, List, [], ◌∷◌, ◌++◌, length, refl, sym, ◌∙◌, ap, arith, map, ltb}
 use Rattle.std.proofs.lemmas.List.{map-append, take-append-drop}
 use Rattle.std.proofs.lemmas.List.Elements.{filter-append}
-use Rattle.std.specs.List.{AllByRecursion, AllZip, filter}
-use Rattle.csn_run.specs.Lines.{begin_first, between_feeds, HasNoFeed, without_return, answered, text_of}
+use Rattle.std.specs.List.{AllZip, filter}
+use Rattle.csn_run.specs.Lines.{begin_first, between_feeds, HasNoFeed, without_return, answered}
 
 begin_first-nil : (c : ℕ) (xs : List (List ℕ)) → begin_first c xs ≡ [] → ⊥
 begin_first-nil c [] h = cc
@@ -14,7 +14,7 @@ between_feeds-nil : (a : List ℕ) → between_feeds a ≡ [] → ⊥
 between_feeds-nil [] h = cc
 between_feeds-nil (c ∷ a) h =
     let go : (v : Bool) → cond v ([] ∷ between_feeds a) (begin_first c (between_feeds a)) ≡ [] → ⊥ =
-        λ v. elim v as (λ v. cond v ([] ∷ between_feeds a) (begin_first c (between_feeds a)) ≡ [] → ⊥) [ true ↦ λ e. cc | false ↦ λ e. begin_first-nil c _ e ]
+    λ v. elim v as (λ v. cond v ([] ∷ between_feeds a) (begin_first c (between_feeds a)) ≡ [] → ⊥) [ true ↦ λ e. cc | false ↦ λ e. begin_first-nil c _ e ]
     in go (eqb c 10) h
 
 begin_first-append : (c : ℕ) (xs ys : List (List ℕ)) → (xs ≡ [] → ⊥) → begin_first c (xs ++ ys) ≡ begin_first c xs ++ ys
@@ -27,8 +27,8 @@ between_feeds-append [] b = refl
 between_feeds-append (c ∷ a) b =
     let rest = between_feeds-append a b in
     let go : (v : Bool) → cond v ([] ∷ between_feeds (a ++ 10 ∷ b)) (begin_first c (between_feeds (a ++ 10 ∷ b))) ≡ cond v ([] ∷ between_feeds a) (begin_first c (between_feeds a)) ++ between_feeds b =
-        λ v. elim v as (λ v. cond v ([] ∷ between_feeds (a ++ 10 ∷ b)) (begin_first c (between_feeds (a ++ 10 ∷ b))) ≡ cond v ([] ∷ between_feeds a) (begin_first c (between_feeds a)) ++ between_feeds b)
-        [ true ↦ ap (λ xs. [] ∷ xs) rest | false ↦ ap (begin_first c) rest ∙ begin_first-append c _ _ (between_feeds-nil a) ]
+    λ v. elim v as (λ v. cond v ([] ∷ between_feeds (a ++ 10 ∷ b)) (begin_first c (between_feeds (a ++ 10 ∷ b))) ≡ cond v ([] ∷ between_feeds a) (begin_first c (between_feeds a)) ++ between_feeds b)
+    [ true ↦ ap (λ xs. [] ∷ xs) rest | false ↦ ap (begin_first c) rest ∙ begin_first-append c _ _ (between_feeds-nil a) ]
     in go (eqb c 10)
 
 -- bytes without a line feed are one piece

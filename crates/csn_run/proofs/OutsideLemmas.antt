@@ -1,8 +1,7 @@
 -- What a sink took and what a source gave, over several calls.
-use Rattle.std.proofs.Common.{◌≡◌, ℕ, ◌+◌, ◌-◌, ◌<◌, ◌≤◌, List, [], ◌∷◌, ◌++◌, length, take, drop, refl, sym, ◌∙◌, ap, subst, arith, append_assoc, length-drop, Option, Some, None}
+use Rattle.std.proofs.Common.{◌≡◌, ℕ, ◌+◌, ◌-◌, ◌<◌, ◌≤◌, List, [], ◌++◌, length, take, drop, refl, sym, ◌∙◌, ap, arith, length-drop, Option, Some, None}
 use Rattle.std.proofs.lemmas.List.{append-nil, length-take, take-append-drop, take_all}
 use Rattle.std.proofs.Math.Seq.{take-append-add}
-use Rattle.std.specs.Option.{option_map}
 use Rattle.csn_io.specs.Put.{Appended}
 use Rattle.csn_io.specs.Got.{Gave}
 
@@ -16,7 +15,7 @@ take_more_of p n xs h =
     let front : length (take p xs) ≡ p = omega (arith, length-take p xs) in
     let split : take (length (take p xs) + n) (take p xs ++ drop p xs) ≡ take p xs ++ take n (drop p xs) = take-append-add (take p xs) (drop p xs) n in
     let there : take (p + n) xs ≡ take p xs ++ take n (drop p xs) =
-        ap (λ k. take (k + n) xs) (sym front) ∙ ap (take (length (take p xs) + n)) (sym (take-append-drop p xs)) ∙ split in
+    ap (λ k. take (k + n) xs) (sym front) ∙ ap (take (length (take p xs) + n)) (sym (take-append-drop p xs)) ∙ split in
     there ∙ ap (λ ys. take p xs ++ take n ys) (sym (slice_from p xs))
 
 -- nothing was taken

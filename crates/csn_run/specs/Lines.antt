@@ -1,6 +1,6 @@
 -- The lines of an input, and the text that answers them. They are this project's own choice.
-use Rattle.std.specs.Prelude.{◌≡◌, ◌≢◌, ℕ, ◌<◌, ◌==◌, Bool, if◌then◌else◌, ◌||◌, nat_lt, ◌-◌, slice_index, take, List, [], ◌∷◌, ◌++◌, length, map, filter, codes, nat_eq}
-use Rattle.std.specs.List.{AllZip, AllByRecursion, flat_map, list_any, starts_with}
+use Rattle.std.specs.Prelude.{◌≢◌, ℕ, ◌==◌, Bool, if◌then◌else◌, ◌||◌, nat_lt, ◌-◌, slice_index, take, List, [], ◌∷◌, ◌++◌, length, map, filter, codes, nat_eq}
+use Rattle.std.specs.List.{AllByRecursion, flat_map, starts_with}
 
 -- a byte before the first of some lines
 abbrev pub begin_first : ℕ → List (List ℕ) → List (List ℕ)

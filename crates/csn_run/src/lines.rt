@@ -166,7 +166,7 @@ impl Lines {
         requires unended { HasNoFeed self.old.line.items }
         ensures ok { OnOk result ((refused : Bool)
             × Advances (C.answers command.now) (self.old.line.items ++ piece.now) self.new.line.items
-                self.old.pending.items self.new.pending.items refused
+            self.old.pending.items self.new.pending.items refused
             × (self.new.refused ≡ (self.old.refused || refused))) }
         ensures fits { OnOk result (length self.new.line.items ≤ length self.old.line.items + length piece.now) }
         ensures err { OnErr result (Halts (C.answers command.now) (self.old.line.items ++ piece.now)

@@ -194,14 +194,9 @@ impl LineCommand for Show<'_> {
     ghost answers = { λ _ _ _. Unit {0} };
 
     fn answer(&self, alloc: Global, line: &[u8], out: &mut Vec<u8>) -> Result<bool, AllocError> {
-        match stub(alloc, line) {
+        match Bits::from_hex_line(alloc, line) {
             Ok(bits) => answer_block(alloc, self.things, &bits, out),
             Err(fault) => answer_fault(fault, out),
         }
     }
-}
-
-fn stub(alloc: Global, line: &[u8]) -> Result<Bits, BitsFault> {
-    if line.len() == 3 { return Err(BitsFault::BadLength); }
-    Ok(Bits::new(alloc))
 }

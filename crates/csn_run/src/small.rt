@@ -181,7 +181,11 @@ pub fn read_small(alloc: Global, text: &[u8], name: &[u8]) -> Result<Vec<Thing>,
             .push(next_thing(alloc, &mut text)?)
             .map_err(|_| SmallFault::NoMemory)?;
         if text.takes(b";") {
-            return if text.is_at_end() { Ok(things) } else { Err(SmallFault::Later) };
+            return if text.is_at_end() {
+                Ok(things)
+            } else {
+                Err(SmallFault::Later)
+            };
         }
     }
     Err(SmallFault::Later)

@@ -159,7 +159,7 @@ pub fn run<B: Shelf, S: Source, K: Sink>(
     // A fault comes only where the outside shows it.
     ensures read_fault { result ≡ Ended.ReadFault → Rose (S.faults input.old) (S.faults input.new)
         ⊎ ((name : List ℕ) × NamesFile (map string_bytes words.now) name
-            × CannotRead (B.files shelf.old) (B.faults shelf.old) (B.faults shelf.new) (B.last_fault shelf.new) name) }
+        × CannotRead (B.files shelf.old) (B.faults shelf.old) (B.faults shelf.new) (B.last_fault shelf.new) name) }
     ensures write_fault { result ≡ Ended.WriteFault → Rose (K.faults out.old) (K.faults out.new) }
 
     // All that the sink took is flushed.

@@ -1,4 +1,4 @@
-use Rattle.std.proofs.Common.{arith, refl, sym}
+use Rattle.std.proofs.Common.{arith}
 use Rattle.csn_run.proofs.ProgressLemmas.{one_line}
 use Rattle.csn_run.proofs.lines.answer_line.Goals as goal
 

@@ -1,4 +1,4 @@
-use Rattle.std.proofs.Common.{◌≤◌, ◌+◌, ◌-◌, ◌<◌, length, take, drop, length-drop, arith, sym, subst, ◌∙◌}
+use Rattle.std.proofs.Common.{◌≤◌, ◌+◌, length, take, drop, length-drop, arith, sym, subst, ◌∙◌}
 use Rattle.std.proofs.lemmas.List.{take-append-drop}
 use Rattle.csn_io.specs.Put.{Appended}
 use Rattle.csn_run.proofs.OutsideLemmas.{slice_from, take_more_of}
@@ -19,18 +19,18 @@ loop-passed-preserved g c =
 
 pub returns-in-Failed-clause-took : goal.returns-in-Failed-clause-took
 returns-in-Failed-clause-took g c = (
-      take c.loop-passed.passed c.args.text.now,
-      drop c.loop-passed.passed c.args.text.now,
-      sym (take-append-drop _ _),
-      subst (λ taken. Appended (g.K.Sink.taken c.args.out.now) taken (take c.loop-passed.passed c.args.text.now)) (sym c.in-Failed.ensures.taken_stays) c.loop-passed.invariant.took,
-      tt,
-    )
+  take c.loop-passed.passed c.args.text.now,
+  drop c.loop-passed.passed c.args.text.now,
+  sym (take-append-drop _ _),
+  subst (λ taken. Appended (g.K.Sink.taken c.args.out.now) taken (take c.loop-passed.passed c.args.text.now)) (sym c.in-Failed.ensures.taken_stays) c.loop-passed.invariant.took,
+  tt,
+)
 
 pub returns-in-NoMemory-clause-took : goal.returns-in-NoMemory-clause-took
 returns-in-NoMemory-clause-took g c = (
-      take c.loop-passed.passed c.args.text.now,
-      drop c.loop-passed.passed c.args.text.now,
-      sym (take-append-drop _ _),
-      subst (λ taken. Appended (g.K.Sink.taken c.args.out.now) taken (take c.loop-passed.passed c.args.text.now)) (sym c.in-NoMemory.ensures.taken_stays) c.loop-passed.invariant.took,
-      tt,
-    )
+  take c.loop-passed.passed c.args.text.now,
+  drop c.loop-passed.passed c.args.text.now,
+  sym (take-append-drop _ _),
+  subst (λ taken. Appended (g.K.Sink.taken c.args.out.now) taken (take c.loop-passed.passed c.args.text.now)) (sym c.in-NoMemory.ensures.taken_stays) c.loop-passed.invariant.took,
+  tt,
+)

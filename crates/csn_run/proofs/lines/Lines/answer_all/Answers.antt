@@ -25,12 +25,12 @@ returns-in_err-pass_piece-in-Bytes-2-clause-err g c =
 
 pub pieces-preserved : goal.pieces-preserved
 pieces-preserved g c = record {
-    standing = standing_more _ _ _ _ _ _ _ _ _ _ _ _ _ _ _ _ c.pieces.invariant.standing c.in-Bytes.ensures.gave (length-take-le _ _ c.in-Bytes.ensures.within) (omega (arith, c.in-Bytes.ensures.room, c.if-n-room.false)) c.in_ok-pass_piece-in-Bytes-2.ensures.ok c.in_ok-pass_piece-in-Bytes-2.ensures.pending c.in_ok-pass_piece-in-Bytes-2.ensures.fits;
-    input_never_falls = omega arith;
-    out_never_falls = omega arith;
-    steady_input = λ was. let now = c.pieces.invariant.steady_input was in let next = c.take_piece.ensures.steady now.0 in (next.0, next.1 ∙ now.1);
-    steady_out = λ was. let now = c.pieces.invariant.steady_out was in let next = c.in_ok-pass_piece-in-Bytes-2.ensures.steady now.0 in (next.0, next.1 ∙ now.1);
-  }
+  standing = standing_more _ _ _ _ _ _ _ _ _ _ _ _ _ _ _ _ c.pieces.invariant.standing c.in-Bytes.ensures.gave (length-take-le _ _ c.in-Bytes.ensures.within) (omega (arith, c.in-Bytes.ensures.room, c.if-n-room.false)) c.in_ok-pass_piece-in-Bytes-2.ensures.ok c.in_ok-pass_piece-in-Bytes-2.ensures.pending c.in_ok-pass_piece-in-Bytes-2.ensures.fits;
+  input_never_falls = omega arith;
+  out_never_falls = omega arith;
+  steady_input = λ was. let now = c.pieces.invariant.steady_input was in let next = c.take_piece.ensures.steady now.0 in (next.0, next.1 ∙ now.1);
+  steady_out = λ was. let now = c.pieces.invariant.steady_out was in let next = c.in_ok-pass_piece-in-Bytes-2.ensures.steady now.0 in (next.0, next.1 ∙ now.1);
+}
 
 pub returns-in_err-end_line-in-End-clause-err : goal.returns-in_err-end_line-in-End-clause-err
 returns-in_err-end_line-in-End-clause-err g c =

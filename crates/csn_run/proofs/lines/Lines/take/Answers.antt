@@ -1,7 +1,6 @@
-use Rattle.std.proofs.Common.{arith, length-append, subst, ap, sym, ◌++◌, ◌∷◌, [], List, ℕ, length}
+use Rattle.std.proofs.Common.{arith, length-append, ap, ◌∷◌, length}
 use Rattle.std.proofs.lemmas.Result.{err_from_is_err_and}
-use Rattle.csn_run.specs.Progress.{AddsAnswers, Halts}
-use Rattle.csn_run.proofs.ProgressLemmas.{SoFar, so_far_none, so_far_line, so_far_rest, so_far_halts}
+use Rattle.csn_run.proofs.ProgressLemmas.{so_far_none, so_far_line, so_far_halts}
 use Rattle.csn_run.proofs.lines.Lines.take.Goals as goal
 
 pub loop-front-init : goal.loop-front-init
