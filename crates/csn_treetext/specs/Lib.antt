@@ -1,0 +1,5 @@
+pub mod Text
+pub mod Fits
+pub mod Place
+pub mod Laws
+pub mod Examples
