@@ -1,4 +1,7 @@
-use std::alloc::{AllocError, AllocFailed};
+ghost use Rattle.std.specs.Prelude.{◌≡◌};
+ghost use Rattle.csn_treetext.specs.declared.fault.TextFault.TheVariants.{NoMemory as no_memory};
+
+use csn_bits::NoMemory;
 use thiserror::Error;
 
 /// Why bytes could not be read as the text of a tree.
@@ -9,4 +12,12 @@ pub enum TextFault {
     Place { place: u32 },
     #[error("out of memory")]
     NoMemory,
+}
+
+impl From<NoMemory> for TextFault {
+    ghost from_gives = { λ _ e. e ≡ no_memory };
+
+    fn from(_e: NoMemory) -> TextFault {
+        TextFault::NoMemory
+    }
 }
