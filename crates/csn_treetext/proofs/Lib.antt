@@ -6,3 +6,8 @@ pub mod LowBits
 pub mod Names
 pub mod OctetLeaves
 pub mod Rooms
+pub mod Spelled
+pub mod Sound
+pub mod Complete
+pub mod Alive
+pub mod Places

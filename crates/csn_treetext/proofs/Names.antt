@@ -10,19 +10,19 @@ use Rattle.csn_treetext.specs.declared.mode.NameAt.{NameAt}
 use Rattle.csn_treetext.specs.declared.mode.NameAt.TheVariants.{Front, Within, Joint}
 use Rattle.csn_treetext.specs.Machine.{name_after, name_from, name_run, may_end}
 
-accepts : Option NameAt → Bool
+pub accepts : Option NameAt → Bool
 accepts None = false
 accepts (Some at) = may_end at
 
-pieces : List ℕ → List (List ℕ)
+pub pieces : List ℕ → List (List ℕ)
 pieces l = slice_split (λ c. c == 32) l
 
 -- a test of the first piece, and words behind it
-head_ok : (List ℕ → Bool) → List (List ℕ) → Bool
+pub head_ok : (List ℕ → Bool) → List (List ℕ) → Bool
 head_ok f [] = false
 head_ok f (p ∷ ps) = f p && list_all is_word ps
 
-joint_tail : List ℕ → Bool
+pub joint_tail : List ℕ → Bool
 joint_tail p = starts_alphanumeric p && is_word_tail p
 
 pub record Shape (l : List ℕ) : Type 0 where
@@ -31,15 +31,15 @@ pub record Shape (l : List ℕ) : Type 0 where
   pub is : slice_split (λ c. c == 32) l ≡ first ∷ others
 
 other_pieces : (c : ℕ) (r p : List ℕ) (ps : List (List ℕ)) → (c == 32) ≡ false → slice_split (λ c. c == 32) r ≡ p ∷ ps → slice_split (λ c. c == 32) (c ∷ r) ≡ (c ∷ p) ∷ ps
-other_pieces c r p ps no e = rw no (rw e refl)
+other_pieces c r p ps fails e = rw fails (rw e refl)
 
 shape_of : (l : List ℕ) → Shape l
 shape_of [] = record { first = []; others = []; is = refl }
 shape_of (c ∷ r) = elim (cases_Bool (c == 32)) [
-  | inl yes ↦ record { first = []; others = slice_split (λ c. c == 32) r; is = rw yes refl }
-  | inr no ↦ (
+  | inl holds ↦ record { first = []; others = slice_split (λ c. c == 32) r; is = rw holds refl }
+  | inr fails ↦ (
       let s = shape_of r in
-      record { first = c ∷ s.first; others = s.others; is = other_pieces c r s.first s.others no s.is })
+      record { first = c ∷ s.first; others = s.others; is = other_pieces c r s.first s.others fails s.is })
 ]
 
 -- a name that no label begins with goes on as none
@@ -83,12 +83,12 @@ module _ (c : ℕ) (r p : List ℕ) (ps : List (List ℕ)) (other : (c == 32) �
   front_other : is_word_tail p && list_all is_word ps ≡ accepts (name_run (Some Within) r)
       → (begins_word c && is_word_tail p) && list_all is_word ps ≡ accepts (name_run (name_after Front c) r)
   front_other h = elim (cases_Bool (begins_word c)) [
-    | inl yes ↦ (
-        ap (λ b. (b && is_word_tail p) && list_all is_word ps) yes ∙ h
-        ∙ ap (λ b. accepts (name_run (if b then Some Within else None) r)) (sym yes))
-    | inr no ↦ (
-        ap (λ b. (b && is_word_tail p) && list_all is_word ps) no ∙ refused r
-        ∙ ap (λ b. accepts (name_run (if b then Some Within else None) r)) (sym no))
+    | inl holds ↦ (
+        ap (λ b. (b && is_word_tail p) && list_all is_word ps) holds ∙ h
+        ∙ ap (λ b. accepts (name_run (if b then Some Within else None) r)) (sym holds))
+    | inr fails ↦ (
+        ap (λ b. (b && is_word_tail p) && list_all is_word ps) fails ∙ refused r
+        ∙ ap (λ b. accepts (name_run (if b then Some Within else None) r)) (sym fails))
   ]
 
   -- what follows a byte that may end a word, where it is no space
@@ -99,26 +99,26 @@ module _ (c : ℕ) (r p : List ℕ) (ps : List (List ℕ)) (other : (c == 32) �
       → (starts_alphanumeric p && is_word_tail p) && list_all is_word ps ≡ accepts (name_run (Some Joint) r)
       → ((goes_on_in_word c || (joins_pieces c && starts_alphanumeric p)) && is_word_tail p) && list_all is_word ps ≡ accepts (name_run (name_after Within c) r)
   within_other h joint = elim (cases_Bool (joins_pieces c)) [
-    | inl yes ↦ (
-        let on = joins_not_on c yes in
+    | inl holds ↦ (
+        let on = joins_not_on c holds in
         ap (λ b. ((b || (joins_pieces c && starts_alphanumeric p)) && is_word_tail p) && list_all is_word ps) on
-        ∙ ap (λ b. ((b && starts_alphanumeric p) && is_word_tail p) && list_all is_word ps) yes
+        ∙ ap (λ b. ((b && starts_alphanumeric p) && is_word_tail p) && list_all is_word ps) holds
         ∙ joint
-        ∙ ap (λ b. accepts (name_run (if b then Some Joint else if goes_on_in_word c then Some Within else None) r)) (sym yes)
+        ∙ ap (λ b. accepts (name_run (if b then Some Joint else if goes_on_in_word c then Some Within else None) r)) (sym holds)
         ∙ ap (λ o. accepts (name_run o r)) (sym within_other_after))
-    | inr no ↦ elim (cases_Bool (goes_on_in_word c)) [
+    | inr fails ↦ elim (cases_Bool (goes_on_in_word c)) [
       | inl on ↦ (
           ap (λ b. ((b || (joins_pieces c && starts_alphanumeric p)) && is_word_tail p) && list_all is_word ps) on
           ∙ h
           ∙ ap (λ b. accepts (name_run (if b then Some Within else None) r)) (sym on)
-          ∙ ap (λ b. accepts (name_run (if b then Some Joint else if goes_on_in_word c then Some Within else None) r)) (sym no)
+          ∙ ap (λ b. accepts (name_run (if b then Some Joint else if goes_on_in_word c then Some Within else None) r)) (sym fails)
           ∙ ap (λ o. accepts (name_run o r)) (sym within_other_after))
       | inr off ↦ (
           ap (λ b. ((b || (joins_pieces c && starts_alphanumeric p)) && is_word_tail p) && list_all is_word ps) off
-          ∙ ap (λ b. ((b && starts_alphanumeric p) && is_word_tail p) && list_all is_word ps) no
+          ∙ ap (λ b. ((b && starts_alphanumeric p) && is_word_tail p) && list_all is_word ps) fails
           ∙ refused r
           ∙ ap (λ b. accepts (name_run (if b then Some Within else None) r)) (sym off)
-          ∙ ap (λ b. accepts (name_run (if b then Some Joint else if goes_on_in_word c then Some Within else None) r)) (sym no)
+          ∙ ap (λ b. accepts (name_run (if b then Some Joint else if goes_on_in_word c then Some Within else None) r)) (sym fails)
           ∙ ap (λ o. accepts (name_run o r)) (sym within_other_after))
     ]
   ]
@@ -126,15 +126,15 @@ module _ (c : ℕ) (r p : List ℕ) (ps : List (List ℕ)) (other : (c == 32) �
   joint_other : is_word_tail p && list_all is_word ps ≡ accepts (name_run (Some Within) r)
       → (is_ascii_alphanumeric c && ((goes_on_in_word c || (joins_pieces c && starts_alphanumeric p)) && is_word_tail p)) && list_all is_word ps ≡ accepts (name_run (name_after Joint c) r)
   joint_other h = elim (cases_Bool (is_ascii_alphanumeric c)) [
-    | inl yes ↦ (
-        ap (λ b. (b && ((goes_on_in_word c || (joins_pieces c && starts_alphanumeric p)) && is_word_tail p)) && list_all is_word ps) yes
-        ∙ ap (λ b. ((b || (joins_pieces c && starts_alphanumeric p)) && is_word_tail p) && list_all is_word ps) (alphanumeric_on c yes)
+    | inl holds ↦ (
+        ap (λ b. (b && ((goes_on_in_word c || (joins_pieces c && starts_alphanumeric p)) && is_word_tail p)) && list_all is_word ps) holds
+        ∙ ap (λ b. ((b || (joins_pieces c && starts_alphanumeric p)) && is_word_tail p) && list_all is_word ps) (alphanumeric_on c holds)
         ∙ h
-        ∙ ap (λ b. accepts (name_run (if b then Some Within else None) r)) (sym yes))
-    | inr no ↦ (
-        ap (λ b. (b && ((goes_on_in_word c || (joins_pieces c && starts_alphanumeric p)) && is_word_tail p)) && list_all is_word ps) no
+        ∙ ap (λ b. accepts (name_run (if b then Some Within else None) r)) (sym holds))
+    | inr fails ↦ (
+        ap (λ b. (b && ((goes_on_in_word c || (joins_pieces c && starts_alphanumeric p)) && is_word_tail p)) && list_all is_word ps) fails
         ∙ refused r
-        ∙ ap (λ b. accepts (name_run (if b then Some Within else None) r)) (sym no))
+        ∙ ap (λ b. accepts (name_run (if b then Some Within else None) r)) (sym fails))
   ]
 
 reads_other : (c : ℕ) (r p : List ℕ) (ps : List (List ℕ)) → (c == 32) ≡ false → slice_split (λ c. c == 32) r ≡ p ∷ ps → Reads r → Reads (c ∷ r)
@@ -149,15 +149,15 @@ reads_other c r p ps other e h =
       joint = ap (head_ok joint_tail) here ∙ joint_other c r p ps other within;
     }
 
+reads_nothing : Reads []
+unfolding head_ok pieces accepts joint_tail
+reads_nothing = record { front = refl; within = refl; joint = refl }
+
 reads : (l : List ℕ) → Reads l
 reads [] = reads_nothing
-  where
-    reads_nothing : Reads []
-    unfolding head_ok pieces accepts joint_tail
-    reads_nothing = record { front = refl; within = refl; joint = refl }
 reads (c ∷ r) = elim (cases_Bool (c == 32)) [
-  | inl yes ↦ subst (λ k. Reads (k ∷ r)) (sym (eqb-true c 32 yes)) (reads_space r (reads r))
-  | inr no ↦ (let s = shape_of r in reads_other c r s.first s.others no s.is (reads r))
+  | inl holds ↦ subst (λ k. Reads (k ∷ r)) (sym (eqb-true c 32 holds)) (reads_space r (reads r))
+  | inr fails ↦ (let s = shape_of r in reads_other c r s.first s.others fails s.is (reads r))
 ]
 
 ends_within : (o : Option NameAt) → accepts o ≡ true → o ≡ Some Within
@@ -192,8 +192,8 @@ closed_label l at h =
 -- `>` goes on in no name
 pub not_greater : (at next : NameAt) (c : ℕ) → name_after at c ≡ Some next → (c == 62) ≡ false
 not_greater at next c h = elim (cases_Bool (c == 62)) [
-  | inl yes ↦ absurd (none at (ap (name_after at) (sym (eqb-true c 62 yes)) ∙ h))
-  | inr no ↦ no
+  | inl holds ↦ absurd (none at (ap (name_after at) (sym (eqb-true c 62 holds)) ∙ h))
+  | inr fails ↦ fails
 ]
   where
     none : (at : NameAt) → name_after at 62 ≡ Some next → ⊥

@@ -76,24 +76,24 @@ grew_first most n byte h = by_digit (digit_of byte) refl
           high = omega arith;
         }
 
-pub grew_next : (most m n byte : ℕ) → most < 2 ^ 64 → grown most (Some m) byte ≡ Some n → (0 < m) × Grew most n byte (decimal m)
+pub grew_next : (most m n byte : ℕ) → most < 2 ^ 64 → grown most (Some m) byte ≡ Some n → (10 ≤ n) × Grew most n byte (decimal m)
 grew_next most zero n byte small h = absurd (none (digit_of byte) refl)
   where
     none : (o : Option ℕ) → digit_of byte ≡ o → ⊥
     none None e = (let z = rw e at h in cc)
     none (Some d) e = (let z = rw e at h in cc)
-grew_next most (suc m) n byte small h = (omega arith, by_digit (digit_of byte) refl)
+grew_next most (suc m) n byte small h = by_digit (digit_of byte) refl
   where
-    by_digit : (o : Option ℕ) → digit_of byte ≡ o → Grew most n byte (decimal (suc m))
+    by_digit : (o : Option ℕ) → digit_of byte ≡ o → (10 ≤ n) × Grew most n byte (decimal (suc m))
     by_digit None e = (let z = rw e at h in absurd (cc))
     by_digit (Some d) e =
         let (low, is) = digit_of-some byte d e in
         let (same, few) = at_most-some most (10 * suc m + d) n (rw e at h) in
         let front : n / 10 ≡ suc m = omega arith in
         let last : 48 + n % 10 ≡ byte = omega arith in
-        record {
+        (omega arith, record {
           few = omega arith;
           digits = decimal_step n (omega arith) (omega arith) ∙ ap (λ k. decimal k ++ (48 + n % 10) ∷ []) front ∙ ap (λ c. decimal (suc m) ++ c ∷ []) last;
           low = omega arith;
           high = omega arith;
-        }
+        })
