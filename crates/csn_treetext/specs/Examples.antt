@@ -1,6 +1,6 @@
 -- Worked examples, one of each form.
-use Rattle.std.specs.Prelude.{◌≡◌, ℕ, List, [], ◌∷◌, ◌++◌, codes, replicate}
-use Rattle.csn_desc.specs.TreeV.{TreeV, empty, bits, row, alt, named, Trees, none, more}
+use Rattle.std.specs.Prelude.{[], ◌∷◌, codes, replicate}
+use Rattle.csn_desc.specs.TreeV.{empty, bits, row, alt, named, none, more}
 use Rattle.csn_treetext.specs.Place.{TreeText, OldText}
 
 abbrev pub NothingIsADot : Type 0

@@ -6,7 +6,7 @@ ghost use Rattle.csn_treetext.specs.Numeral.{digit_of, grown, greatest_of, low_b
 ghost use Rattle.csn_treetext.specs.Machine.{cut_octets, upper_value, last_octet};
 
 use crate::bytes::Bytes;
-use csn_bits::{Bits, NoMemory};
+use csn_bits::{Bits, BitsFault, NoMemory};
 use csn_desc::{Shape, Tree};
 use std::alloc::Global;
 
@@ -82,7 +82,8 @@ pub fn push_bit(leaf: &mut Bits, bit: u8) -> Result<(), NoMemory>
 {
     match leaf.push(bit) {
         Ok(()) => Ok(()),
-        Err(_) => Err(NoMemory),
+        Err(BitsFault::NoMemory) => Err(NoMemory),
+        Err(_) => unreachable!(),
     }
 }
 
@@ -99,7 +100,8 @@ pub fn octets_leaf(alloc: Global, octets: &Bytes, used: u8) -> Result<Tree, NoMe
         Ok(leaf) => Ok(Tree {
             shape: Shape::Bits(leaf),
         }),
-        Err(_) => Err(NoMemory),
+        Err(BitsFault::NoMemory) => Err(NoMemory),
+        Err(_) => unreachable!(),
     }
 }
 
