@@ -1,6 +1,4 @@
-ghost use Rattle.std.specs.Prelude.{◌≡◌, ◌+◌, ◌-◌, ◌*◌, ◌%◌, ◌^◌, ◌<◌, ◌≤◌, ◌++◌, ◌∷◌, [], length, take, unwrap_or, IfOk, OnOk, Option, Some, None};
-ghost use Rattle.csn_bits.specs.Octets.{bits_of_octets};
-ghost use Rattle.csn_bits.specs.Line.{last_of};
+ghost use Rattle.std.specs.Prelude.{◌≡◌, ◌<◌, ◌≤◌, ◌++◌, ◌∷◌, [], length, IfOk, OnOk};
 ghost use Rattle.csn_desc.specs.TreeV.{bits};
 ghost use Rattle.csn_treetext.specs.Numeral.{digit_of, grown, greatest_of, low_bits};
 ghost use Rattle.csn_treetext.specs.Machine.{cut_octets, upper_value, last_octet};

@@ -1,12 +1,7 @@
 //! One byte more of a text, and its end.
 
-ghost use Rattle.std.specs.Prelude.{◌≡◌, ◌+◌, ◌-◌, ◌*◌, ◌<◌, ◌≤◌, [], ◌∷◌, ◌++◌, length, take, Option, Some, None, IfOk, OnOk, option_map};
-ghost use Rattle.csn_bits.specs.Octets.{bits_of_octets, IsBits};
-ghost use Rattle.csn_desc.specs.TreeV.{TreeV, bits};
-ghost use Rattle.csn_treetext.specs.declared.version.Version.TheVariants.{Second};
-ghost use Rattle.csn_treetext.specs.Text.{is_short};
-ghost use Rattle.csn_treetext.specs.Numeral.{grown, low_bits, greatest_of};
-ghost use Rattle.csn_treetext.specs.Machine.{HasRoom, HasRoomBelow, IsMode, AreDigits, after_digits, ended_octets, state, with_stack, with_tree, after_tree, closed, begun, name_after, after_name, after_width, after_quote, after_hash, after_number, after_octets, after_high, after_slash, after_bits, upper_value, step, ended, root_of, after_bracket, after_alternative, after_name_end};
+ghost use Rattle.std.specs.Prelude.{◌≡◌, IfOk};
+ghost use Rattle.csn_treetext.specs.Machine.{HasRoom, IsMode, with_stack, begun, name_after, after_name, after_hash, step, ended, after_bracket, after_alternative, after_name_end};
 
 use crate::bytes::Bytes;
 use crate::closing::{after_tree, root, with_tree};
