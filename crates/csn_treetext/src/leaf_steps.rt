@@ -17,7 +17,14 @@ use csn_bits::{Bits, MOST_BITS, NoMemory};
 use csn_desc::{Shape, Tree};
 use std::alloc::Global;
 
-/// A leaf alone.
+/// The most octets of a leaf.
+const MOST_OCTETS: usize = 65_536;
+
+// The fewest octets of a leaf that is written as a block line: they hold more than 64 bits, whatever
+// bits of the last one belong to it.
+const FEWEST_OCTETS: usize = 9;
+
+// A leaf alone.
 pub fn leaf(of: Bits) -> Tree
     ensures { result ≡ bits of }
 {
@@ -95,13 +102,13 @@ fn after_octets(
 {
     let count = octets.as_slice().len();
     if let Some(high) = upper_value(byte) {
-        return if count < 65_536 {
+        return if count < MOST_OCTETS {
             Ok(Some(Mode::Octets(octets, Some(high))))
         } else {
             Ok(None)
         };
     }
-    if count < 9 {
+    if count < FEWEST_OCTETS {
         return Ok(None);
     }
     if byte == b'/' {
@@ -189,7 +196,7 @@ pub fn finish_octets(
     requires digits { AreDigits octets high }
     ensures { IfOk result (λ root. root ≡ ended_octets octets high stack.old) }
 {
-    if high.is_some() || octets.as_slice().len() < 9 {
+    if high.is_some() || octets.as_slice().len() < FEWEST_OCTETS {
         return Ok(None);
     }
     let tree = octets_leaf(alloc, &octets, 8)?;

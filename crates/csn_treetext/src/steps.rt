@@ -11,7 +11,7 @@ use crate::leaf_steps::{
     is_short, leaf,
 };
 use crate::mode::{Mode, NameAt};
-use crate::stack::{Frame, Stack};
+use crate::stack::{Frame, MOST_ROUND, Stack};
 use crate::version::Version;
 use csn_bits::{Bits, NoMemory};
 use csn_desc::{Label, LabelFault, Rows, Shape, Tree};
@@ -65,8 +65,8 @@ fn begin(
             with_tree(alloc, stack, tree)?
         }
         b'[' => Mode::Opened,
-        b'#' if stack.len() < 63 => Mode::Hash,
-        b'<' if stack.len() < 63 => Mode::Name(Bytes::new(alloc), NameAt::Front),
+        b'#' if stack.len() < MOST_ROUND => Mode::Hash,
+        b'<' if stack.len() < MOST_ROUND => Mode::Name(Bytes::new(alloc), NameAt::Front),
         b'b' => match version {
             Version::First => Mode::Bare(Bits::new(alloc)),
             Version::Second => with_tree(alloc, stack, leaf(Bits::new(alloc)))?,
@@ -97,7 +97,7 @@ fn begin_row(
         };
         return Ok(Some(with_tree(alloc, stack, row)?));
     }
-    if stack.len() >= 63 {
+    if stack.len() >= MOST_ROUND {
         return Ok(None);
     }
     stack.push(Frame::Row(Rows::new(alloc)))?;
