@@ -1,30 +1,30 @@
 -- What a state stands for begins the text of some tree.
-use Rattle.std.specs.Prelude.{nat_lt, nat_le, slice_index, replicate}
-use Rattle.std.proofs.Common.{◌≡◌, ℕ, zero, suc, ◌+◌, ◌-◌, ◌*◌, ◌/◌, ◌%◌, ◌^◌, ◌<◌, ◌≤◌, Bool, true, false, ◌&&◌, List, [], ◌∷◌, ◌++◌, length, map, Option, Some, None, refl, sym, ap, ◌∙◌, subst, arith, inl, inr, append_assoc, append-nil, length-append}
+use Rattle.std.specs.Prelude.{nat_le, slice_index, replicate}
+use Rattle.std.proofs.Common.{◌≡◌, ℕ, zero, suc, ◌+◌, ◌-◌, ◌*◌, ◌/◌, ◌%◌, ◌<◌, ◌≤◌, Bool, true, false, ◌&&◌, List, [], ◌∷◌, ◌++◌, length, Option, Some, None, refl, sym, ap, ◌∙◌, subst, arith, append_assoc, append-nil, length-append}
 use Rattle.std.proofs.lemmas.List.{length-replicate}
 use Rattle.std.specs.Fmt.{decimal}
-use Rattle.std.proofs.lemmas.Bool.{cases_Bool, lt-leb}
+use Rattle.std.proofs.lemmas.Bool.{lt-leb}
 use Rattle.std.proofs.lemmas.List.{map-append, length_push}
 use Rattle.hex.specs.Hex.{encode_upper, encode_with, upper_digits}
 use Rattle.csn_bits.specs.Octets.{IsBits}
-use Rattle.csn_bits.specs.Line.{tail_written}
 use Rattle.csn_bits.proofs.Packing.{IsBits-append}
 use Rattle.csn_desc.specs.Label.{IsLabel}
-use Rattle.csn_desc.specs.TreeV.{TreeV, empty, bits, row, alt, named, Trees, none, more, trees_of}
+use Rattle.csn_desc.specs.TreeV.{TreeV, empty, bits, row, alt, named, none, trees_of}
 use Rattle.csn_treetext.specs.declared.version.Version.{Version}
 use Rattle.csn_treetext.specs.declared.version.Version.TheVariants.{First, Second}
 use Rattle.csn_treetext.specs.declared.stack.Frame.{Frame}
 use Rattle.csn_treetext.specs.declared.stack.Frame.TheVariants.{Row, Alt, Named}
 use Rattle.csn_treetext.specs.declared.mode.Mode.{Mode}
 use Rattle.csn_treetext.specs.declared.mode.Mode.TheVariants.{Start, Opened, Behind, Done, Width, Quote, Value, Hash, Number, Name, NameEnd, Octets, Slash, Bare}
-use Rattle.csn_treetext.specs.Text.{text_of, row_text, bit_digits, leaf_text, is_short}
-use Rattle.csn_treetext.specs.Place.{IsTextOf, BeginsText}
+use Rattle.csn_treetext.specs.Text.{text_of, row_text, bit_digits, is_short}
+use Rattle.csn_treetext.specs.Place.{BeginsText}
 use Rattle.csn_treetext.specs.Numeral.{greatest_of, low_bits}
-use Rattle.csn_treetext.specs.Machine.{State, state, AreOctets, AreDigits, last_octet, cut_octets}
+use Rattle.csn_treetext.specs.Machine.{state, AreOctets, AreDigits, cut_octets}
 use Rattle.csn_treetext.proofs.Names.{closed_label}
 use Rattle.csn_treetext.proofs.OctetLeaves.{encode_upper-push, cut_text}
-use Rattle.csn_treetext.proofs.Spelled.{spaced, before, behind, high_text, spelled, IsTree, AreTrees, AreTrees-push, IsStack, HasTree, IsPlaced, StandsFor, level_low, row_is_tree, spaced-push}
-use Rattle.csn_treetext.proofs.Sound.{number_text, number_is_tree, cut_is_tree, AreOctets-push}
+use Rattle.csn_treetext.proofs.Spelled.{spaced, before, behind, high_text, IsTree, AreTrees-push, IsStack, HasTree, StandsFor, level_low, row_is_tree, spaced-push}
+use Rattle.csn_treetext.proofs.WholeTrees.{number_text, number_is_tree, cut_is_tree}
+use Rattle.csn_treetext.proofs.LeafSteps.{AreOctets-push}
 
 -- ---- a tree that has begun can end
 
@@ -104,8 +104,8 @@ octets_begin stack octets h are few x y text =
     ends Second stack (cut_octets (pad octets) 8) (120 ∷ x) (y ++ zeros) h
     (cut_is_tree (length stack) (pad octets) 8 (level_low stack h) whole (omega arith) small (omega arith))
     (cut_text (pad octets) 8 whole many small (omega arith) (omega arith) (omega arith)
-      ∙ ap (λ l. 120 ∷ l) (append-nil (encode_upper (pad octets)) ∙ encode_upper-append octets (replicate (9 - length octets) 0)
-        ∙ ap (λ l. l ++ zeros) text ∙ append_assoc x y zeros))
+    ∙ ap (λ l. 120 ∷ l) (append-nil (encode_upper (pad octets)) ∙ encode_upper-append octets (replicate (9 - length octets) 0)
+    ∙ ap (λ l. l ++ zeros) text ∙ append_assoc x y zeros))
 
 digits_begin : (stack : List Frame) (octets : List ℕ) (high : Option ℕ) → IsStack stack → AreOctets octets → AreDigits octets high → BeginsText Second (before Second stack ++ 120 ∷ (encode_upper octets ++ high_text high))
 digits_begin stack octets None h are m =
@@ -172,15 +172,15 @@ state_begins version (Done t) stack text is =
     (t, [], record { fits = is.placed.1.fits; parts = is.placed.1.parts; spelled = append-nil text ∙ sym is.bytes })
 state_begins version (Width width) stack text is =
     as_begun is.bytes (ends version stack (bits (low_bits width 0)) (decimal width) (39 ∷ decimal 0) is.stack
-      (number_is_tree (length stack) width 0 (level_low stack is.stack) is.mode.1) (number_text version width 0 is.mode.0 is.mode.1 (power_some width)))
+    (number_is_tree (length stack) width 0 (level_low stack is.stack) is.mode.1) (number_text version width 0 is.mode.0 is.mode.1 (power_some width)))
 state_begins version (Quote width) stack text is =
     as_begun is.bytes (ends version stack (bits (low_bits width 0)) (decimal width ++ 39 ∷ []) (decimal 0) is.stack
-      (number_is_tree (length stack) width 0 (level_low stack is.stack) is.mode.1)
-      (number_text version width 0 is.mode.0 is.mode.1 (power_some width) ∙ sym (append_assoc (decimal width) (39 ∷ []) (decimal 0))))
+    (number_is_tree (length stack) width 0 (level_low stack is.stack) is.mode.1)
+    (number_text version width 0 is.mode.0 is.mode.1 (power_some width) ∙ sym (append_assoc (decimal width) (39 ∷ []) (decimal 0))))
 state_begins version (Value width number) stack text is =
     as_begun is.bytes (ends version stack (bits (low_bits width number)) (decimal width ++ 39 ∷ decimal number) [] is.stack
-      (number_is_tree (length stack) width number (level_low stack is.stack) is.mode.1)
-      (number_text version width number is.mode.0 is.mode.1 is.mode.2 ∙ sym (append-nil (decimal width ++ 39 ∷ decimal number))))
+    (number_is_tree (length stack) width number (level_low stack is.stack) is.mode.1)
+    (number_text version width number is.mode.0 is.mode.1 is.mode.2 ∙ sym (append-nil (decimal width ++ 39 ∷ decimal number))))
 state_begins version Hash stack text is =
     let low = is.placed in
     as_begun is.bytes (ends version stack (alt 0 empty) (35 ∷ []) (decimal 0 ++ 58 ∷ 46 ∷ []) is.stack (record { fits = (omega arith, omega arith); parts = tt }) refl)
@@ -190,7 +190,7 @@ state_begins version (Number number) stack text is =
     as_begun is.bytes (ends version stack (alt number empty) (35 ∷ decimal number) (58 ∷ 46 ∷ []) is.stack (record { fits = (omega arith, omega arith); parts = tt }) refl)
 state_begins version (Name name at) stack text is =
     as_begun is.bytes (name_begins version stack (name ++ 48 ∷ []) name (48 ∷ 62 ∷ 61 ∷ 46 ∷ []) is.stack is.placed (closed_label name at is.mode)
-      (append_assoc name (48 ∷ []) (62 ∷ 61 ∷ 46 ∷ [])))
+    (append_assoc name (48 ∷ []) (62 ∷ 61 ∷ 46 ∷ [])))
 state_begins version (NameEnd name) stack text is =
     as_begun is.bytes (name_begins version stack name (name ++ 62 ∷ []) (61 ∷ 46 ∷ []) is.stack is.placed is.mode (sym (append_assoc name (62 ∷ []) (61 ∷ 46 ∷ []))))
 state_begins version (Octets octets high) stack text is =
@@ -201,9 +201,9 @@ state_begins version (Slash octets) stack text is =
     let many = is.mode.1 in
     let leaf = cut_text octets 7 is.mode.0 is.mode.1 is.mode.2 (omega arith) (omega arith) is.mode.3 in
     as_begun is.bytes (subst P (sym is.placed)
-      (ends Second stack (cut_octets octets 7) (120 ∷ (encode_upper octets ++ 47 ∷ [])) (55 ∷ []) is.stack
-        (cut_is_tree (length stack) octets 7 (level_low stack is.stack) is.mode.0 (omega arith) is.mode.2 (omega arith))
-        (leaf ∙ ap (λ l. 120 ∷ l) (sym (append_assoc (encode_upper octets) (47 ∷ []) (55 ∷ []))))))
+    (ends Second stack (cut_octets octets 7) (120 ∷ (encode_upper octets ++ 47 ∷ [])) (55 ∷ []) is.stack
+    (cut_is_tree (length stack) octets 7 (level_low stack is.stack) is.mode.0 (omega arith) is.mode.2 (omega arith))
+    (leaf ∙ ap (λ l. 120 ∷ l) (sym (append_assoc (encode_upper octets) (47 ∷ []) (55 ∷ []))))))
 state_begins version (Bare b) stack text is =
     let P : Version → Type 0 = λ v. BeginsText v (before v stack ++ 98 ∷ bit_digits b) in
     as_begun is.bytes (subst P (sym is.placed) (bits_begin stack b is.stack is.mode.0 is.mode.1))

@@ -7,7 +7,10 @@ pub mod Names
 pub mod OctetLeaves
 pub mod Rooms
 pub mod Spelled
+pub mod WholeTrees
+pub mod LeafSteps
 pub mod Sound
+pub mod Runs
 pub mod Complete
 pub mod Alive
 pub mod Places

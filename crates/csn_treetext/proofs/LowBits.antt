@@ -1,11 +1,11 @@
 -- The bits that write a number.
-use Rattle.std.proofs.Common.{◌≡◌, ℕ, zero, suc, ◌+◌, ◌-◌, ◌*◌, ◌/◌, ◌%◌, ◌^◌, ◌<◌, ◌≤◌, List, [], ◌∷◌, ◌++◌, length, refl, sym, ap, ◌∙◌, arith}
+use Rattle.std.proofs.Common.{◌≡◌, ℕ, zero, suc, ◌+◌, ◌*◌, ◌/◌, ◌%◌, ◌^◌, ◌<◌, ◌≤◌, List, [], ◌∷◌, ◌++◌, length, refl, sym, ap, ◌∙◌, arith}
 use Rattle.std.proofs.Math.Nat.{pow-succ', div-div-eq-div-mul, pow-suc}
 use Rattle.std.proofs.lemmas.List.{length_push}
 use Rattle.csn_bits.specs.Octets.{IsBits}
 use Rattle.csn_bits.proofs.Packing.{IsBits-append}
 use Rattle.csn_desc.specs.Values.{number_of}
-use Rattle.csn_treetext.specs.Numeral.{low_bits, greatest_of}
+use Rattle.csn_treetext.specs.Numeral.{low_bits}
 use Rattle.csn_treetext.proofs.Numbers.{number_of-push, number_of-small}
 
 pub length-low_bits : (width n : ℕ) → length (low_bits width n) ≡ width

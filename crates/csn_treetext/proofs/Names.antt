@@ -1,9 +1,9 @@
 -- Labels, byte by byte.
 use Rattle.std.specs.Prelude.{if◌then◌else◌}
-use Rattle.std.proofs.Common.{◌≡◌, ℕ, zero, suc, ◌+◌, ◌==◌, Bool, true, false, ◌&&◌, ◌||◌, List, [], ◌∷◌, ◌++◌, Option, Some, None, refl, sym, ap, ◌∙◌, subst, inl, inr, eqb-true}
-use Rattle.std.specs.List.{list_all, slice_split, onto_first}
+use Rattle.std.proofs.Common.{◌≡◌, ℕ, ◌==◌, Bool, true, false, ◌&&◌, ◌||◌, List, [], ◌∷◌, ◌++◌, Option, Some, None, refl, sym, ap, ◌∙◌, subst, inl, inr, eqb-true}
+use Rattle.std.specs.List.{list_all, slice_split}
 use Rattle.std.specs.Char.{is_ascii_alphanumeric}
-use Rattle.std.proofs.lemmas.Bool.{cases_Bool, and_left, agree_below_at}
+use Rattle.std.proofs.lemmas.Bool.{cases_Bool}
 use Rattle.csn_lexer.specs.Word.{begins_word, goes_on_in_word, joins_pieces, starts_alphanumeric, is_word_tail, is_word}
 use Rattle.csn_desc.specs.Label.{is_label, IsLabel}
 use Rattle.csn_treetext.specs.declared.mode.NameAt.{NameAt}

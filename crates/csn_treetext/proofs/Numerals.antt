@@ -1,9 +1,9 @@
 -- Decimal numbers that are read digit by digit.
-use Rattle.std.proofs.Common.{◌≡◌, ℕ, zero, suc, ◌+◌, ◌-◌, ◌*◌, ◌/◌, ◌%◌, ◌^◌, ◌<◌, ◌≤◌, ◌==◌, nat_le, Bool, true, false, ◌&&◌, List, [], ◌∷◌, ◌++◌, Option, Some, None, refl, sym, ap, ◌∙◌, arith, inl, inr, eqb-true}
+use Rattle.std.proofs.Common.{◌≡◌, ℕ, zero, suc, ◌+◌, ◌-◌, ◌*◌, ◌/◌, ◌%◌, ◌^◌, ◌<◌, ◌≤◌, ◌==◌, nat_le, true, ◌&&◌, List, [], ◌∷◌, ◌++◌, Option, Some, None, refl, sym, ap, ◌∙◌, arith, inl, inr, eqb-true}
 use Rattle.std.specs.Fmt.{decimal}
 use Rattle.std.proofs.lemmas.Fmt.{decimal_digit, decimal_step}
-use Rattle.std.proofs.lemmas.Bool.{agree_below_at, and_parts, cases_Bool, leb-true, le-leb, lt-leb}
-use Rattle.csn_treetext.specs.Numeral.{digit_of, at_most, appended, grown, grown_by, greatest_of}
+use Rattle.std.proofs.lemmas.Bool.{agree_below_at, and_parts, cases_Bool, leb-true, le-leb}
+use Rattle.csn_treetext.specs.Numeral.{digit_of, at_most, appended, grown, greatest_of}
 
 -- what a program makes of all ones, shifted
 pub greatest_shifted : (width : ℕ) → width ≤ 64 → 18446744073709551615 / 2 ^ (64 - width) ≡ greatest_of width
@@ -90,10 +90,12 @@ grew_next most (suc m) n byte small h = by_digit (digit_of byte) refl
         let (low, is) = digit_of-some byte d e in
         let (same, few) = at_most-some most (10 * suc m + d) n (rw e at h) in
         let front : n / 10 ≡ suc m = omega arith in
-        let last : 48 + n % 10 ≡ byte = omega arith in
-        (omega arith, record {
-          few = omega arith;
-          digits = decimal_step n (omega arith) (omega arith) ∙ ap (λ k. decimal k ++ (48 + n % 10) ∷ []) front ∙ ap (λ c. decimal (suc m) ++ c ∷ []) last;
-          low = omega arith;
-          high = omega arith;
-        })
+        let last : 48 + n % 10 ≡ byte = omega arith in (
+          omega arith,
+          record {
+            few = omega arith;
+            digits = decimal_step n (omega arith) (omega arith) ∙ ap (λ k. decimal k ++ (48 + n % 10) ∷ []) front ∙ ap (λ c. decimal (suc m) ++ c ∷ []) last;
+            low = omega arith;
+            high = omega arith;
+          },
+        )

@@ -1,24 +1,24 @@
 -- Where a text stops being read, and what was read of it.
-use Rattle.std.proofs.Common.{◌≡◌, ℕ, zero, suc, ◌+◌, ◌-◌, ◌*◌, ◌<◌, ◌≤◌, Bool, List, [], ◌∷◌, ◌++◌, length, take, drop, get_or, Option, Some, None, refl, sym, ap, ◌∙◌, subst, arith, inl, inr, append_assoc, append-nil, length-append}
+use Rattle.std.proofs.Common.{◌≡◌, ℕ, zero, suc, ◌+◌, ◌-◌, ◌*◌, ◌<◌, ◌≤◌, List, [], ◌∷◌, ◌++◌, length, take, drop, get_or, Option, Some, None, refl, sym, ap, ◌∙◌, subst, arith, inl, inr, append_assoc, append-nil, length-append}
 use Rattle.std.proofs.Math.Seq.{take-suc}
 use Rattle.std.proofs.lemmas.Bool.{cases_lt, cases_Bool}
 use Rattle.std.proofs.lemmas.List.{take_all}
 use Rattle.std.specs.Fmt.{decimal}
-use Rattle.csn_bits.specs.Line.{written}
 use Rattle.csn_desc.specs.Values.{number_of}
-use Rattle.csn_desc.specs.TreeV.{TreeV, empty, bits, row, alt, named, Trees, none, more, trees_of}
+use Rattle.csn_desc.specs.TreeV.{TreeV, empty, bits, row, alt, named, trees_of}
 use Rattle.csn_treetext.specs.declared.version.Version.{Version}
 use Rattle.csn_treetext.specs.declared.version.Version.TheVariants.{First, Second}
 use Rattle.csn_treetext.specs.declared.stack.Frame.{Frame}
 use Rattle.csn_treetext.specs.declared.stack.Frame.TheVariants.{Row, Alt, Named}
 use Rattle.csn_treetext.specs.declared.mode.Mode.{Mode}
 use Rattle.csn_treetext.specs.declared.mode.Mode.TheVariants.{Start, Opened, Behind, Done, Width, Quote, Value, Hash, Number, Name, NameEnd, Octets, Slash, Bare}
-use Rattle.csn_treetext.specs.Text.{text_of, row_text, bit_digits, leaf_text, is_short, short_text, other_text}
+use Rattle.csn_treetext.specs.Text.{text_of, row_text, leaf_text, is_short, short_text, other_text}
 use Rattle.csn_treetext.specs.Place.{IsTextOf, BeginsText, IsFaultPlace}
-use Rattle.csn_treetext.specs.Machine.{State, state, HasRoom, IsMode, step, step_from, steps, ended}
-use Rattle.csn_treetext.proofs.Spelled.{spaced, before, behind, spelled, IsStack, HasTree, IsPlaced, StandsFor, spaced-row}
+use Rattle.csn_treetext.specs.Machine.{State, state, HasRoom, step, step_from, steps, ended}
+use Rattle.csn_treetext.proofs.Spelled.{spaced, before, behind, HasTree, StandsFor, spaced-row}
 use Rattle.csn_treetext.proofs.Sound.{steps-none, steps-append, steps_stand, start_stands, ended_is}
-use Rattle.csn_treetext.proofs.Complete.{end_of, text_run}
+use Rattle.csn_treetext.proofs.Runs.{end_of}
+use Rattle.csn_treetext.proofs.Complete.{text_run}
 use Rattle.csn_treetext.proofs.Alive.{state_begins}
 
 -- ---- room
@@ -112,9 +112,9 @@ refused_front version front byte rest s t e refused is =
     let read = text_run version t (front ++ byte ∷ rest) is in
     let nothing : end_of (steps version start (front ++ byte ∷ rest)) ≡ None =
     ap end_of (steps-append version start front (byte ∷ rest)
-      ∙ ap (λ o. steps version (step_from version o byte) rest) e
-      ∙ ap (λ o. steps version o rest) refused
-      ∙ steps-none version rest) in
+    ∙ ap (λ o. steps version (step_from version o byte) rest) e
+    ∙ ap (λ o. steps version o rest) refused
+    ∙ steps-none version rest) in
     let clash : None ≡ Some t = sym nothing ∙ read in
     cc
 
@@ -133,7 +133,7 @@ no_further version text at s low e refused p within (t, rest, is) = elim (cases_
       ap (λ n. take n text ++ rest) count ∙ ap (λ l. l ++ rest) (cut_at text at (p - suc at) low)
       ∙ append_assoc (take at text) (get_or text at 0 ∷ take (p - suc at) (drop (suc at) text)) rest in
       absurd (refused_front version (take at text) (get_or text at 0) (take (p - suc at) (drop (suc at) text) ++ rest) s t e refused
-        (record { fits = is.fits; parts = is.parts; spelled = sym split ∙ is.spelled })))
+      (record { fits = is.fits; parts = is.parts; spelled = sym split ∙ is.spelled })))
   | inr here ↦ omega arith
 ]
 

@@ -1,5 +1,5 @@
 -- The text of a row, tree by tree.
-use Rattle.std.proofs.Common.{◌≡◌, ℕ, zero, suc, ◌+◌, ◌<◌, List, [], ◌∷◌, ◌++◌, length, take, slice_get, Option, Some, None, refl, sym, ap, ◌∙◌, append_assoc, append-nil, arith}
+use Rattle.std.proofs.Common.{◌≡◌, ℕ, zero, suc, ◌+◌, ◌<◌, List, [], ◌∷◌, ◌++◌, take, slice_get, Some, sym, ap, ◌∙◌, append_assoc, append-nil, arith}
 use Rattle.csn_desc.specs.TreeV.{TreeV, trees_of}
 use Rattle.csn_desc.specs.TreeCode.{tree_size, rows_size}
 use Rattle.csn_treetext.specs.declared.version.Version.{Version}

@@ -1,13 +1,10 @@
 -- What bytes a state of the reader stands for, and that a step adds its byte to them.
-use Rattle.std.specs.Prelude.{if◌then◌else◌, nat_lt, nat_le}
-use Rattle.std.proofs.Common.{◌≡◌, ℕ, zero, suc, ◌+◌, ◌-◌, ◌*◌, ◌%◌, ◌^◌, ◌<◌, ◌≤◌, ◌==◌, Bool, true, false, ◌&&◌, List, [], ◌∷◌, ◌++◌, length, Option, Some, None, refl, sym, ap, ◌∙◌, subst, arith, inl, inr, append_assoc, append-nil}
+use Rattle.std.proofs.Common.{◌≡◌, ℕ, suc, ◌<◌, List, [], ◌∷◌, ◌++◌, length, Option, Some, None, refl, sym, ap, ◌∙◌, arith, append_assoc}
 use Rattle.std.specs.Fmt.{decimal}
-use Rattle.std.proofs.lemmas.Bool.{cases_Bool}
 use Rattle.hex.specs.Hex.{encode_upper, upper_digits}
 use Rattle.std.specs.Prelude.{slice_index}
-use Rattle.csn_bits.specs.Octets.{IsBits}
 use Rattle.csn_desc.specs.Label.{IsLabel}
-use Rattle.csn_desc.specs.TreeV.{TreeV, empty, bits, row, alt, named, Trees, none, more, trees_of}
+use Rattle.csn_desc.specs.TreeV.{TreeV, row, alt, named, trees_of}
 use Rattle.csn_treetext.specs.declared.version.Version.{Version}
 use Rattle.csn_treetext.specs.declared.version.Version.TheVariants.{First, Second}
 use Rattle.csn_treetext.specs.declared.stack.Frame.{Frame}
@@ -16,7 +13,7 @@ use Rattle.csn_treetext.specs.declared.mode.Mode.{Mode}
 use Rattle.csn_treetext.specs.declared.mode.Mode.TheVariants.{Start, Opened, Behind, Done, Width, Quote, Value, Hash, Number, Name, NameEnd, Octets, Slash, Bare}
 use Rattle.csn_treetext.specs.Text.{text_of, row_text, rest_text, bit_digits}
 use Rattle.csn_treetext.specs.Fits.{FitsInside, AllFitInside, HasParts, AllHaveParts}
-use Rattle.csn_treetext.specs.Machine.{State, state, IsMode, with_tree}
+use Rattle.csn_treetext.specs.Machine.{State, IsMode, with_tree}
 use Rattle.csn_treetext.proofs.Rows.{row_text-one, row_text-push}
 
 -- ---- the bytes

@@ -1,7 +1,8 @@
 -- Worked examples, one of each form.
-use Rattle.std.specs.Prelude.{◌≡◌, ℕ, List, [], ◌∷◌, ◌++◌, codes, replicate}
-use Rattle.csn_desc.specs.TreeV.{TreeV, empty, bits, row, alt, named, Trees, none, more}
-use Rattle.csn_treetext.specs.Place.{TreeText, OldText}
+use Rattle.std.specs.Prelude.{[], ◌∷◌, codes, replicate}
+use Rattle.csn_desc.specs.TreeV.{empty, bits, row, alt, named, none, more}
+use Rattle.csn_treetext.specs.declared.version.Version.TheVariants.{First, Second}
+use Rattle.csn_treetext.specs.Place.{TreeText, OldText, IsFaultPlace}
 
 abbrev pub NothingIsADot : Type 0
 NothingIsADot = TreeText empty (codes ".")
@@ -27,3 +28,14 @@ NoTreesAreBrackets = TreeText (row none) (codes "[]")
 abbrev pub RowsHaveSpaces : Type 0
 RowsHaveSpaces =
     TreeText (row (more (named (codes "A") (bits (1 ∷ 0 ∷ 1 ∷ []))) (more (alt 1 empty) none))) (codes "[<A>=3'5 #1:.]")
+
+-- ---- places: three bits do not write 9; `x` goes on to 65 bits at least; and formerly `b` did
+
+abbrev pub GreatNumbersAreRefused : Type 0
+GreatNumbersAreRefused = IsFaultPlace Second (codes "<A>=3'9") 6
+
+abbrev pub ShortBlockLinesAreRefused : Type 0
+ShortBlockLinesAreRefused = IsFaultPlace Second (codes "xFF/1") 3
+
+abbrev pub FewDigitsWereRefused : Type 0
+FewDigitsWereRefused = IsFaultPlace First (codes "b1") 2

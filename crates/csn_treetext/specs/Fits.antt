@@ -1,5 +1,5 @@
 -- Which trees have a text. The bounds are this project's own.
-use Rattle.std.specs.Prelude.{ℕ, suc, ◌<◌, ◌≤◌, List, length}
+use Rattle.std.specs.Prelude.{ℕ, suc, ◌<◌, ◌≤◌, length}
 use Rattle.csn_bits.specs.Octets.{IsBits}
 use Rattle.csn_desc.specs.Label.{IsLabel}
 use Rattle.csn_desc.specs.TreeV.{TreeV, empty, bits, row, alt, named, Trees, none, more}

@@ -2,7 +2,7 @@
 use Rattle.std.specs.Prelude.{◌≡◌, ℕ, List, ◌++◌}
 use Rattle.csn_desc.specs.TreeV.{TreeV}
 use Rattle.csn_treetext.specs.declared.version.Version.{Version}
-use Rattle.csn_treetext.specs.Place.{TreeText, OldText, IsTextOf, BeginsText}
+use Rattle.csn_treetext.specs.Place.{TreeText, OldText, BeginsText}
 
 abbrev pub TreeTextsDiffer : Type 0
 TreeTextsDiffer = (t u : TreeV) (text : List ℕ) → TreeText t text → TreeText u text → t ≡ u

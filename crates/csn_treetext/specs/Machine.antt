@@ -191,8 +191,8 @@ after_octets octets (Some high) stack byte =
     if nat_lt (length octets) 65536 then Some (state (Octets octets (Some high)) stack) else None
 after_octets octets None stack byte =
     if are_many octets then
-      (if byte == 47 then (if last_octet octets % 2 == 0 then Some (state (Slash octets) stack) else None)
-      else closed stack (cut_octets octets 8) byte)
+    (if byte == 47 then (if last_octet octets % 2 == 0 then Some (state (Slash octets) stack) else None)
+    else closed stack (cut_octets octets 8) byte)
     else None
 
 abbrev pub after_digits : List ℕ → Option ℕ → List Frame → ℕ → Option State
@@ -210,26 +210,35 @@ is_bit_digit byte = nat_le 48 byte && nat_le byte 49
 abbrev pub after_bits : List ℕ → List Frame → ℕ → Option State
 after_bits b stack byte =
     if is_bit_digit byte then
-      (if nat_lt (length b) 524288 then Some (state (Bare (b ++ (byte - 48) ∷ [])) stack) else None)
+    (if nat_lt (length b) 524288 then Some (state (Bare (b ++ (byte - 48) ∷ [])) stack) else None)
     else if is_short b then None
     else closed stack (bits b) byte
 
-abbrev pub step : Version → Mode → List Frame → ℕ → Option State
-step version Start stack byte = begun version stack byte
-step version Opened stack byte =
+abbrev pub after_bracket : Version → List Frame → ℕ → Option State
+after_bracket version stack byte =
     if byte == 93 then Some (with_tree stack (row none))
     else if nat_lt (length stack) 63 then begun version (Row [] ∷ stack) byte
     else None
+
+abbrev pub after_alternative : ℕ → List Frame → ℕ → Option State
+after_alternative number stack byte =
+    if byte == 58 then Some (state Start (Alt number ∷ stack)) else with_stack stack (after_hash (Some number) byte)
+
+abbrev pub after_name_end : List ℕ → List Frame → ℕ → Option State
+after_name_end name stack byte = if byte == 61 then Some (state Start (Named name ∷ stack)) else None
+
+abbrev pub step : Version → Mode → List Frame → ℕ → Option State
+step version Start stack byte = begun version stack byte
+step version Opened stack byte = after_bracket version stack byte
 step version Behind stack byte = after_tree stack byte
 step version (Done t) stack byte = None
 step version (Width width) stack byte = with_stack stack (after_width width byte)
 step version (Quote width) stack byte = with_stack stack (after_quote width byte)
 step version (Value width number) stack byte = after_number (grown (greatest_of width) (Some number) byte) width number stack byte
 step version Hash stack byte = with_stack stack (after_hash None byte)
-step version (Number number) stack byte =
-    if byte == 58 then Some (state Start (Alt number ∷ stack)) else with_stack stack (after_hash (Some number) byte)
+step version (Number number) stack byte = after_alternative number stack byte
 step version (Name name at) stack byte = with_stack stack (after_name name at byte)
-step version (NameEnd name) stack byte = if byte == 61 then Some (state Start (Named name ∷ stack)) else None
+step version (NameEnd name) stack byte = after_name_end name stack byte
 step version (Octets octets high) stack byte = after_digits octets high stack byte
 step version (Slash octets) stack byte = after_slash octets stack byte
 step version (Bare b) stack byte = after_bits b stack byte

@@ -1,6 +1,6 @@
 -- The text of a tree. The form is this project's own: 3GPP TS 24.007 Annex B says what bits mean and not
 -- how values are shown.
-use Rattle.std.specs.Prelude.{ℕ, ◌+◌, nat_le, Bool, ◌&&◌, if◌then◌else◌, List, [], ◌∷◌, ◌++◌, length, map, codes}
+use Rattle.std.specs.Prelude.{ℕ, ◌+◌, nat_le, Bool, ◌&&◌, if◌then◌else◌, List, [], ◌∷◌, ◌++◌, length, map}
 use Rattle.std.specs.Fmt.{decimal}
 use Rattle.csn_bits.specs.Line.{written}
 use Rattle.csn_desc.specs.Values.{number_of}

@@ -1,12 +1,10 @@
-ghost use Rattle.std.specs.Prelude.{◌≡◌, ◌+◌, ◌-◌, ◌*◌, ◌%◌, ◌^◌, ◌<◌, ◌≤◌, ◌++◌, ◌∷◌, [], length, take, unwrap_or, IfOk, OnOk, Option, Some, None};
-ghost use Rattle.csn_bits.specs.Octets.{bits_of_octets};
-ghost use Rattle.csn_bits.specs.Line.{last_of};
+ghost use Rattle.std.specs.Prelude.{◌≡◌, ◌<◌, ◌≤◌, ◌++◌, ◌∷◌, [], length, IfOk, OnOk};
 ghost use Rattle.csn_desc.specs.TreeV.{bits};
 ghost use Rattle.csn_treetext.specs.Numeral.{digit_of, grown, greatest_of, low_bits};
 ghost use Rattle.csn_treetext.specs.Machine.{cut_octets, upper_value, last_octet};
 
 use crate::bytes::Bytes;
-use csn_bits::{Bits, NoMemory};
+use csn_bits::{Bits, BitsFault, NoMemory};
 use csn_desc::{Shape, Tree};
 use std::alloc::Global;
 
@@ -82,7 +80,8 @@ pub fn push_bit(leaf: &mut Bits, bit: u8) -> Result<(), NoMemory>
 {
     match leaf.push(bit) {
         Ok(()) => Ok(()),
-        Err(_) => Err(NoMemory),
+        Err(BitsFault::NoMemory) => Err(NoMemory),
+        Err(_) => unreachable!(),
     }
 }
 
@@ -99,7 +98,8 @@ pub fn octets_leaf(alloc: Global, octets: &Bytes, used: u8) -> Result<Tree, NoMe
         Ok(leaf) => Ok(Tree {
             shape: Shape::Bits(leaf),
         }),
-        Err(_) => Err(NoMemory),
+        Err(BitsFault::NoMemory) => Err(NoMemory),
+        Err(_) => unreachable!(),
     }
 }
 

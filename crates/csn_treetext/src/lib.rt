@@ -3,10 +3,12 @@
 
 mod bounds;
 mod bytes;
+mod closing;
 pub mod examples;
 mod fault;
 pub mod laws;
 mod leaf;
+mod leaf_steps;
 mod mode;
 mod read;
 mod stack;

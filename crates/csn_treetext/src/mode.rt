@@ -1,3 +1,6 @@
+ghost use Rattle.std.specs.Prelude.{◌≡◌};
+ghost use Rattle.csn_treetext.specs.Machine.{may_end};
+
 use crate::bytes::Bytes;
 use csn_bits::Bits;
 use csn_desc::{Label, Tree};
@@ -36,7 +39,7 @@ pub enum Mode {
 }
 
 /// Where in a label one stands.
-#[derive(Clone, Copy, Debug, Drop, PartialEq, Eq)]
+#[derive(Clone, Copy, Debug, Drop)]
 pub enum NameAt {
     /// At the front of a word.
     Front,
@@ -44,4 +47,16 @@ pub enum NameAt {
     Within,
     /// Behind `/` or `-`, which a letter or a digit follows.
     Joint,
+}
+
+impl NameAt {
+    /// Whether a label may end here.
+    pub fn may_end(self) -> bool
+        ensures { result ≡ may_end self }
+    {
+        match self {
+            NameAt::Within => true,
+            NameAt::Front | NameAt::Joint => false,
+        }
+    }
 }

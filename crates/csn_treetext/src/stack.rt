@@ -5,6 +5,9 @@ use csn_desc::{Label, Rows};
 use std::alloc::Global;
 use std::marker::Model;
 
+/// The most trees that can stand round another one: a tree has 64 levels at most.
+pub const MOST_ROUND: usize = 63;
+
 /// A tree that has begun and has not ended.
 #[derive(Drop)]
 pub enum Frame {

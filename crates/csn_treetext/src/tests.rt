@@ -1,18 +1,97 @@
-use crate::{TextFault, read_old_tree, read_tree, write_tree};
+use crate::{TextFault, fits, read_old_tree, read_tree, write_tree};
+use csn_desc::{Shape, Tree};
 use std::test::Fail;
 
+// A text of every form: nothing, a number, no bits, a block line, rows, alternatives and labels.
+const LONG: &str =
+    "[. <A>=3'5 b #16383:[] <GPRS Cell/2 o'k>=xFFFFFFFFFFFFFFFF80/1 [64'18446744073709551615 xFFFFFFFFFFFFFFFFFF]]";
+
 #[test]
-fn try_rows(rt: HostRuntime) -> Result<(), Fail> {
-    let cases: [(&str, u32); 9] = [("<A>=3'9", 6), ("xFF", 3), ("[3'5 #1:. <A b>=[b x000000000000000000]]", 99), ("[", 1), ("", 0), (".]", 1), ("b1", 1), ("[] ", 2), ("x0000000000000000/", 17)];
-    for (text, place) in cases {
-        match read_tree(rt.alloc(), text.as_bytes()) {
-            Ok(tree) => {
-                assert_eq!(rt; place, 99);
-                let wrote = write_tree(rt.alloc(), &tree).map_err(|_| "out of memory")?;
-                assert_eq!(rt; wrote.as_slice(), text.as_bytes());
-            }
-            Err(fault) => assert_eq!(rt; fault, TextFault::Place { place }, "at {text}"),
-        }
+fn each_form_is_read_and_written_back(rt: HostRuntime) -> Result<(), Fail> {
+    for text in [
+        ".",
+        "3'5",
+        "64'18446744073709551615",
+        "b",
+        "xFFFFFFFFFFFFFFFF80/1",
+        "[]",
+        "[. .]",
+        "#0:.",
+        "<A b>=1'0",
+        LONG,
+    ] {
+        let tree = read_tree(rt.alloc(), text.as_bytes()).map_err(|_| "no text")?;
+        assert!(rt; fits(&tree));
+        let wrote = write_tree(rt.alloc(), &tree).map_err(|_| "out of memory")?;
+        assert_eq!(rt; wrote.as_slice(), text.as_bytes());
+    }
+    Ok(())
+}
+
+#[test]
+fn every_front_of_a_long_text_is_refused_at_its_end(rt: HostRuntime) {
+    let text = LONG.as_bytes();
+    for place in 0..text.len() {
+        let read = read_tree(rt.alloc(), &text[..place]);
+        assert_eq!(rt;
+            read.err(),
+            Some(TextFault::Place {
+                place: place as u32
+            })
+        );
+    }
+}
+
+#[test]
+fn a_bad_text_is_refused_at_its_place(rt: HostRuntime) {
+    for (text, place) in [
+        ("<A>=3'9", 6),
+        ("65'0", 1),
+        ("0'0", 0),
+        ("3'05", 3),
+        ("#16384:.", 5),
+        ("xFF/1", 3),
+        ("xFFFFFFFFFFFFFFFFF0f", 19),
+        ("xFFFFFFFFFFFFFFFFFF/1", 19),
+        ("<a/_>=.", 3),
+        ("[. ]", 3),
+        (". ", 1),
+    ] {
+        let read = read_tree(rt.alloc(), text.as_bytes());
+        assert_eq!(rt; read.err(), Some(TextFault::Place { place }), "at {text}");
+    }
+}
+
+#[test]
+fn old_texts_become_new_ones(rt: HostRuntime) -> Result<(), Fail> {
+    let bits = "b11111111111111111111111111111111111111111111111111111111111111111";
+    for (old, text) in [
+        (bits, "xFFFFFFFFFFFFFFFF80/1"),
+        ("64'18446744073709551615", "64'18446744073709551615"),
+        ("b", "b"),
+    ] {
+        let tree = read_old_tree(rt.alloc(), old.as_bytes()).map_err(|_| "no text")?;
+        let wrote = write_tree(rt.alloc(), &tree).map_err(|_| "out of memory")?;
+        assert_eq!(rt; wrote.as_slice(), text.as_bytes());
+    }
+    for (old, place) in [("64'18446744073709551616", 22), ("xFF", 0), ("b1", 2)] {
+        let read = read_old_tree(rt.alloc(), old.as_bytes());
+        assert_eq!(rt; read.err(), Some(TextFault::Place { place }), "at {old}");
+    }
+    Ok(())
+}
+
+#[test]
+fn trees_of_too_many_levels_do_not_fit(rt: HostRuntime) -> Result<(), Fail> {
+    let mut tree = Tree {
+        shape: Shape::Empty,
+    };
+    for level in 1..70 {
+        assert_eq!(rt; fits(&tree), level <= 64);
+        let inner = Box::new(rt.alloc(), tree).map_err(|_| "out of memory")?;
+        tree = Tree {
+            shape: Shape::Alt(16_383, inner),
+        };
     }
     Ok(())
 }

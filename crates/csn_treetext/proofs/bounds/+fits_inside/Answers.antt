@@ -1,10 +1,10 @@
 use Rattle.std.proofs.Common.{◌≡◌, ◌+◌, ap, sym, ◌∙◌, subst, arith, suc, add-one}
-use Rattle.csn_desc.specs.TreeV.{TreeV, row, trees_of}
+use Rattle.csn_desc.specs.TreeV.{row, trees_of}
 use Rattle.csn_desc.specs.TreeCode.{tree_size, rows_size}
 use Rattle.csn_desc.specs.ShapeView.{shape_view}
 use Rattle.csn_treetext.specs.Fits.{FitsInside, AllFitInside}
 use Rattle.csn_treetext.proofs.Rows.{member_size}
-use Rattle.csn_treetext.proofs.Fitting.{room_for, member_fits, all_from_first, FirstFit}
+use Rattle.csn_treetext.proofs.Fitting.{room_for, member_fits, all_from_first}
 use Rattle.csn_treetext.proofs.bounds.+fits_inside.Goals as goal
 
 pub returns-then-round-eq-MOST_LEVELS : goal.returns-then-round-eq-MOST_LEVELS
@@ -19,12 +19,14 @@ fits_inside-requires t c =
 pub returns-then-not-fits_inside : goal.returns-then-not-fits_inside
 returns-then-not-fits_inside t c =
     let whole : c.args.tree.now ≡ row (trees_of c.in-Row.rows) = sym c.tree.view_is ∙ ap shape_view c.in-Row.is in
-    let next : suc c.args.round ≡ c.args.round + 1 = sym (add-one c.args.round) in
-    ((λ h. cc), (λ h.
-      let all = (subst (FitsInside c.args.round) whole h).1 in
-      let here = member_fits _ c.in-Row.rows c.loop-at.at c.get.result.now c.get.ensures all in
-      let yes = c.fits_inside.ensures.1 (subst (λ n. FitsInside n c.get.result.now) next here) in
-      cc))
+    let next : suc c.args.round ≡ c.args.round + 1 = sym (add-one c.args.round) in (
+      (λ h. cc),
+      (λ h.
+          let all = (subst (FitsInside c.args.round) whole h).1 in
+          let here = member_fits _ c.in-Row.rows c.loop-at.at c.get.result.now c.get.ensures all in
+          let yes = c.fits_inside.ensures.1 (subst (λ n. FitsInside n c.get.result.now) next here) in
+          cc),
+    )
 
 pub returns-after-loop-at : goal.returns-after-loop-at
 returns-after-loop-at t c =

@@ -1,4 +1,4 @@
-use Rattle.std.proofs.Common.{append_assoc, ◌++◌, ◌∙◌, sym, List, ℕ}
+use Rattle.std.proofs.Common.{append_assoc, ◌++◌, ◌∙◌, sym}
 use Rattle.csn_treetext.proofs.laws.fronts_begin_texts.Goals as goal
 
 pub returns : goal.returns

@@ -21,9 +21,13 @@ loop-at-preserved t c =
     let have = have_next c.in-Row.rows c.loop-at.at c.get.result.now c.get.ensures c.loop-at.invariant.1 c.in_ok-push_tree-in-Row.ensures.parts in
     elim c.if-at-gt0.branch [
       | then-at-gt0+in_ok-push-in-Row-2 w ↦ (
-          wrote ∙ ap (λ l. l ++ text_of Second tree) ((λ i. (w.out-is i).items) ∙ w.in_ok-push-in-Row-2.ensures.items)
-          ∙ wrote_next Second c.loop-at.out.items before c.in-Row.rows c.loop-at.at tree c.get.ensures w.if-at-gt0.true c.loop-at.invariant.0, have)
+        wrote ∙ ap (λ l. l ++ text_of Second tree) ((λ i. (w.out-is i).items) ∙ w.in_ok-push-in-Row-2.ensures.items)
+            ∙ wrote_next Second c.loop-at.out.items before c.in-Row.rows c.loop-at.at tree c.get.ensures w.if-at-gt0.true c.loop-at.invariant.0,
+        have,
+      )
       | else-at-gt0 w ↦ (
-          wrote ∙ ap (λ l. l ++ text_of Second tree) (λ i. (w.out-is i).items)
-          ∙ wrote_first Second c.loop-at.out.items before c.in-Row.rows c.loop-at.at tree c.get.ensures (omega arith) c.loop-at.invariant.0, have)
+        wrote ∙ ap (λ l. l ++ text_of Second tree) (λ i. (w.out-is i).items)
+            ∙ wrote_first Second c.loop-at.out.items before c.in-Row.rows c.loop-at.at tree c.get.ensures (omega arith) c.loop-at.invariant.0,
+        have,
+      )
     ]

@@ -1,4 +1,4 @@
-use Rattle.std.proofs.Common.{arith, ◌∙◌}
+use Rattle.std.proofs.Common.{arith}
 use Rattle.csn_treetext.proofs.Numbers.{doubled_small, number_of-next}
 use Rattle.csn_treetext.proofs.write.number_of.Goals as goal
 

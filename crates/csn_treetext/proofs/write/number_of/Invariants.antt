@@ -1,4 +1,4 @@
-use Rattle.std.proofs.Common.{◌≡◌, ◌^◌, ◌<◌, take}
+use Rattle.std.proofs.Common.{◌≡◌, take}
 use Rattle.csn_desc.specs.Values.{number_of}
 use Rattle.csn_treetext.proofs.write.number_of.Given as goal
 

@@ -1,6 +1,6 @@
 use Rattle.std.proofs.Common.{◌≡◌, length}
 use Rattle.csn_treetext.specs.Machine.{HasRoom, with_tree}
-use Rattle.csn_treetext.proofs.steps.with_tree.Given as goal
+use Rattle.csn_treetext.proofs.closing.with_tree.Given as goal
 
 abbrev pub invariant-loop-frame : goal.invariant-loop-frame
 invariant-loop-frame l = (with_tree l.stack l.tree ≡ with_tree l.fn.stack l.fn.tree) × HasRoom l.stack
