@@ -8,7 +8,7 @@ use Rattle.hex.specs.Hex.{encode_upper, is_hex_digit, upper_digits}
 use Rattle.hex.proofs.HexLemmas.{length-encode_with}
 use Rattle.csn_bits.specs.Octets.{IsBits, octet_of, octets_of}
 use Rattle.csn_bits.specs.Line.{BlockLine, bits_of_tail, digits_of, fault_of, is_dot, last_of, octets_of_digits, tail_of, upper, value_of, written}
-use Rattle.csn_bits.specs.Feed.{AreDigits, tail_text, waiting_digit}
+use Rattle.csn_bits.specs.Feed.{AreDigits, tail_text, waiting_value}
 use Rattle.csn_bits.proofs.Faults.{IsWhole, fault-bad_digit, fault-fill, fault-many, fault-no_octet, fault-none, fault-odd, fault-tail}
 use Rattle.csn_bits.proofs.Packing.{AreOctets, length-octets_of, octets_of-small}
 use Rattle.csn_bits.proofs.ReadBack.{AreDigits-encode_upper, bits_of_tail-tail_for, counted_for, octets_of_digits-encode_upper, tail_for, waiting-encode_upper, written_parts}
@@ -56,7 +56,7 @@ Spelled line = (bits : List ℕ) × BlockLine line bits
 
 -- of digits with a tail, by what is kept of them
 spelled_whole : (digits : List ℕ) (tail : Option (List ℕ)) (waiting last counted : Option ℕ) → AreDigits digits
-    → waiting_digit digits ≡ waiting → last_of (octets_of_digits digits) ≡ last → bits_of_tail tail ≡ counted
+    → waiting_value digits ≡ waiting → last_of (octets_of_digits digits) ≡ last → bits_of_tail tail ≡ counted
     → fault_of (digits ++ tail_text tail) ≡ None → Spelled (digits ++ tail_text tail)
 spelled_whole digits tail (Some digit) last counted s w o u none =
     absurd (let wrong = sym none ∙ fault-odd digits tail digit s w in cc)

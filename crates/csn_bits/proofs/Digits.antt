@@ -4,7 +4,7 @@ use Rattle.std.proofs.lemmas.Bool.{cases_Bool}
 use Rattle.std.proofs.lemmas.List.{take_at, take-append-le, take_all, length_push}
 use Rattle.hex.specs.Hex.{is_hex_digit}
 use Rattle.csn_bits.specs.Line.{last_of, octets_of_digits, value_of}
-use Rattle.csn_bits.specs.Feed.{AreDigits, all_but_last, leading_digits, waiting_digit}
+use Rattle.csn_bits.specs.Feed.{AreDigits, all_but_last, leading_digits, waiting_value}
 
 -- a byte that a test tells from one that passes it
 tells : (test : ℕ → Bool) (byte other : ℕ) → test byte ≡ true → test other ≡ false → (byte == other) ≡ false
@@ -51,47 +51,42 @@ last_none (a ∷ b ∷ rest) is = (let e = last_none (b ∷ rest) is in absurd (
 -- ---- pairs
 
 -- two digits to an octet
-pub length-octets_even : (digits : List ℕ) → waiting_digit digits ≡ None → length digits ≡ 2 * length (octets_of_digits digits)
+pub length-octets_even : (digits : List ℕ) → waiting_value digits ≡ None → length digits ≡ 2 * length (octets_of_digits digits)
 length-octets_even [] none = refl
 length-octets_even (d ∷ []) none = absurd (cc)
 length-octets_even (h ∷ l ∷ rest) none = let later = length-octets_even rest none in omega (arith, later)
 
-pub length-octets_odd : (digits : List ℕ) (digit : ℕ) → waiting_digit digits ≡ Some digit → length digits ≡ 2 * length (octets_of_digits digits) + 1
+pub length-octets_odd : (digits : List ℕ) (digit : ℕ) → waiting_value digits ≡ Some digit → length digits ≡ 2 * length (octets_of_digits digits) + 1
 length-octets_odd [] digit some = absurd (cc)
 length-octets_odd (d ∷ []) digit some = refl
 length-octets_odd (h ∷ l ∷ rest) digit some = let later = length-octets_odd rest digit some in omega (arith, later)
 
 -- a digit more, which waits
-pub waiting-push_first : (digits : List ℕ) (digit : ℕ) → waiting_digit digits ≡ None → waiting_digit (digits ++ digit ∷ []) ≡ Some digit
+pub waiting-push_first : (digits : List ℕ) (digit : ℕ) → waiting_value digits ≡ None
+    → waiting_value (digits ++ digit ∷ []) ≡ Some (value_of digit)
 waiting-push_first [] digit none = refl
 waiting-push_first (d ∷ []) digit none = absurd (cc)
 waiting-push_first (h ∷ l ∷ rest) digit none = waiting-push_first rest digit none
 
-pub octets-push_first : (digits : List ℕ) (digit : ℕ) → waiting_digit digits ≡ None → octets_of_digits (digits ++ digit ∷ []) ≡ octets_of_digits digits
+pub octets-push_first : (digits : List ℕ) (digit : ℕ) → waiting_value digits ≡ None → octets_of_digits (digits ++ digit ∷ []) ≡ octets_of_digits digits
 octets-push_first [] digit none = refl
 octets-push_first (d ∷ []) digit none = absurd (cc)
 octets-push_first (h ∷ l ∷ rest) digit none =
     ap (λ (os : List ℕ). (16 * value_of h + value_of l) ∷ os) (octets-push_first rest digit none)
 
 -- a digit more, which ends a pair
-pub waiting-push_second : (digits : List ℕ) (high digit : ℕ) → waiting_digit digits ≡ Some high → waiting_digit (digits ++ digit ∷ []) ≡ None
+pub waiting-push_second : (digits : List ℕ) (high digit : ℕ) → waiting_value digits ≡ Some high → waiting_value (digits ++ digit ∷ []) ≡ None
 waiting-push_second [] high digit some = absurd (cc)
 waiting-push_second (d ∷ []) high digit some = refl
 waiting-push_second (h ∷ l ∷ rest) high digit some = waiting-push_second rest high digit some
 
-pub octets-push_second : (digits : List ℕ) (high digit : ℕ) → waiting_digit digits ≡ Some high
-    → octets_of_digits (digits ++ digit ∷ []) ≡ octets_of_digits digits ++ (16 * value_of high + value_of digit) ∷ []
+pub octets-push_second : (digits : List ℕ) (high digit : ℕ) → waiting_value digits ≡ Some high
+    → octets_of_digits (digits ++ digit ∷ []) ≡ octets_of_digits digits ++ (16 * high + value_of digit) ∷ []
 octets-push_second [] high digit some = absurd (cc)
 octets-push_second (d ∷ []) high digit some =
-    (let e : d ≡ high = cc in ap (λ (n : ℕ). (16 * value_of n + value_of digit) ∷ []) e)
+    (let e : value_of d ≡ high = cc in ap (λ (n : ℕ). (16 * n + value_of digit) ∷ []) e)
 octets-push_second (h ∷ l ∷ rest) high digit some =
     ap (λ (os : List ℕ). (16 * value_of h + value_of l) ∷ os) (octets-push_second rest high digit some)
-
--- the digit that waits is one of the digits
-pub waiting_is_digit : (digits : List ℕ) (digit : ℕ) → AreDigits digits → waiting_digit digits ≡ Some digit → is_hex_digit digit ≡ true
-waiting_is_digit [] digit s some = absurd (cc)
-waiting_is_digit (d ∷ []) digit s some = (let e : d ≡ digit = cc in rw (← e) s.0)
-waiting_is_digit (h ∷ l ∷ rest) digit (sh, (sl, s)) some = waiting_is_digit rest digit s some
 
 -- ---- what a feed gives
 

@@ -6,7 +6,7 @@ use Rattle.std.proofs.lemmas.Bool.{eq-eqb, ne_eqb, le-ltb, lt-ltb, or_left, or_r
 use Rattle.std.proofs.lemmas.List.{length_push}
 use Rattle.hex.specs.Hex.{is_hex_digit}
 use Rattle.csn_bits.specs.Line.{bad_fill, bad_length, bits_of_tail, digits_of, fault_of, first_fault, is_dot, last_of, octets_of_digits, tail_of, too_many_bits, unused_bits}
-use Rattle.csn_bits.specs.Feed.{AreDigits, all_but_last, tail_text, waiting_digit}
+use Rattle.csn_bits.specs.Feed.{AreDigits, all_but_last, tail_text, waiting_value}
 use Rattle.csn_bits.specs.declared.fault.LineWhy.{LineWhy}
 use Rattle.csn_bits.specs.declared.fault.LineWhy.TheVariants.{BadDigit, BadLength, BadFill, TooManyBits}
 use Rattle.csn_bits.proofs.Digits.{digit_no_dot, digit_no_slash, last_none, last_parts, length-octets_even, length-octets_odd}
@@ -71,7 +71,7 @@ length_is_bad : (digits : List ℕ) (used : Option ℕ) → (length digits == 0 
     → later_fault digits used ≡ Some BadLength
 length_is_bad digits used h = rw h refl
 
-pub fault-odd : (digits : List ℕ) (tail : Option (List ℕ)) (digit : ℕ) → AreDigits digits → waiting_digit digits ≡ Some digit
+pub fault-odd : (digits : List ℕ) (tail : Option (List ℕ)) (digit : ℕ) → AreDigits digits → waiting_value digits ≡ Some digit
     → fault_of (digits ++ tail_text tail) ≡ Some BadLength
 fault-odd digits tail digit s waits =
     let odd : length digits % 2 ≡ 1 = omega (arith, length-octets_odd digits digit waits) in
@@ -79,7 +79,7 @@ fault-odd digits tail digit s waits =
     ∙ length_is_bad digits (bits_of_tail tail)
     (or_left (length digits == 0 || length digits % 2 == 1) _ (or_right (length digits == 0) _ (eq-eqb _ _ odd)))
 
-pub fault-no_octet : (digits : List ℕ) (tail : Option (List ℕ)) → AreDigits digits → waiting_digit digits ≡ None
+pub fault-no_octet : (digits : List ℕ) (tail : Option (List ℕ)) → AreDigits digits → waiting_value digits ≡ None
     → last_of (octets_of_digits digits) ≡ None → fault_of (digits ++ tail_text tail) ≡ Some BadLength
 fault-no_octet digits tail s waits none =
     let empty = last_none (octets_of_digits digits) none in
@@ -98,7 +98,7 @@ fault-tail digits tail s none =
 -- the digits make whole octets, the last of them has this value, and the tail counts its bits
 pub record IsWhole (digits : List ℕ) (tail : Option (List ℕ)) (octet used : ℕ) : Type 0 where
   pub are_digits : AreDigits digits
-  pub even : waiting_digit digits ≡ None
+  pub even : waiting_value digits ≡ None
   pub last : last_of (octets_of_digits digits) ≡ Some octet
   pub counts : bits_of_tail tail ≡ Some used
   pub some : 1 ≤ used
@@ -106,7 +106,7 @@ pub record IsWhole (digits : List ℕ) (tail : Option (List ℕ)) (octet used : 
 
 -- digits of which nothing waits, where this was kept of them
 pub whole_from : (digits : List ℕ) (tail : Option (List ℕ)) (octet used : ℕ) {waiting last counted : Option ℕ} → AreDigits digits
-    → waiting ≡ waiting_digit digits → last ≡ last_of (octets_of_digits digits) → counted ≡ bits_of_tail tail
+    → waiting ≡ waiting_value digits → last ≡ last_of (octets_of_digits digits) → counted ≡ bits_of_tail tail
     → waiting ≡ None → last ≡ Some octet → counted ≡ Some used → (1 ≤ used) × (used ≤ 8) → IsWhole digits tail octet used
 whole_from digits tail octet used s w o u none some counts range = record {
   are_digits = s;

@@ -1,14 +1,14 @@
 -- What a feed keeps of a line, one byte on.
-use Rattle.std.proofs.Common.{◌≡◌, ℕ, ◌+◌, ◌*◌, ◌<◌, ◌≤◌, ◌==◌, true, false, ◌&&◌, List, [], ◌∷◌, ◌++◌, length, take, Option, Some, None, refl, sym, ap, ◌∙◌, arith, append_assoc, append-nil, eqb-true, inl, inr}
-use Rattle.std.proofs.lemmas.Bool.{and_from, cases_Bool, and_parts}
+use Rattle.std.proofs.Common.{◌≡◌, ℕ, ◌+◌, ◌*◌, ◌<◌, ◌≤◌, ◌==◌, true, false, ◌&&◌, List, [], ◌∷◌, ◌++◌, length, take, Option, Some, None, is_some, unwrap_or, refl, sym, ap, ◌∙◌, arith, append_assoc, append-nil, eqb-true, inl, inr}
+use Rattle.std.proofs.lemmas.Bool.{cases_Bool, and_parts}
 use Rattle.std.proofs.lemmas.List.{nil_from_length}
-use Rattle.hex.specs.Hex.{is_hex_digit}
-use Rattle.csn_bits.specs.Line.{fault_of, is_dot, last_of, octet_of_pair, octets_of_digits, value_of}
-use Rattle.csn_bits.specs.Feed.{AreDigits, Holds, dot, bad, read, all_but_last, leading_digits, octets_given, stage_after, stage_of_tail, waiting_digit}
+use Rattle.hex.specs.Hex.{hex_digit_value, is_hex_digit}
+use Rattle.csn_bits.specs.Line.{fault_of, is_dot, last_of, octets_of_digits, value_of}
+use Rattle.csn_bits.specs.Feed.{AreDigits, Holds, dot, bad, read, all_but_last, leading_digits, octets_given, stage_after, stage_of_tail, waiting_value}
 use Rattle.csn_bits.specs.declared.fault.LineWhy.TheVariants.{BadDigit, BadLength}
 use Rattle.csn_bits.specs.declared.feed.Stage.{Stage}
 use Rattle.csn_bits.specs.declared.feed.Stage.TheVariants as stage
-use Rattle.csn_bits.proofs.Digits.{AreDigits-push, given-push, given-push_full, last_none, last_of-push, length-octets_odd, leading-all, leading-stop, octets-push_first, octets-push_second, waiting-push_first, waiting-push_second, waiting_is_digit}
+use Rattle.csn_bits.proofs.Digits.{AreDigits-push, given-push, given-push_full, last_none, last_of-push, length-octets_odd, leading-all, leading-stop, octets-push_first, octets-push_second, waiting-push_first, waiting-push_second}
 use Rattle.csn_bits.proofs.Faults.{fault-bad_digit, fault-tail}
 
 -- nothing yet
@@ -19,7 +19,7 @@ holds-nil = read [] None refl tt refl refl refl
 
 -- the line that a feed at this stage was given
 pub holds_digits : (at : Stage) (waiting last : Option ℕ) (line : List ℕ) → Holds at waiting last line → at ≡ stage.Digits
-    → AreDigits line × (waiting ≡ waiting_digit line) × (last ≡ last_of (octets_of_digits line))
+    → AreDigits line × (waiting ≡ waiting_value line) × (last ≡ last_of (octets_of_digits line))
 holds_digits at waiting last line (dot e l) is = absurd (cc)
 holds_digits at waiting last line (bad front byte back l s fails other dotless e) is = absurd (cc)
 holds_digits at waiting last line (read digits None l s w o e) is =
@@ -30,7 +30,7 @@ holds_digits at waiting last line (read digits (Some (b ∷ [])) l s w o e) is =
 holds_digits at waiting last line (read digits (Some (b ∷ c ∷ tail)) l s w o e) is = absurd (cc)
 
 -- the feed was given these digits
-holds_from : (line : List ℕ) (waiting last : Option ℕ) → AreDigits line → waiting ≡ waiting_digit line → last ≡ last_of (octets_of_digits line)
+holds_from : (line : List ℕ) (waiting last : Option ℕ) → AreDigits line → waiting ≡ waiting_value line → last ≡ last_of (octets_of_digits line)
     → Holds stage.Digits waiting last line
 holds_from line waiting last s w o = read line None (sym (append-nil line)) s w o refl
 
@@ -38,14 +38,21 @@ given_of_digits : (line : List ℕ) → AreDigits line → octets_given line ≡
 given_of_digits line s = ap (λ (l : List ℕ). take 65536 (all_but_last (octets_of_digits l))) (leading-all line s)
 
 -- a digit more is taken by a feed that kept this much
-module _ (line : List ℕ) (at : Stage) (waiting last : Option ℕ) (digit : ℕ) (h : Holds at waiting last line) (is : at ≡ stage.Digits)
-    (d : is_hex_digit digit ≡ true) where
+module _ (line : List ℕ) (at : Stage) (waiting last : Option ℕ) (digit value : ℕ) (h : Holds at waiting last line) (is : at ≡ stage.Digits)
+    (v : hex_digit_value digit ≡ Some value) where
+  d : is_hex_digit digit ≡ true
+  d = ap (λ (o : Option ℕ). is_some o) v
+
+  valued : value_of digit ≡ value
+  valued = ap (λ (o : Option ℕ). unwrap_or o 0) v
+
   -- a digit that waits
-  pub holds_first : waiting ≡ None → Holds at (Some digit) last (line ++ digit ∷ [])
+  pub holds_first : waiting ≡ None → Holds at (Some value) last (line ++ digit ∷ [])
   holds_first none =
       let (s, w, o) = holds_digits at waiting last line h is in
-      let even : waiting_digit line ≡ None = sym w ∙ none in
-      rw is (holds_from (line ++ digit ∷ []) (Some digit) last (AreDigits-push line digit s d) (sym (waiting-push_first line digit even))
+      let even : waiting_value line ≡ None = sym w ∙ none in
+      rw is (holds_from (line ++ digit ∷ []) (Some value) last (AreDigits-push line digit s d)
+      (sym (waiting-push_first line digit even ∙ ap (λ (n : ℕ). Some n) valued))
       (o ∙ ap last_of (sym (octets-push_first line digit even))))
 
   pub given_first : waiting ≡ None → octets_given (line ++ digit ∷ []) ≡ octets_given line ++ []
@@ -56,21 +63,21 @@ module _ (line : List ℕ) (at : Stage) (waiting last : Option ℕ) (digit : ℕ
       ∙ sym (given_of_digits line s) ∙ sym (append-nil (octets_given line))
 
   -- a digit that ends a pair
-  pub holds_second : (high : ℕ) (octet : Option ℕ) → waiting ≡ Some high → octet ≡ octet_of_pair high digit → Holds at None octet (line ++ digit ∷ [])
-  holds_second high octet some paired =
+  pub holds_second : (high : ℕ) → waiting ≡ Some high → Holds at None (Some (16 * high + value)) (line ++ digit ∷ [])
+  holds_second high some =
       let (s, w, o) = holds_digits at waiting last line h is in
-      let odd : waiting_digit line ≡ Some high = sym w ∙ some in
-      let both = and_from (is_hex_digit high) (is_hex_digit digit) (waiting_is_digit line high s odd) d in
-      let pair : octet ≡ Some (16 * value_of high + value_of digit) = paired ∙ (rw both refl) in
-      rw (is, pair) (holds_from (line ++ digit ∷ []) None _ (AreDigits-push line digit s d) (sym (waiting-push_second line high digit odd))
-      (rw (octets-push_second line high digit odd) (sym (last_of-push (octets_of_digits line) _))))
+      let odd : waiting_value line ≡ Some high = sym w ∙ some in
+      let more : octets_of_digits (line ++ digit ∷ []) ≡ octets_of_digits line ++ (16 * high + value) ∷ [] =
+      octets-push_second line high digit odd ∙ ap (λ (n : ℕ). octets_of_digits line ++ (16 * high + n) ∷ []) valued in
+      rw is (holds_from (line ++ digit ∷ []) None _ (AreDigits-push line digit s d) (sym (waiting-push_second line high digit odd))
+      (rw more (sym (last_of-push (octets_of_digits line) _))))
 
   -- the octet that it gives
   pub given_second : (high octet : ℕ) → waiting ≡ Some high → last ≡ Some octet → length line + 1 ≤ 131074
       → octets_given (line ++ digit ∷ []) ≡ octets_given line ++ octet ∷ []
   given_second high octet some before room =
       let (s, w, o) = holds_digits at waiting last line h is in
-      let odd : waiting_digit line ≡ Some high = sym w ∙ some in
+      let odd : waiting_value line ≡ Some high = sym w ∙ some in
       let pairs = length-octets_odd line high odd in
       given_of_digits (line ++ digit ∷ []) (AreDigits-push line digit s d)
       ∙ (rw (octets-push_second line high digit odd, given_of_digits line s)
@@ -80,7 +87,7 @@ module _ (line : List ℕ) (at : Stage) (waiting last : Option ℕ) (digit : ℕ
       → octets_given (line ++ digit ∷ []) ≡ octets_given line ++ []
   given_second_full high octet some before full =
       let (s, w, o) = holds_digits at waiting last line h is in
-      let odd : waiting_digit line ≡ Some high = sym w ∙ some in
+      let odd : waiting_value line ≡ Some high = sym w ∙ some in
       let pairs = length-octets_odd line high odd in
       given_of_digits (line ++ digit ∷ []) (AreDigits-push line digit s d)
       ∙ (rw (octets-push_second line high digit odd, given_of_digits line s)
@@ -90,7 +97,7 @@ module _ (line : List ℕ) (at : Stage) (waiting last : Option ℕ) (digit : ℕ
   pub given_second_none : (high : ℕ) → waiting ≡ Some high → last ≡ None → octets_given (line ++ digit ∷ []) ≡ octets_given line ++ []
   given_second_none high some before =
       let (s, w, o) = holds_digits at waiting last line h is in
-      let odd : waiting_digit line ≡ Some high = sym w ∙ some in
+      let odd : waiting_value line ≡ Some high = sym w ∙ some in
       let empty = last_none (octets_of_digits line) (sym o ∙ before) in
       given_of_digits (line ++ digit ∷ []) (AreDigits-push line digit s d)
       ∙ (rw (octets-push_second line high digit odd, given_of_digits line s, empty) refl)
@@ -120,7 +127,7 @@ no_dot (d ∷ []) byte more = refl
 no_dot (d ∷ e ∷ rest) byte more = refl
 
 -- the first byte that is no digit
-holds_end_of_digits : (line : List ℕ) (waiting last : Option ℕ) (byte : ℕ) → AreDigits line → waiting ≡ waiting_digit line → last ≡ last_of (octets_of_digits line)
+holds_end_of_digits : (line : List ℕ) (waiting last : Option ℕ) (byte : ℕ) → AreDigits line → waiting ≡ waiting_value line → last ≡ last_of (octets_of_digits line)
     → is_hex_digit byte ≡ false → Holds (stage_after stage.Digits byte (length line)) waiting last (line ++ byte ∷ [])
 holds_end_of_digits line waiting last byte s w o fails =
     elim (cases_Bool (byte == 47)) [

@@ -1,25 +1,10 @@
--- Digits as the crate hex and the library know them.
-use Rattle.std.proofs.Common.{◌≡◌, ℕ, ◌<◌, nat_le, false, [], ◌∷◌, get_or, Option, Some, None, refl, sym, ap, ◌∙◌, arith, inl, inr}
+-- Hexadecimal digits, as the crate hex reads them.
+use Rattle.std.proofs.Common.{◌≡◌, ℕ, ◌<◌, nat_lt, nat_le, Bool, true, false, [], ◌∷◌, get_or, Option, Some, None, refl, ap, arith}
 use Rattle.std.specs.Prelude.{MatchResult}
-use Rattle.std.specs.Char.{is_ascii_hexdigit}
-use Rattle.std.proofs.lemmas.Bool.{agree_below_at, and_right, cases_lt, lt-leb}
-use Rattle.hex.specs.Hex.{decode_pairs, decode_sized, hex_digit_value, is_hex_digit}
-use Rattle.csn_bits.specs.Line.{octet_of_pair}
-
--- what the crate reads of two digits is their octet, and what it refuses has none
-abbrev pub ReadsPair : ℕ → ℕ → Type 0
-ReadsPair high low =
-    MatchResult (decode_sized (high ∷ low ∷ []) 1) (λ bytes. Some (get_or bytes 0 0) ≡ octet_of_pair high low)
-    (λ e. None ≡ octet_of_pair high low)
-
-reads_values : (high low : ℕ) (h l : Option ℕ) → hex_digit_value high ≡ h → hex_digit_value low ≡ l → ReadsPair high low
-unfolding decode_pairs
-reads_values high low (Some h) (Some l) p q = rw (p, q) (ap (λ (n : ℕ). Some n) (omega arith))
-reads_values high low (Some h) None p q = rw (p, q) refl
-reads_values high low None l p q = rw p refl
-
-pub reads_pair : (high low : ℕ) → ReadsPair high low
-reads_pair high low = reads_values high low (hex_digit_value high) (hex_digit_value low) refl refl
+use Rattle.std.specs.Option.{ForSome}
+use Rattle.std.proofs.lemmas.Bool.{agree_below_at, and_right, lt-leb, ltb-true}
+use Rattle.hex.specs.Hex.{decode_sized, hex_digit_value, is_hex_digit}
+use Rattle.hex.proofs.OnLiterals.{hex_on_literals}
 
 -- no byte from 103 on is a digit
 pub high_fails : (byte : ℕ) → 102 < byte → is_hex_digit byte ≡ false
@@ -29,15 +14,28 @@ high_fails byte high =
     let c : nat_le byte 57 ≡ false = lt-leb byte 57 (omega arith) in
     rw (and_right (nat_le 65 byte) _ a, and_right (nat_le 97 byte) _ b, and_right (nat_le 48 byte) _ c) refl
 
--- the library's test of a digit is that of the crate
-pub is_ascii_hexdigit-is_hex_digit : (byte : ℕ) → is_ascii_hexdigit byte ≡ is_hex_digit byte
-is_ascii_hexdigit-is_hex_digit byte = elim (cases_lt byte 103) [
-  | inl low ↦ agree_below_at is_ascii_hexdigit is_hex_digit 103 byte refl low
-  | inr high ↦ (
-      let a : nat_le byte 57 ≡ false = lt-leb byte 57 (omega arith) in
-      let b : nat_le byte 70 ≡ false = lt-leb byte 70 (omega arith) in
-      let c : nat_le byte 102 ≡ false = lt-leb byte 102 (omega arith) in
-      let none : is_ascii_hexdigit byte ≡ false =
-      rw (and_right (nat_le 48 byte) _ a, and_right (nat_le 65 byte) _ b, and_right (nat_le 97 byte) _ c) refl in
-      none ∙ sym (high_fails byte (omega arith)))
-]
+-- what the crate reads of a digit after a 0 is the digit's value, and what it refuses has none
+abbrev pub ReadsDigit : ℕ → Type 0
+ReadsDigit byte =
+    MatchResult (decode_sized (48 ∷ byte ∷ []) 1) (λ octets. Some (get_or octets 0 0) ≡ hex_digit_value byte)
+    (λ e. None ≡ hex_digit_value byte)
+
+reads_value : (byte : ℕ) (value : Option ℕ) → hex_digit_value byte ≡ value → ReadsDigit byte
+unfolding hex_on_literals
+reads_value byte (Some value) p = rw p (ap (λ (n : ℕ). Some n) (omega arith))
+reads_value byte None p = rw p refl
+
+pub reads_digit : (byte : ℕ) → ReadsDigit byte
+reads_digit byte = reads_value byte (hex_digit_value byte) refl
+
+-- whether a digit's value is below 16
+abbrev is_small : Option ℕ → Bool
+is_small (Some value) = nat_lt value 16
+is_small None = true
+
+small_from : (digit : Option ℕ) → is_small digit ≡ true → ForSome digit (λ value. value < 16)
+small_from (Some value) h = λ x is. (let e : value ≡ x = cc in let low = ltb-true value 16 h in omega (arith, low, e))
+small_from None h = λ x is. absurd (cc)
+
+pub value_small : (byte : ℕ) → byte < 256 → ForSome (hex_digit_value byte) (λ value. value < 16)
+value_small byte low = small_from (hex_digit_value byte) (agree_below_at (λ b. is_small (hex_digit_value b)) (λ _. true) 256 byte refl low)

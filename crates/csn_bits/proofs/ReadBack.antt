@@ -5,7 +5,7 @@ use Rattle.hex.specs.Hex.{encode_upper, encode_with, is_hex_digit, upper_digits}
 use Rattle.hex.proofs.HexLemmas.{IsDigits-upper_digits}
 use Rattle.csn_bits.specs.Octets.{IsBits, bits_of_octets, octets_of}
 use Rattle.csn_bits.specs.Line.{BlockLine, bits_of_tail, octets_of_digits, tail_of, tail_written, upper, value_of, written}
-use Rattle.csn_bits.specs.Feed.{AreDigits, leading_digits, tail_text, waiting_digit}
+use Rattle.csn_bits.specs.Feed.{AreDigits, leading_digits, tail_text, waiting_value}
 use Rattle.csn_bits.proofs.Faults.{tail_of-read}
 use Rattle.csn_bits.proofs.Packing.{AreOctets, length-octets_of, octets_of-small, take-bits_of_octets-octets_of}
 use Rattle.csn_bits.proofs.Written.{digit_spelled, leading-read, upper_low, written-some}
@@ -41,7 +41,7 @@ octets_of_digits-encode_upper (o ∷ rest) bytes =
     let whole : 16 * (o / 16) + o % 16 ≡ o = omega arith in
     rw (high, low, whole) (ap (λ (l : List ℕ). o ∷ l) later)
 
-pub waiting-encode_upper : (octets : List ℕ) → waiting_digit (encode_upper octets) ≡ None
+pub waiting-encode_upper : (octets : List ℕ) → waiting_value (encode_upper octets) ≡ None
 unfolding encode_with
 waiting-encode_upper [] = refl
 waiting-encode_upper (o ∷ rest) = waiting-encode_upper rest

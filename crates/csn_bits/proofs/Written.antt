@@ -5,7 +5,7 @@ use Rattle.std.proofs.lemmas.List.{get_or_push, length_push, length-take, length
 use Rattle.hex.specs.Hex.{encode_upper, encode_with, hex_digit_value, is_hex_digit, upper_digits}
 use Rattle.csn_bits.specs.Octets.{IsPacked, bits_of_octet, bits_of_octets, octets_of}
 use Rattle.csn_bits.specs.Line.{BlockLine, bits_of_tail, octets_of_digits, tail_written, upper, value_of, written}
-use Rattle.csn_bits.specs.Feed.{AreDigits, EndsWith, all_but_last, leading_digits, octets_given, tail_text, waiting_digit}
+use Rattle.csn_bits.specs.Feed.{AreDigits, EndsWith, all_but_last, leading_digits, octets_given, tail_text, waiting_value}
 use Rattle.csn_bits.proofs.Digits.{last_parts, leading-all, leading-stop, length-octets_even}
 use Rattle.csn_bits.proofs.Faults.{IsWhole}
 use Rattle.csn_bits.proofs.HexDigits.{high_fails}
@@ -41,7 +41,7 @@ value_small byte = elim (cases_Bool (is_hex_digit byte)) [
 ]
 
 -- the octets of digits, written, are the digits in upper case
-pub encode_upper-octets_of_digits : (digits : List ℕ) → AreDigits digits → waiting_digit digits ≡ None
+pub encode_upper-octets_of_digits : (digits : List ℕ) → AreDigits digits → waiting_value digits ≡ None
     → encode_upper (octets_of_digits digits) ≡ map upper digits
 unfolding encode_with
 encode_upper-octets_of_digits [] s even = refl

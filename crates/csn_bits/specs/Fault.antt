@@ -12,6 +12,6 @@ fault_for BadLength = bits.BadLength
 fault_for BadFill = bits.BadFill
 fault_for TooManyBits = bits.TooManyBits
 
--- the fault is the line's
+-- the fault is the first that the line has
 abbrev pub IsLineFault : List ℕ → BitsFault → Type 0
 IsLineFault line fault = (why : LineWhy) × (fault_of line ≡ Some why) × (fault ≡ fault_for why)

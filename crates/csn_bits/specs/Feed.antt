@@ -1,8 +1,8 @@
 -- A block line that is read byte by byte.
 use Rattle.std.specs.Prelude.{◌≡◌, ℕ, ◌-◌, ◌≤◌, true, false, ◌==◌, ◌&&◌, if◌then◌else◌, List, [], ◌∷◌, ◌++◌, length, take, codes, Option, Some, None}
 use Rattle.hex.specs.Hex.{is_hex_digit}
-use Rattle.csn_bits.specs.Octets.{bits_of_octet, bits_of_octets, octets_of}
-use Rattle.csn_bits.specs.Line.{BlockLine, bits_of_tail, fault_of, is_dot, last_of, octets_of_digits}
+use Rattle.csn_bits.specs.Octets.{bits_of_octet, bits_of_octets, most_octets, octets_of}
+use Rattle.csn_bits.specs.Line.{BlockLine, bits_of_tail, fault_of, is_dot, last_of, octets_of_digits, value_of}
 use Rattle.csn_bits.specs.declared.fault.LineWhy.{LineWhy}
 use Rattle.csn_bits.specs.declared.feed.HexFeed.{HexFeed}
 use Rattle.csn_bits.specs.declared.feed.Stage.{Stage}
@@ -26,12 +26,16 @@ all_but_last xs = take (length xs - 1) xs
 -- the octets that a feed of this line has given: those of its whole pairs of digits but the last
 -- pair, which the end of the line decides about, and no more than a block has
 abbrev pub octets_given : List ℕ → List ℕ
-octets_given line = take 65536 (all_but_last (octets_of_digits (leading_digits line)))
+octets_given line = take most_octets (all_but_last (octets_of_digits (leading_digits line)))
 
 -- the octets of a step
 abbrev pub octets_of_step : HexStep → List ℕ
 octets_of_step Nothing = []
 octets_of_step (Octet octet) = octet ∷ []
+
+-- a step gives what one more byte of the line adds
+abbrev pub Gives : List ℕ → ℕ → HexStep → Type 0
+Gives line byte step = octets_given (line ++ byte ∷ []) ≡ octets_given line ++ octets_of_step step
 
 -- the fault that the end of a line tells
 abbrev pub fault_of_end : HexEnd → Option LineWhy
@@ -59,11 +63,11 @@ abbrev pub AreDigits : List ℕ → Type 0
 AreDigits [] = Unit {0}
 AreDigits (byte ∷ rest) = (is_hex_digit byte ≡ true) × AreDigits rest
 
--- the last of an odd number of digits
-abbrev pub waiting_digit : List ℕ → Option ℕ
-waiting_digit [] = None
-waiting_digit (digit ∷ []) = Some digit
-waiting_digit (high ∷ low ∷ rest) = waiting_digit rest
+-- the value of the last of an odd number of digits
+abbrev pub waiting_value : List ℕ → Option ℕ
+waiting_value [] = None
+waiting_value (digit ∷ []) = Some (value_of digit)
+waiting_value (high ∷ low ∷ rest) = waiting_value rest
 
 -- a tail as it stands in the line
 abbrev pub tail_text : Option (List ℕ) → List ℕ
@@ -84,7 +88,7 @@ pub data Holds (at : Stage) (waiting last : Option ℕ) (line : List ℕ) : Type
       → is_hex_digit byte ≡ false → (byte == 47) ≡ false → is_dot line ≡ false → at ≡ stage.BadDigit (length front)
       → Holds at waiting last line
   read : (digits : List ℕ) (tail : Option (List ℕ)) → line ≡ digits ++ tail_text tail → AreDigits digits
-      → waiting ≡ waiting_digit digits → last ≡ last_of (octets_of_digits digits)
+      → waiting ≡ waiting_value digits → last ≡ last_of (octets_of_digits digits)
       → at ≡ stage_of_tail (length digits) tail → Holds at waiting last line
 
 -- the feed was given the bytes of this line, and nothing else
@@ -115,6 +119,6 @@ stage_after stage.LongTail byte column = stage.LongTail
 -- how a line ends of which so much is kept, with so many digits and bits counted by its tail
 abbrev pub EndsDigits : Option ℕ → Option ℕ → ℕ → Option ℕ → HexEnd → Type 0
 EndsDigits waiting last count used end =
-    (digits : List ℕ) (tail : Option (List ℕ)) → AreDigits digits → waiting ≡ waiting_digit digits
+    (digits : List ℕ) (tail : Option (List ℕ)) → AreDigits digits → waiting ≡ waiting_value digits
     → last ≡ last_of (octets_of_digits digits) → count ≡ length digits → used ≡ bits_of_tail tail
     → EndsLine (digits ++ tail_text tail) end × (fault_of (digits ++ tail_text tail) ≡ fault_of_end end)

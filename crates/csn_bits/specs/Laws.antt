@@ -1,6 +1,6 @@
 -- What holds of block lines, whichever call reads or writes them.
 use Rattle.std.specs.Prelude.{◌≡◌, ℕ, ◌≤◌, ◌↔◌, List, length, None}
-use Rattle.csn_bits.specs.Octets.{IsBits}
+use Rattle.csn_bits.specs.Octets.{IsBits, most_bits}
 use Rattle.csn_bits.specs.Line.{BlockLine, fault_of, written}
 
 -- no two blocks share a written line
@@ -9,7 +9,7 @@ WrittenApart = (a b : List ℕ) → IsBits a → IsBits b → written a ≡ writ
 
 -- what is written for a block is read back as its bits
 abbrev pub WrittenIsRead : Type 0
-WrittenIsRead = (bits : List ℕ) → IsBits bits → length bits ≤ 524288 → BlockLine (written bits) bits
+WrittenIsRead = (bits : List ℕ) → IsBits bits → length bits ≤ most_bits → BlockLine (written bits) bits
 
 -- a line spells one block at most
 abbrev pub SpellsOneBlock : Type 0

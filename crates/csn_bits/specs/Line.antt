@@ -7,7 +7,7 @@ use Rattle.std.specs.Prelude.{◌≡◌, refl, ℕ, zero, suc, ◌+◌, ◌-◌,
 use Rattle.std.specs.List.{position_from}
 use Rattle.std.proofs.Common.{lit≤}
 use Rattle.hex.specs.Hex.{encode_upper, encode_with, hex_digit_value, is_hex_digit}
-use Rattle.csn_bits.specs.Octets.{IsBits, bits_of_octet, octets_of}
+use Rattle.csn_bits.specs.Octets.{IsBits, bits_of_octet, most_bits, most_octets, octets_of}
 use Rattle.csn_bits.specs.declared.fault.LineWhy.{LineWhy}
 use Rattle.csn_bits.specs.declared.fault.LineWhy.TheVariants.{BadDigit, BadLength, BadFill, TooManyBits}
 
@@ -32,7 +32,7 @@ upper byte = if nat_le 97 byte && nat_le byte 102 then byte - 32 else byte
 -- the line spells the bits, with digits in either case: in upper case it is what is written for them
 pub record BlockLine (line bits : List ℕ) : Type 0 where
   pub zeros_and_ones : IsBits bits
-  pub few : length bits ≤ 524288
+  pub few : length bits ≤ most_bits
   pub spelled : map upper line ≡ written bits
 
 -- ---- reading
@@ -57,11 +57,6 @@ bits_of_tail (Some tail) = None
 -- the value of a digit
 abbrev pub value_of : ℕ → ℕ
 value_of digit = unwrap_or (hex_digit_value digit) 0
-
--- the octet of two digits, if both are digits
-abbrev pub octet_of_pair : ℕ → ℕ → Option ℕ
-octet_of_pair high low =
-    if is_hex_digit high && is_hex_digit low then Some (16 * value_of high + value_of low) else None
 
 -- the octets of the whole pairs of digits
 abbrev pub octets_of_digits : List ℕ → List ℕ
@@ -95,9 +90,9 @@ bad_fill digits used =
     if nat_lt 0 (sum (unused_bits (unwrap_or (last_of (octets_of_digits digits)) 0) (unwrap_or used 8)))
     then Some BadFill else None
 
--- more than 65,536 octets
+-- more octets than a block has
 abbrev pub too_many_bits : List ℕ → Option LineWhy
-too_many_bits digits = if nat_lt (2 * 65536) (length digits) then Some TooManyBits else None
+too_many_bits digits = if nat_lt (2 * most_octets) (length digits) then Some TooManyBits else None
 
 -- the first fault of some
 abbrev pub first_fault : List (Option LineWhy) → Option LineWhy

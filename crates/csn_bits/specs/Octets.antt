@@ -2,6 +2,13 @@
 -- the bits of a block.
 use Rattle.std.specs.Prelude.{◌≡◌, refl, ℕ, map, length, take, ◌+◌, ◌*◌, ◌/◌, ◌%◌, ◌≤◌, List, [], ◌∷◌, ◌++◌, slice_index}
 
+-- the most octets of a block, and the most bits
+abbrev pub most_octets : ℕ
+most_octets = 65536
+
+abbrev pub most_bits : ℕ
+most_bits = 524288
+
 -- each of them is 0 or 1
 abbrev pub IsBits : List ℕ → Type 0
 IsBits [] = Unit {0}
@@ -32,7 +39,7 @@ octets_of few = octet_of few ∷ []
 
 -- some octets hold `len` bits: all of these and no more, with zeros in what is unused
 pub record IsPacked (octets : List ℕ) (len : ℕ) : Type 0 where
-  pub few : len ≤ 524288
+  pub few : len ≤ most_bits
   pub bits : IsBits (take len (bits_of_octets octets))
   pub within : len ≤ 8 * length octets
   pub exact : octets ≡ octets_of (take len (bits_of_octets octets))

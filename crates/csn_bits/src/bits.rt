@@ -1,17 +1,15 @@
-ghost use Rattle.std.specs.Prelude.{◌≡◌, ◌≢◌, ◌+◌, ◌*◌, ◌/◌, ◌<◌, ◌≤◌, ◌↔◌, [], ◌∷◌, ◌++◌, length, slice_index, take, ◌⊎◌, IfOk, IfErr, OnOk, OnErr, IsErrOf, vec_len};
+ghost use Rattle.std.specs.Prelude.{◌≡◌, ◌+◌, ◌*◌, ◌/◌, ◌<◌, ◌≤◌, ◌↔◌, [], ◌∷◌, ◌++◌, length, slice_index, take, ◌⊎◌, IfOk, IfErr, OnOk, OnErr, IsErrOf};
 ghost use Rattle.csn_bits.specs.Fault.{IsLineFault};
 ghost use Rattle.csn_bits.specs.Line.{BlockLine, written};
 ghost use Rattle.csn_bits.specs.Octets.{IsBits, bits_of_octets, octets_of};
 
 use crate::fault::{BitsFault, NoMemory};
-use crate::feed::{HexEnd, HexFeed, HexStep};
+use crate::feed::{HexEnd, HexFeed, HexStep, MOST_OCTETS};
 use std::alloc::Global;
 use std::marker::Model;
 
 /// The most bits that a block has: 65,536 octets.
 pub const MOST_BITS: u32 = 524_288;
-
-const MOST_OCTETS: usize = 65_536;
 
 /// A string of bits. A contract sees the list of them, each 0 or 1, at most 524,288.
 #[derive(Drop)]
@@ -83,7 +81,7 @@ impl Bits {
         Ok(())
     }
 
-    /// The first `bits` bits of some octets, of each octet the most significant one first.
+    /// The first `bits` bits of some octets, the most significant bit of each octet first.
     pub fn from_octets(alloc: Global, octets: &[u8], bits: u32) -> Result<Bits, BitsFault>
         requires { bits ≤ 8 * length octets.now }
         ensures ok { IfOk result (λ b. b ≡ take bits (bits_of_octets octets.now)) }
@@ -107,14 +105,15 @@ impl Bits {
         })
     }
 
-    /// The bits that a block line spells, as [`to_hex_line`](Bits::to_hex_line) writes them, with
-    /// digits in either case.
+    /// The bits that a block line spells, as [`to_hex_line`](Bits::to_hex_line) writes it, with
+    /// digits in either case. The line is without its line feed. Of several faults the first in the
+    /// order of [`BitsFault`] is told.
     pub fn from_hex_line(alloc: Global, line: &[u8]) -> Result<Bits, BitsFault>
         requires { length line.now ≤ 16777216 }
         ensures ok { IfOk result (λ b. BlockLine line.now b) }
         ensures refused { IfErr result (λ e. (e ≡ BitsFault.NoMemory) ⊎ IsLineFault line.now e) }
     {
-        let mut octets = Vec::with_capacity(alloc, (line.len() / 2).min(MOST_OCTETS))?;
+        let mut octets = Vec::with_capacity(alloc, (line.len() / 2).min(MOST_OCTETS as usize))?;
         let mut feed = HexFeed::new();
         for &byte in line {
             if let HexStep::Octet(octet) = feed.byte(byte) {

@@ -1,24 +1,22 @@
-ghost use Rattle.std.specs.Prelude.{◌≡◌, ℕ, true, codes, ◌+◌, ◌*◌, ◌<◌, ◌≤◌, ◌↔◌, List, [], ◌∷◌, ◌++◌, length, IsTrue, IsSome, IfSome, Option, Some, None};
+ghost use Rattle.std.specs.Prelude.{◌≡◌, ℕ, codes, ◌+◌, ◌<◌, ◌≤◌, ◌↔◌, List, [], ◌∷◌, ◌++◌, length, IsTrue, Some};
 ghost use Rattle.std.specs.Option.{ForSome};
-ghost use Rattle.hex.specs.Hex.{is_hex_digit};
-ghost use Rattle.csn_bits.specs.Line.{BlockLine, bits_of_tail, fault_of, octet_of_pair};
-ghost use Rattle.csn_bits.specs.Feed.{EndsDigits, EndsLine, Fed, Keeps, fault_of_end, octets_given, octets_of_step, seen_of, stage_after};
 
+use crate::digit::{counted_bits, digit_value};
 use crate::fault::LineWhy;
-use hex::FromHex;
 
 /// The most octets of a block.
-const MOST_OCTETS: u32 = 65_536;
+pub(crate) const MOST_OCTETS: u32 = 65_536;
 
 /// A block line that is read byte by byte. It takes no memory.
 #[derive(Debug, Drop)]
 pub struct HexFeed {
     seen: u32,
     stage: Stage,
-    // the digit that waits for its partner
+    // the value of the digit that waits for its partner
     waiting: Option<u8>,
     // the octet of the last whole pair of digits
     last: Option<u8>,
+    ghost small: { ForSome waiting (λ value. value < 16) },
 }
 
 /// How far a line was read.
@@ -58,6 +56,10 @@ pub enum HexEnd {
 }
 
 impl HexFeed {
+    ghost use Rattle.hex.specs.Hex.{hex_digit_value};
+    ghost use Rattle.csn_bits.specs.Feed.{EndsDigits, EndsLine, Fed, Gives, Keeps, fault_of_end, seen_of};
+    ghost use Rattle.csn_bits.specs.Line.{fault_of};
+
     /// A feed that was given nothing yet.
     pub fn new() -> HexFeed
         ensures fed { Fed result [] }
@@ -83,33 +85,39 @@ impl HexFeed {
     pub fn byte(&mut self, byte: u8) -> HexStep
         requires { seen_of self.old < 16777216 }
         ensures fed { (line : List ℕ) → Fed self.old line → Fed self.new (line ++ byte ∷ []) }
-        ensures given { (line : List ℕ) → Fed self.old line → octets_given (line ++ byte ∷ []) ≡ octets_given line ++ octets_of_step result }
+        ensures given { (line : List ℕ) → Fed self.old line → Gives line byte result }
         ensures seen { seen_of self.new ≡ seen_of self.old + 1 }
     {
         let column = self.seen;
         self.seen += 1;
-        if self.stage.is_digits() && byte.is_ascii_hexdigit() {
-            return self.digit(byte);
+        match digit_value(byte) {
+            Some(value) if self.stage.is_digits() => self.digit(value),
+            _ => {
+                self.stage = self.stage.after(byte, column);
+                HexStep::Nothing
+            }
         }
-        self.stage = self.stage.after(byte, column);
-        HexStep::Nothing
     }
 
-    // Takes a digit, which is counted already, while only digits were read.
-    fn digit(&mut self, digit: u8) -> HexStep
+    // Takes the value of a digit, which is counted already, while only digits were read.
+    #[inline]
+    fn digit(&mut self, value: u8) -> HexStep
         requires digits { self.old.stage ≡ Stage.Digits }
-        requires digit { is_hex_digit digit ≡ true }
-        ensures keeps { (line : List ℕ) → Keeps self.old line → Keeps self.new (line ++ digit ∷ []) }
-        ensures given { (line : List ℕ) → Keeps self.old line → self.old.seen ≡ length line + 1 → octets_given (line ++ digit ∷ []) ≡ octets_given line ++ octets_of_step result }
+        requires small { value < 16 }
+        ensures keeps { (line : List ℕ) (digit : ℕ) → Keeps self.old line
+            → hex_digit_value digit ≡ Some value → Keeps self.new (line ++ digit ∷ []) }
+        ensures given { (line : List ℕ) (digit : ℕ) → Keeps self.old line
+            → hex_digit_value digit ≡ Some value → self.old.seen ≡ length line + 1
+            → Gives line digit result }
         ensures seen { self.new.seen ≡ self.old.seen }
     {
         let Some(high) = self.waiting else {
-            self.waiting = Some(digit);
+            self.waiting = Some(value);
             return HexStep::Nothing;
         };
         let before = self.last;
         self.waiting = None;
-        self.last = pair(high, digit);
+        self.last = Some(16 * high + value);
         match before {
             Some(octet) if self.seen <= 2 * (MOST_OCTETS + 1) => HexStep::Octet(octet),
             _ => HexStep::Nothing,
@@ -126,7 +134,7 @@ impl HexFeed {
             Stage::Dot => HexEnd::Empty,
             Stage::BadDigit { column } => HexEnd::Fault(LineWhy::BadDigit { column }),
             Stage::Digits => self.ended(self.seen, Some(8)),
-            Stage::Tail { digits, byte } => self.ended(digits, bits_of_tail(byte)),
+            Stage::Tail { digits, byte } => self.ended(digits, counted_bits(byte)),
             Stage::Slash { .. } | Stage::LongTail => HexEnd::Fault(LineWhy::BadLength),
         }
     }
@@ -150,6 +158,8 @@ impl HexFeed {
 }
 
 impl Stage {
+    ghost use Rattle.csn_bits.specs.Feed.{stage_after};
+
     fn is_digits(self) -> bool
         ensures { IsTrue result ↔ (self ≡ Stage.Digits) }
     {
@@ -172,26 +182,5 @@ impl Stage {
             Stage::Slash { digits } => Stage::Tail { digits, byte },
             Stage::Tail { .. } | Stage::LongTail => Stage::LongTail,
         }
-    }
-}
-
-// The octet of two digits; None where one of them is no digit.
-fn pair(high: u8, low: u8) -> Option<u8>
-    ensures { result ≡ octet_of_pair high low }
-{
-    match <[u8; 1]>::from_hex([high, low]) {
-        Ok(octets) => Some(octets[0]),
-        Err(_) => None,
-    }
-}
-
-// How many bits of the last octet a tail of one byte counts.
-fn bits_of_tail(byte: u8) -> Option<u8>
-    ensures value { result ≡ bits_of_tail (Some (byte ∷ [])) }
-    ensures few { ForSome result (λ n. (1 ≤ n) × (n ≤ 8)) }
-{
-    match byte {
-        b'1'..=b'7' => Some(byte - b'0'),
-        _ => None,
     }
 }

@@ -2,6 +2,7 @@
 #![tactic(auto)]
 
 mod bits;
+mod digit;
 mod fault;
 mod feed;
 pub mod laws;

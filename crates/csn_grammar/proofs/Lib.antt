@@ -5,3 +5,16 @@ pub mod Empties
 pub mod OneRule
 pub mod ExampleFacts
 pub mod RefusedExamples
+pub mod Labels
+pub mod Spelled
+pub mod Run
+pub mod Members
+pub mod Complete
+pub mod CompleteWords
+pub mod CompleteExpr
+pub mod CompleteRules
+pub mod SoundWords
+pub mod SoundExponents
+pub mod SoundExpr
+pub mod SoundBody
+pub mod SoundRules

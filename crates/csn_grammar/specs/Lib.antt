@@ -18,3 +18,10 @@ pub mod Writing
 pub mod Counts
 pub mod Grammar
 pub mod Place
+pub mod Gives
+pub mod Spellings
+pub mod ExponentSteps
+pub mod GivesForm
+pub mod Building
+pub mod BodySteps
+pub mod ReaderSteps

@@ -1,8 +1,13 @@
-ghost use Rattle.std.specs.Prelude.{◌≡◌, ◌<◌, ◌≤◌, [], ◌∷◌, ◌++◌, length, slice_get, Some};
+ghost use Rattle.std.specs.Prelude.{◌≡◌, ◌<◌, ◌≤◌, [], ◌∷◌, ◌++◌, length, slice_get, Some, OnOk};
 
 use crate::exponent::Exponent;
+use csn_bits::NoMemory;
 use csn_desc::{Label, Run};
+use std::alloc::Global;
 use std::marker::Model;
+
+/// More than a list of the grammar has members: each has a byte of the text for its own.
+pub(crate) const MOST_MEMBERS: usize = 262_144;
 
 /// A piece of the text: the place of its first byte and the place behind its last one, in bytes from
 /// 0.
@@ -147,6 +152,27 @@ impl Model for Branches {
 }
 
 impl Exprs {
+    /// No expressions. It takes no memory.
+    pub(crate) fn new(alloc: Global) -> Exprs
+        ensures { result ≡ [] }
+    {
+        Exprs {
+            exprs: Vec::new(alloc),
+        }
+    }
+
+    /// Adds an expression at the end. There is none for each byte of a text, so that there is room
+    /// for it.
+    pub(crate) fn push(&mut self, expr: Expr) -> Result<(), NoMemory>
+        ensures ok { OnOk result (self.new ≡ self.old ++ expr ∷ []) }
+    {
+        if self.exprs.len() >= MOST_MEMBERS {
+            return Err(NoMemory);
+        }
+        self.exprs.push(expr)?;
+        Ok(())
+    }
+
     /// How many expressions there are.
     pub fn len(&self) -> u32
         ensures len { result ≡ length self.now }
@@ -165,6 +191,26 @@ impl Exprs {
 }
 
 impl Branches {
+    /// No alternatives. It takes no memory.
+    pub(crate) fn new(alloc: Global) -> Branches
+        ensures { result ≡ [] }
+    {
+        Branches {
+            branches: Vec::new(alloc),
+        }
+    }
+
+    /// Adds an alternative at the end.
+    pub(crate) fn push(&mut self, branch: Branch) -> Result<(), NoMemory>
+        ensures ok { OnOk result (self.new ≡ self.old ++ branch ∷ []) }
+    {
+        if self.branches.len() >= MOST_MEMBERS {
+            return Err(NoMemory);
+        }
+        self.branches.push(branch)?;
+        Ok(())
+    }
+
     /// How many alternatives there are.
     pub fn len(&self) -> u32
         ensures len { result ≡ length self.now }

@@ -1,6 +1,7 @@
 //! Laws over the definitions, each the contract of a function that does nothing.
 
 ghost use Rattle.csn_grammar.specs.Laws.{PrefixesAreFollowed, BlockPrefixesAreFollowed, MeaningsAreFollowed, StringsAreFollowed, MeaningsAreBits, FollowedAreBits, VoidMeansNothing, VoidFollowsNothing, AlternativesAreKeptOnce, EmptyBitsAreFollowed, EmptyBlocksAreFollowed, BlocksHaveOnePlace};
+ghost use Rattle.csn_grammar.specs.Place.{HasRulesAtMostOnce};
 
 /// The first few of bits that an expression follows are followed by it, and so are those of a block.
 pub fn prefixes_are_followed()
@@ -42,3 +43,10 @@ pub fn empty_bits_are_followed()
 pub fn blocks_have_one_place()
     ensures { BlocksHaveOnePlace }
 {}
+
+/// A text has at most one list of rules.
+pub fn one_list_of_rules(text: &[u8])
+    ensures { HasRulesAtMostOnce text.now }
+{
+    csn_lexer::laws::one_list_of_tokens(text);
+}

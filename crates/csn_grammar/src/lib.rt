@@ -6,6 +6,7 @@ mod exponent;
 mod expr;
 mod fault;
 pub mod laws;
+mod reader;
 mod rules;
 
 pub use exponent::Exponent;

@@ -1,7 +1,9 @@
-ghost use Rattle.std.specs.Prelude.{◌≡◌, ◌<◌, ◌≤◌, length, slice_get, Some};
+ghost use Rattle.std.specs.Prelude.{◌≡◌, ◌<◌, ◌≤◌, [], ◌∷◌, ◌++◌, length, slice_get, Some, OnOk};
 
-use crate::expr::{Expr, Span};
+use crate::expr::{Expr, MOST_MEMBERS, Span};
+use csn_bits::NoMemory;
 use csn_desc::Label;
+use std::alloc::Global;
 use std::marker::Model;
 
 /// A rule: its name, the piece of the text from its `<` to its `;`, and what it says.
@@ -32,6 +34,26 @@ impl Model for Rules {
 }
 
 impl Rules {
+    /// No rules. It takes no memory.
+    pub(crate) fn new(alloc: Global) -> Rules
+        ensures { result ≡ [] }
+    {
+        Rules {
+            rules: Vec::new(alloc),
+        }
+    }
+
+    /// Adds a rule at the end.
+    pub(crate) fn push(&mut self, rule: Rule) -> Result<(), NoMemory>
+        ensures ok { OnOk result (self.new ≡ self.old ++ rule ∷ []) }
+    {
+        if self.rules.len() >= MOST_MEMBERS {
+            return Err(NoMemory);
+        }
+        self.rules.push(rule)?;
+        Ok(())
+    }
+
     /// How many rules there are.
     pub fn len(&self) -> u32
         ensures len { result ≡ length self.now }

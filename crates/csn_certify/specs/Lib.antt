@@ -1,0 +1,4 @@
+pub mod Conflicts
+pub mod Picks
+pub mod Laws
+pub mod Examples

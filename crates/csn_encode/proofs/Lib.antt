@@ -1,0 +1,3 @@
+pub mod OneBits
+pub mod NoBits
+pub mod OneMisfit

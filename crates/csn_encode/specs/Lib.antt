@@ -1,0 +1,3 @@
+pub mod Misfits
+pub mod Laws
+pub mod Examples

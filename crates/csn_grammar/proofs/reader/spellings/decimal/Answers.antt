@@ -1,0 +1,11 @@
+use Rattle.std.proofs.Common.{◌≡◌, ℕ, ◌+◌, ◌*◌, ◌<◌, ◌≤◌, ◌^◌, Fits, w32, arith}
+use Rattle.csn_grammar.proofs.Spelled.{few_digits}
+use Rattle.csn_grammar.proofs.reader.spellings.decimal.Goals as goal
+
+pub overflow_mul-number : goal.overflow_mul-number
+overflow_mul-number c =
+    omega (arith, few_digits c.loop-digit.number c.loop-digit.digit-index c.loop-digit.invariant.small (omega arith))
+
+pub overflow_add-number : goal.overflow_add-number
+overflow_add-number c =
+    omega (arith, few_digits c.loop-digit.number c.loop-digit.digit-index c.loop-digit.invariant.small (omega arith))

@@ -1,0 +1,14 @@
+//! The reader of rules: an explicit machine that takes one token after another.
+
+mod body;
+mod build;
+mod exponents;
+mod progress;
+mod spellings;
+mod state;
+mod steps;
+mod stop;
+mod words;
+
+pub use state::{Reader, State, reader_step};
+pub use stop::Stop;

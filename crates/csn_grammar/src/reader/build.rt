@@ -1,0 +1,119 @@
+//! The expressions that the reader makes of smaller ones.
+
+ghost use Rattle.std.specs.Prelude.{◌≡◌, IfOk};
+ghost use Rattle.csn_grammar.specs.Grammar.{components_of};
+ghost use Rattle.csn_grammar.specs.Building.{both_of, sends_of, power_of, seq_with, cut_with, choice_with};
+
+use crate::exponent::Exponent;
+use crate::expr::{Branch, Branches, Expr, Exprs, Form, Span};
+use csn_bits::NoMemory;
+use std::alloc::Global;
+
+/// `x & y`
+pub fn both_of(alloc: Global, x: Expr, y: Expr) -> Result<Expr, NoMemory>
+    ensures { IfOk result (λ whole. whole ≡ both_of x y) }
+{
+    let span = Span {
+        start: x.span.start,
+        end: y.span.end,
+    };
+    let form = Form::Both(Box::new(alloc, x)?, Box::new(alloc, y)?);
+    Ok(Expr { span, form })
+}
+
+/// `x = y`
+pub fn sends_of(alloc: Global, x: Expr, y: Expr) -> Result<Expr, NoMemory>
+    ensures { IfOk result (λ whole. whole ≡ sends_of x y) }
+{
+    let span = Span {
+        start: x.span.start,
+        end: y.span.end,
+    };
+    let form = Form::Sends(Box::new(alloc, x)?, Box::new(alloc, y)?);
+    Ok(Expr { span, form })
+}
+
+/// A base with its exponent, which ends before the place `end`.
+pub fn power_of(alloc: Global, x: Expr, end: u32, exponent: Exponent) -> Result<Expr, NoMemory>
+    ensures { IfOk result (λ whole. whole ≡ power_of x end exponent) }
+{
+    let span = Span {
+        start: x.span.start,
+        end,
+    };
+    let form = Form::Power(Box::new(alloc, x)?, exponent);
+    Ok(Expr { span, form })
+}
+
+/// The sequence of some items and a last one: of one item, that item.
+pub fn seq_with(mut items: Exprs, last: Expr) -> Result<Expr, NoMemory>
+    ensures { IfOk result (λ whole. whole ≡ seq_with items last) }
+{
+    if items.len() == 0 {
+        return Ok(last);
+    }
+    let span = Span {
+        start: items.get(0).span.start,
+        end: last.span.end,
+    };
+    items.push(last)?;
+    Ok(Expr {
+        span,
+        form: Form::Seq(items),
+    })
+}
+
+/// The truncation of some items and a last one, which ends before the place `end`.
+pub fn cut_with(mut items: Exprs, last: Expr, end: u32) -> Result<Expr, NoMemory>
+    ensures { IfOk result (λ whole. whole ≡ cut_with items last end) }
+{
+    let start = if items.len() == 0 {
+        last.span.start
+    } else {
+        items.get(0).span.start
+    };
+    items.push(last)?;
+    Ok(Expr {
+        span: Span { start, end },
+        form: Form::Cut(items),
+    })
+}
+
+/// The choice of some alternatives and a last one: of one alternative, that alternative.
+pub fn choice_with(mut branches: Branches, error: bool, last: Expr) -> Result<Expr, NoMemory>
+    ensures { IfOk result (λ whole. whole ≡ choice_with branches error last) }
+{
+    if branches.len() == 0 {
+        return Ok(last);
+    }
+    let span = Span {
+        start: branches.get(0).body.span.start,
+        end: last.span.end,
+    };
+    branches.push(Branch { error, body: last })?;
+    Ok(Expr {
+        span,
+        form: Form::Choice(branches),
+    })
+}
+
+/// The components of a truncation in braces.
+pub fn components_of(alloc: Global, x: Expr) -> Result<Expr, NoMemory>
+    ensures { IfOk result (λ whole. whole ≡ components_of x) }
+{
+    let span = x.span;
+    match x.form {
+        Form::Seq(items) => Ok(Expr {
+            span,
+            form: Form::Cut(items),
+        }),
+        form => {
+            let mut items = Exprs::new(alloc);
+            items.push(Expr { span, form })?;
+            Ok(Expr {
+                span,
+                form: Form::Cut(items),
+            })
+        }
+    }
+}

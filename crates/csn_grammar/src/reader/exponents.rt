@@ -1,0 +1,277 @@
+//! The steps through an exponent, one token each.
+
+ghost use Rattle.std.specs.Prelude.{◌≡◌, ◌∷◌, ◌++◌};
+ghost use Rattle.csn_lexer.specs.Word.{IsWord};
+ghost use Rattle.csn_lexer.specs.declared.token.TokenKind.{TokenKind};
+ghost use Rattle.csn_grammar.specs.Gives.{Gives, IsWordToken};
+ghost use Rattle.csn_grammar.specs.ExponentSteps.{linear, val_step, count_step, bracket_step, star_step, number_step, summand_step, factor_step, first_word_step, words_step, product_step, factor_behind_step, summand_behind_step, exponent_step};
+
+use crate::exponent::Exponent;
+use crate::reader::progress::{ExponentNext, Progress, Terms};
+use crate::reader::spellings::{is_val, number_of};
+use crate::reader::stop::Stop;
+use crate::reader::words::Words;
+use csn_desc::Label;
+use csn_lexer::TokenKind;
+use std::alloc::Global;
+
+// No factor and no summand.
+fn no_terms(bracket: bool) -> Terms
+    ensures { result ≡ record { factor = None; summand = None; bracket = bracket } }
+{
+    Terms {
+        factor: None,
+        summand: None,
+        bracket,
+    }
+}
+
+fn val_step(terms: Terms, word: &[u8]) -> Result<ExponentNext, Stop>
+    ensures { Gives result (val_step terms word.now) }
+{
+    if is_val(word) {
+        Ok(ExponentNext::Goes(Progress::Val(terms)))
+    } else {
+        Err(Stop::Refused)
+    }
+}
+
+fn count_step(kind: TokenKind, word: &[u8]) -> Result<ExponentNext, Stop>
+    ensures { Gives result (count_step kind word.now) }
+{
+    match kind {
+        TokenKind::Word => match number_of(word) {
+            Some(number) => Ok(ExponentNext::Goes(Progress::Number(number))),
+            None => val_step(no_terms(true), word),
+        },
+        _ => Err(Stop::Refused),
+    }
+}
+
+fn bracket_step(kind: TokenKind, word: &[u8]) -> Result<ExponentNext, Stop>
+    ensures { Gives result (bracket_step kind word.now) }
+{
+    match kind {
+        TokenKind::Star | TokenKind::StarStar => Ok(ExponentNext::Goes(Progress::Whole(Exponent::Any))),
+        _ => count_step(kind, word),
+    }
+}
+
+fn star_step(kind: TokenKind, word: &[u8]) -> Result<ExponentNext, Stop>
+    ensures { Gives result (star_step kind word.now) }
+{
+    match kind {
+        TokenKind::ParenLeft => Ok(ExponentNext::Goes(Progress::StarBracket)),
+        TokenKind::Word => match number_of(word) {
+            Some(number) => Ok(ExponentNext::Ends(Exponent::Number(number))),
+            None => val_step(no_terms(false), word),
+        },
+        _ => Err(Stop::Refused),
+    }
+}
+
+fn number_step(number: u32, kind: TokenKind) -> Result<ExponentNext, Stop>
+    ensures { Gives result (number_step number kind) }
+{
+    match kind {
+        TokenKind::ParenRight => Ok(ExponentNext::Ends(Exponent::Number(number))),
+        TokenKind::Star => Ok(ExponentNext::Goes(Progress::Before(Terms {
+            factor: Some(number),
+            summand: None,
+            bracket: true,
+        }))),
+        TokenKind::Plus => Ok(ExponentNext::Goes(Progress::Summand(number))),
+        _ => Err(Stop::Refused),
+    }
+}
+
+fn summand_step(summand: u32, kind: TokenKind, word: &[u8]) -> Result<ExponentNext, Stop>
+    ensures { Gives result (summand_step summand kind word.now) }
+{
+    match kind {
+        TokenKind::Word => match number_of(word) {
+            Some(factor) => Ok(ExponentNext::Goes(Progress::Factor { summand, factor })),
+            None => val_step(
+                Terms {
+                    factor: None,
+                    summand: Some(summand),
+                    bracket: true,
+                },
+                word,
+            ),
+        },
+        _ => Err(Stop::Refused),
+    }
+}
+
+fn factor_step(summand: u32, factor: u32, kind: TokenKind) -> Result<ExponentNext, Stop>
+    ensures { Gives result (factor_step summand factor kind) }
+{
+    match kind {
+        TokenKind::Star => Ok(ExponentNext::Goes(Progress::Before(Terms {
+            factor: Some(factor),
+            summand: Some(summand),
+            bracket: true,
+        }))),
+        _ => Err(Stop::Refused),
+    }
+}
+
+fn first_word_step(
+    alloc: Global,
+    terms: Terms,
+    kind: TokenKind,
+    word: &[u8],
+) -> Result<ExponentNext, Stop>
+    requires { IsWordToken kind word.now }
+    ensures { Gives result (first_word_step terms kind word.now) }
+{
+    match kind {
+        TokenKind::Word => {
+            let words = Words::new(alloc, word)?;
+            Ok(ExponentNext::Goes(Progress::ValWords { terms, words }))
+        }
+        _ => Err(Stop::Refused),
+    }
+}
+
+// The product of a factor and the value of a field, and a summand.
+fn linear(terms: Terms, label: Label) -> Exponent
+    ensures { result ≡ linear terms label }
+{
+    Exponent::Linear {
+        m: terms.factor.unwrap_or(1),
+        label,
+        c: terms.summand.unwrap_or(0),
+    }
+}
+
+fn words_step(
+    alloc: Global,
+    terms: Terms,
+    words: Words,
+    kind: TokenKind,
+    word: &[u8],
+) -> Result<ExponentNext, Stop>
+    requires { IsWordToken kind word.now }
+    ensures { Gives result (words_step terms words kind word.now) }
+{
+    match kind {
+        TokenKind::Word => {
+            let words = words.and(word)?;
+            Ok(ExponentNext::Goes(Progress::ValWords { terms, words }))
+        }
+        TokenKind::ParenRight => {
+            let label = words.label(alloc)?;
+            if terms.bracket {
+                Ok(ExponentNext::Goes(Progress::Product { terms, label }))
+            } else {
+                Ok(ExponentNext::Ends(linear(terms, label)))
+            }
+        }
+        _ => Err(Stop::Refused),
+    }
+}
+
+fn product_step(terms: Terms, label: Label, kind: TokenKind) -> Result<ExponentNext, Stop>
+    ensures { Gives result (product_step terms label kind) }
+{
+    match kind {
+        TokenKind::ParenRight => Ok(ExponentNext::Ends(linear(terms, label))),
+        TokenKind::Star if terms.factor.is_none() => {
+            Ok(ExponentNext::Goes(Progress::FactorBehind {
+                summand: terms.summand,
+                label,
+            }))
+        }
+        TokenKind::Plus if terms.summand.is_none() => {
+            Ok(ExponentNext::Goes(Progress::SummandBehind {
+                factor: terms.factor.unwrap_or(1),
+                label,
+            }))
+        }
+        _ => Err(Stop::Refused),
+    }
+}
+
+fn factor_behind_step(
+    summand: Option<u32>,
+    label: Label,
+    kind: TokenKind,
+    word: &[u8],
+) -> Result<ExponentNext, Stop>
+    ensures { Gives result (factor_behind_step summand label kind word.now) }
+{
+    match kind {
+        TokenKind::Word => match number_of(word) {
+            Some(factor) => Ok(ExponentNext::Goes(Progress::Product {
+                terms: Terms {
+                    factor: Some(factor),
+                    summand,
+                    bracket: true,
+                },
+                label,
+            })),
+            None => Err(Stop::Refused),
+        },
+        _ => Err(Stop::Refused),
+    }
+}
+
+fn summand_behind_step(
+    factor: u32,
+    label: Label,
+    kind: TokenKind,
+    word: &[u8],
+) -> Result<ExponentNext, Stop>
+    ensures { Gives result (summand_behind_step factor label kind word.now) }
+{
+    match kind {
+        TokenKind::Word => match number_of(word) {
+            Some(summand) => Ok(ExponentNext::Goes(Progress::Whole(Exponent::Linear {
+                m: factor,
+                label,
+                c: summand,
+            }))),
+            None => Err(Stop::Refused),
+        },
+        _ => Err(Stop::Refused),
+    }
+}
+
+/// Takes one token of an exponent.
+pub fn exponent_step(
+    alloc: Global,
+    progress: Progress,
+    kind: TokenKind,
+    word: &[u8],
+) -> Result<ExponentNext, Stop>
+    requires { IsWordToken kind word.now }
+    ensures { Gives result (exponent_step progress kind word.now) }
+{
+    match progress {
+        Progress::Bracket => bracket_step(kind, word),
+        Progress::Star => star_step(kind, word),
+        Progress::StarBracket => count_step(kind, word),
+        Progress::Number(number) => number_step(number, kind),
+        Progress::Summand(summand) => summand_step(summand, kind, word),
+        Progress::Factor { summand, factor } => factor_step(summand, factor, kind),
+        Progress::Before(terms) => match kind {
+            TokenKind::Word => val_step(terms, word),
+            _ => Err(Stop::Refused),
+        },
+        Progress::Val(terms) => match kind {
+            TokenKind::ParenLeft => Ok(ExponentNext::Goes(Progress::ValBracket(terms))),
+            _ => Err(Stop::Refused),
+        },
+        Progress::ValBracket(terms) => first_word_step(alloc, terms, kind, word),
+        Progress::ValWords { terms, words } => words_step(alloc, terms, words, kind, word),
+        Progress::Product { terms, label } => product_step(terms, label, kind),
+        Progress::FactorBehind { summand, label } => factor_behind_step(summand, label, kind, word),
+        Progress::SummandBehind { factor, label } => summand_behind_step(factor, label, kind, word),
+        Progress::Whole(exponent) => match kind {
+            TokenKind::ParenRight => Ok(ExponentNext::Ends(exponent)),
+            _ => Err(Stop::Refused),
+        },
+    }
+}

@@ -1,0 +1,2 @@
+pub mod OctetMarks
+pub mod EmptyKeys

@@ -1,0 +1,11 @@
+pub mod SignsV
+pub mod Signs
+pub mod Marks
+pub mod Nullable
+pub mod Ends
+pub mod Starts
+pub mod Keys
+pub mod Reached
+pub mod Told
+pub mod Laws
+pub mod Examples

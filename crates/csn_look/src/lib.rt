@@ -1,0 +1,15 @@
+//! Look-ahead sets of the nodes of a description, and the sets and words that they are told in.
+#![tactic(auto)]
+
+mod follow;
+pub mod laws;
+mod octet_set;
+mod symbol_set;
+#[cfg(test)]
+mod tests;
+mod word;
+
+pub use follow::Follow;
+pub use octet_set::OctetSet;
+pub use symbol_set::{Sign, SymbolSet};
+pub use word::{Key, MOST_WORD, Word};

@@ -1,0 +1,43 @@
+//! The whole program over memory, and the worked examples of it.
+#![tactic(auto)]
+
+ghost use Rattle.std.specs.Prelude.{◌≡◌, ◌≢◌, List, ℕ, Some, Err, IfOk, map};
+ghost use Rattle.std.specs.String.{string_bytes};
+ghost use Rattle.csn_io.specs.Files.{file_of};
+ghost use Rattle.csn_io.specs.ShelfFault.{LacksFile};
+ghost use Rattle.csn_run.specs.Command.{NamesFile};
+
+use csn_io::{MemShelf, MemSink, MemSource};
+use csn_run::{Ended, run};
+use std::alloc::{AllocError, Global};
+use std::collections::BTreeMap;
+
+#[cfg(test)]
+mod tests;
+
+/// How a run over memory ended, and what it wrote.
+#[derive(Debug, Drop)]
+pub struct Ran {
+    pub ended: Ended,
+    pub text: Vec<u8>,
+}
+
+/// Runs the program over files and an input in memory, of which no call fails. So no fault is seen
+/// but that of a file which is not held.
+pub fn run_in_memory(
+    alloc: Global,
+    words: &[String],
+    files: BTreeMap<String, Vec<u8>>,
+    input: Vec<u8>,
+) -> Result<Ran, AllocError>
+    ensures no_write_fault { IfOk result (λ ran. ran.ended ≢ Ended.WriteFault) }
+    ensures read_fault { IfOk result (λ ran. ran.ended ≡ Ended.ReadFault
+        → (name : List ℕ) × NamesFile (map string_bytes words.now) name × LacksFile (Some (file_of files)) name) }
+{
+    let mut shelf = MemShelf::new(files, Vec::new(alloc));
+    let mut source = MemSource::new(input, 4096, Vec::new(alloc));
+    let mut sink = MemSink::new(alloc, 4096, Vec::new(alloc));
+    let ended = run(alloc, words, &mut shelf, &mut source, &mut sink);
+    let text = Vec::from_slice(alloc, sink.taken())?;
+    Ok(Ran { ended, text })
+}

@@ -1,0 +1,133 @@
+-- What a job over the lines of an input has done when it goes on, ends or stops.
+use Rattle.std.proofs.Common.{◌≡◌, ℕ, ◌+◌, ◌-◌, ◌<◌, ◌≤◌, ◌⊎◌, inl, inr, Bool, ◌||◌, Option, List, [], ◌∷◌, ◌++◌, length, take, sym, ◌∙◌, ap, subst, arith, append_assoc, length-append}
+use Rattle.std.proofs.lemmas.List.{append-nil}
+use Rattle.std.proofs.Math.Seq.{take-append-add}
+use Rattle.csn_io.specs.Got.{Gave, NothingLeft}
+use Rattle.csn_run.specs.declared.fault.Fault.{Fault}
+use Rattle.csn_run.specs.declared.fault.Fault.TheVariants.{Write, Memory, TooLong}
+use Rattle.csn_run.specs.declared.lines.TheConstants.{MOST_INPUT}
+use Rattle.csn_run.specs.Lines.{between_feeds}
+use Rattle.csn_run.specs.Progress.{Answers, AddsAnswers, EndsIn, Advances, PassesOn, HaltsAt, AnswersAll, StopsWithin, StopsBy, Stops}
+use Rattle.csn_run.proofs.LinesLemmas.{between_feeds-one}
+use Rattle.csn_io.proofs.Told.{appended_more, gave_more}
+use Rattle.csn_run.proofs.ProgressLemmas.{adds_more, advances_more, Standing}
+
+-- the answers, where they are all that is written
+pub answers_of : (Answer : List ℕ → List ℕ → Type 0) (pieces : List (List ℕ)) (new : List ℕ) (r : Bool) → AddsAnswers Answer pieces [] new r → Answers Answer pieces new r
+answers_of Answer pieces new r a = subst (λ (t : List ℕ). Answers Answer pieces t r) (sym a.new_is) a.answers
+
+-- a fault of the sink, or want of memory, stops a job within the input
+pub stops_by_within : (Answer : List ℕ → List ℕ → Type 0) (fault : Fault) (given text : List ℕ) → (fault ≡ Write) ⊎ (fault ≡ Memory) → StopsWithin Answer given text → StopsBy Answer fault given text
+stops_by_within Answer fault given text cause h =
+    elim cause [ inl e ↦ subst (λ f. StopsBy Answer f given text) (sym e) h | inr e ↦ subst (λ f. StopsBy Answer f given text) (sym e) h ]
+
+-- a job stops in a piece of which it went through `fed`
+pub stops_halted : (Answer : List ℕ → List ℕ → Type 0) (fault : Fault) (left left' left'' taken taken' taken'' : Option (List ℕ)) (line waits waits' piece fed past : List ℕ) (r : Bool) (room : ℕ) → Standing Answer left left' taken taken' line waits r room → Gave left' left'' piece → piece ≡ fed ++ past → HaltsAt Answer (line ++ fed) taken' taken'' waits' → (fault ≡ Write) ⊎ (fault ≡ Memory) → Stops Answer fault left left'' taken taken'' waits'
+stops_halted Answer fault left left' left'' taken taken' taken'' line waits waits' piece fed past r room st gave is h cause = record {
+  given = st.given ++ piece;
+  took = st.took ++ h.took;
+  source = gave_more _ _ _ _ _ st.source gave;
+  sink = appended_more _ _ _ _ _ st.sink h.sink;
+  by = stops_by_within Answer fault _ _ cause (record {
+    ended = st.advances.ended ++ h.halts.ended;
+    whole_text = st.took ++ h.text;
+    rest = h.rest;
+    refused = r || h.halts.refused;
+    begins = λ more. (
+      (h.halts.begins (past ++ more)).0,
+      ap (λ l. between_feeds ((st.given ++ l) ++ more)) is
+          ∙ ap between_feeds (regroup st.given fed past more)
+          ∙ st.advances.ends.whole (fed ++ (past ++ more))
+          ∙ ap (λ l. st.advances.ended ++ between_feeds l) (sym (append_assoc line fed (past ++ more)))
+          ∙ ap (λ l. st.advances.ended ++ l) (h.halts.begins (past ++ more)).1
+          ∙ sym (append_assoc st.advances.ended h.halts.ended _),
+    );
+    answers = answers_of Answer _ _ _ (adds_more Answer st.advances.ended h.halts.ended [] st.took (st.took ++ h.text) r h.halts.refused st.advances.adds (record { text = h.halts.adds.text; answers = h.halts.adds.answers; new_is = ap (λ l. st.took ++ l) h.halts.adds.new_is }));
+    text_begins = ap (λ l. st.took ++ l) h.text_begins ∙ simp append_assoc;
+  });
+}
+  where
+    regroup : (a b c d : List ℕ) → (a ++ (b ++ c)) ++ d ≡ a ++ (b ++ (c ++ d))
+    regroup a b c d = simp append_assoc
+
+-- a job stops where no memory answers its last line
+pub stops_last : (Answer : List ℕ → List ℕ → Type 0) (left left' left'' taken taken' : Option (List ℕ)) (line waits waits' : List ℕ) (r : Bool) (room : ℕ) → Standing Answer left left' taken taken' line waits r room → left'' ≡ left' → waits' ≡ waits → Stops Answer Memory left left'' taken taken' waits'
+stops_last Answer left left' left'' taken taken' line waits waits' r room st stays same = record {
+  given = st.given;
+  took = st.took;
+  source = subst (λ (o : Option (List ℕ)). Gave left o st.given) (sym stays) st.source;
+  sink = st.sink;
+  by = record {
+    ended = st.advances.ended;
+    whole_text = st.took;
+    rest = [];
+    refused = r;
+    begins = λ more. (between_feeds (line ++ more), st.advances.ends.whole more);
+    answers = answers_of Answer _ _ _ st.advances.adds;
+    text_begins = sym (append-nil st.took) ∙ ap (λ l. st.took ++ l) (sym (same ∙ st.none_waits)) ∙ sym (append-nil (st.took ++ waits'));
+  };
+}
+
+-- the last line is answered too
+pub answers_last : (Answer : List ℕ → List ℕ → Type 0) (left left' left'' taken taken' : Option (List ℕ)) (line waits waits' : List ℕ) (r s t : Bool) (room : ℕ) → Standing Answer left left' taken taken' line waits r room → NothingLeft left' → left'' ≡ left' → AddsAnswers Answer (line ∷ []) waits waits' s → t ≡ (r || s) → AnswersAll Answer left left'' taken taken' waits' t
+answers_last Answer left left' left'' taken taken' line waits waits' r s t room st nothing stays adds refusal = record {
+  given = st.given;
+  took = st.took;
+  source = subst (λ (o : Option (List ℕ)). Gave left o st.given) (sym stays) st.source;
+  nothing_left = subst NothingLeft (sym stays) nothing;
+  fits = omega (arith, st.some_room, st.room_is);
+  sink = st.sink;
+  answers = subst (λ b. Answers Answer (between_feeds st.given) (st.took ++ waits') b) (sym refusal) (
+      subst (λ ls. Answers Answer ls (st.took ++ waits') (r || s)) (sym pieces) (answers_of Answer _ _ _ (adds_more Answer st.advances.ended (line ∷ []) [] st.took (st.took ++ waits') r s st.advances.adds (shift adds))));
+}
+  where
+    pieces : between_feeds st.given ≡ st.advances.ended ++ line ∷ []
+    pieces = ap between_feeds (sym (append-nil st.given)) ∙ st.advances.ends.whole [] ∙ ap (λ l. st.advances.ended ++ between_feeds l) (append-nil line) ∙ ap (λ l. st.advances.ended ++ l) (between_feeds-one line st.advances.ends.unended)
+
+    shift : AddsAnswers Answer (line ∷ []) waits waits' s → AddsAnswers Answer (line ∷ []) st.took (st.took ++ waits') s
+    shift c = record { text = c.text; answers = c.answers; new_is = ap (λ l. st.took ++ l) (c.new_is ∙ ap (λ l. l ++ c.text) st.none_waits) }
+
+-- a job goes through a piece, and there is still room
+pub standing_more : (Answer : List ℕ → List ℕ → Type 0) (left left' left'' taken taken' taken'' : Option (List ℕ)) (line line' waits waits' piece : List ℕ) (r s : Bool) (room n : ℕ) → Standing Answer left left' taken taken' line waits r room → Gave left' left'' piece → length piece ≡ n → n < room → PassesOn Answer (line ++ piece) line' taken' taken'' r s → waits' ≡ [] → length line' ≤ length line + length piece → Standing Answer left left'' taken taken'' line' waits' s (room - n)
+standing_more Answer left left' left'' taken taken' taken'' line line' waits waits' piece r s room n st gave len less passes none fits = record {
+  given = st.given ++ piece;
+  took = st.took ++ passes.text;
+  source = gave_more _ _ _ _ _ st.source gave;
+  sink = appended_more _ _ _ _ _ st.sink passes.sink;
+  advances = subst (λ b. Advances Answer (st.given ++ piece) line' [] (st.took ++ passes.text) b) (sym passes.refused_is) (advances_more Answer st.given piece line line' st.took passes.text r passes.refused st.advances passes.advances);
+  none_waits = none;
+  some_room = omega arith;
+  room_is = omega (arith, st.room_is, length-append st.given piece);
+  fits = omega (arith, st.fits, length-append st.given piece);
+}
+
+-- a job goes through a piece but for its last byte, which is past the limit
+pub stops_too_long : (Answer : List ℕ → List ℕ → Type 0) (left left' left'' taken taken' taken'' : Option (List ℕ)) (line line' waits waits' piece fed past : List ℕ) (r s : Bool) (room : ℕ) → Standing Answer left left' taken taken' line waits r room → Gave left' left'' piece → piece ≡ fed ++ past → length fed + 1 ≡ room → length past ≡ 1 → PassesOn Answer (line ++ fed) line' taken' taken'' r s → waits' ≡ [] → Stops Answer TooLong left left'' taken taken'' waits'
+stops_too_long Answer left left' left'' taken taken' taken'' line line' waits waits' piece fed past r s room st gave is len one passes none = record {
+  given = st.given ++ piece;
+  took = st.took ++ passes.text;
+  source = gave_more _ _ _ _ _ st.source gave;
+  sink = appended_more _ _ _ _ _ st.sink passes.sink;
+  by = (
+    omega (arith, st.room_is, length-append st.given piece, ap length is, length-append fed past),
+    record {
+      ended = more.ended;
+      line = line';
+      refused = r || passes.refused;
+      ends = subst (λ (l : List ℕ). EndsIn l more.ended line') (sym within) more.ends;
+      answers = subst (λ (l : List ℕ). Answers Answer more.ended l (r || passes.refused)) text (answers_of Answer _ _ _ more.adds);
+    },
+  );
+}
+  where
+    more : Advances Answer (st.given ++ fed) line' [] (st.took ++ passes.text) (r || passes.refused)
+    more = advances_more Answer st.given fed line line' st.took passes.text r passes.refused st.advances passes.advances
+
+    text : st.took ++ passes.text ≡ (st.took ++ passes.text) ++ waits'
+    text = sym (append-nil _) ∙ ap (λ l. (st.took ++ passes.text) ++ l) (sym none)
+
+    short : length (st.given ++ fed) + 0 ≡ MOST_INPUT
+    short = omega (arith, st.room_is, length-append st.given fed)
+
+    within : take MOST_INPUT (st.given ++ piece) ≡ st.given ++ fed
+    within = ap (λ l. take MOST_INPUT (st.given ++ l)) is ∙ ap (take MOST_INPUT) (sym (append_assoc st.given fed past)) ∙ ap (λ n. take n ((st.given ++ fed) ++ past)) (sym short) ∙ take-append-add (st.given ++ fed) past 0 ∙ append-nil (st.given ++ fed)

@@ -1,0 +1,11 @@
+-- Lists of as many members as a row of the command table has words.
+use Rattle.std.proofs.Common.{◌≡◌, ◌<◌, ◌≤◌, List, [], ◌∷◌, length, get_or, arith}
+
+-- a list of four members is these four
+pub four_members : {A : Type 0} (xs : List A) (a b c d : A) → 4 ≤ length xs → length xs < 5 → a ≡ get_or xs 0 a → b ≡ get_or xs 1 b → c ≡ get_or xs 2 c → d ≡ get_or xs 3 d → xs ≡ a ∷ b ∷ c ∷ d ∷ []
+four_members [] a b c d low high p q r s = absurd (omega arith)
+four_members (w ∷ []) a b c d low high p q r s = absurd (omega arith)
+four_members (w ∷ x ∷ []) a b c d low high p q r s = absurd (omega arith)
+four_members (w ∷ x ∷ y ∷ []) a b c d low high p q r s = absurd (omega arith)
+four_members (w ∷ x ∷ y ∷ z ∷ []) a b c d low high p q r s = cc
+four_members (w ∷ x ∷ y ∷ z ∷ v ∷ rest) a b c d low high p q r s = absurd (omega arith)

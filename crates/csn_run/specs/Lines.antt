@@ -1,0 +1,39 @@
+-- The lines of an input, and the text that answers them. They are this project's own choice.
+use Rattle.std.specs.Prelude.{◌≢◌, ℕ, ◌==◌, Bool, if◌then◌else◌, ◌||◌, nat_lt, ◌-◌, slice_index, take, List, [], ◌∷◌, ◌++◌, length, map, filter, codes, nat_eq}
+use Rattle.std.specs.List.{AllByRecursion, flat_map, starts_with}
+
+-- a byte before the first of some lines
+abbrev pub begin_first : ℕ → List (List ℕ) → List (List ℕ)
+begin_first c [] = (c ∷ []) ∷ []
+begin_first c (line ∷ lines) = (c ∷ line) ∷ lines
+
+-- the pieces of an input between its line feeds, each 10: the last piece is what stands behind the
+-- last line feed
+abbrev pub between_feeds : List ℕ → List (List ℕ)
+between_feeds [] = [] ∷ []
+between_feeds (c ∷ bytes) = if c == 10 then [] ∷ between_feeds bytes else begin_first c (between_feeds bytes)
+
+-- no line feed is among the bytes
+abbrev pub HasNoFeed : List ℕ → Type 0
+HasNoFeed bytes = AllByRecursion (λ c. c ≢ 10) bytes
+
+-- a line without one carriage return, 13, at its end
+abbrev pub without_return : List ℕ → List ℕ
+without_return line = if slice_index line (length line - 1) == 13 then take (length line - 1) line else line
+
+-- the lines among some pieces that have an answer, as they are answered: each without its carriage
+-- return, and no empty one
+abbrev pub answered : List (List ℕ) → List (List ℕ)
+answered pieces = filter (λ line. nat_lt 0 (length line)) (map without_return pieces)
+
+-- the lines of an input that are answered. One that no line feed ends counts too
+abbrev pub lines_of : List ℕ → List (List ℕ)
+lines_of input = answered (between_feeds input)
+
+-- the answers as a text, each ended by a line feed
+abbrev pub text_of : List (List ℕ) → List ℕ
+text_of answers = flat_map (λ answer. answer ++ 10 ∷ []) answers
+
+-- an answer that refuses its line
+abbrev pub is_refusal : List ℕ → Bool
+is_refusal answer = starts_with nat_eq answer (codes "no") || starts_with nat_eq answer (codes "bad")

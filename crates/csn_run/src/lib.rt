@@ -1,0 +1,15 @@
+//! The top call of the program: words and the outside in, an end out.
+#![tactic(auto)]
+
+mod command;
+mod ended;
+mod fault;
+mod lines;
+mod output;
+mod show;
+mod small;
+mod text;
+mod top;
+
+pub use ended::Ended;
+pub use top::run;

@@ -1,0 +1,58 @@
+//! Text on its way to the sink.
+
+ghost use Rattle.std.specs.Prelude.{◌≡◌, ◌≢◌, ◌≤◌, ◌⊎◌, ◌++◌, List, ℕ, [], OnOk, IfErr};
+ghost use Rattle.csn_io.specs.Faults.{Rose};
+ghost use Rattle.csn_io.specs.Put.{Appended, FlushedAll};
+ghost use Rattle.csn_run.specs.Outside.{KeepsSteady};
+
+use crate::fault::Fault;
+use csn_io::{Put, Sink};
+
+/// Hands a text to the sink.
+fn put_all<K: Sink>(text: &[u8], out: &mut K) -> Result<(), Fault>
+    ensures took { (front rest : List ℕ) × (text.now ≡ front ++ rest) × Appended (K.taken out.old) (K.taken out.new) front × OnOk result (rest ≡ []) }
+    ensures causes { IfErr result (λ fault. (fault ≡ Fault.Write) ⊎ (fault ≡ Fault.Memory)) }
+    ensures write { result ≡ Err Fault.Write → Rose (K.faults out.old) (K.faults out.new) }
+    ensures never_falls { K.faults out.old ≤ K.faults out.new }
+    ensures steady { KeepsSteady (K.steady out.old) (K.steady out.new) (K.faults out.old) (K.faults out.new) }
+{
+    let mut passed = 0;
+    while passed < text.len() {
+        match out.put(&text[passed..]) {
+            Put::Took(n) => passed += n,
+            Put::Failed => return Err(Fault::Write),
+            Put::NoMemory => return Err(Fault::Memory),
+        }
+    }
+    Ok(())
+}
+
+/// Hands all that is pending to the sink, and forgets it.
+pub fn pass_on<K: Sink>(pending: &mut Vec<u8>, out: &mut K) -> Result<(), Fault>
+    ensures took { (front rest : List ℕ) × (pending.old.items ≡ front ++ rest) × Appended (K.taken out.old) (K.taken out.new) front × OnOk result (rest ≡ []) }
+    ensures emptied { pending.new.items ≡ [] }
+    ensures causes { IfErr result (λ fault. (fault ≡ Fault.Write) ⊎ (fault ≡ Fault.Memory)) }
+    ensures write { result ≡ Err Fault.Write → Rose (K.faults out.old) (K.faults out.new) }
+    ensures never_falls { K.faults out.old ≤ K.faults out.new }
+    ensures steady { KeepsSteady (K.steady out.old) (K.steady out.new) (K.faults out.old) (K.faults out.new) }
+{
+    let passed = put_all(pending, out);
+    pending.clear();
+    passed
+}
+
+/// Asks the sink to flush all that it took.
+pub fn flush<K: Sink>(out: &mut K) -> Result<(), Fault>
+    ensures flushed { OnOk result (FlushedAll (K.taken out.new) (K.flushed out.new)) }
+    ensures taken_stays { K.taken out.new ≡ K.taken out.old }
+    ensures causes { IfErr result (λ fault. (fault ≡ Fault.Write) ⊎ (fault ≡ Fault.Memory)) }
+    ensures write { result ≡ Err Fault.Write → Rose (K.faults out.old) (K.faults out.new) }
+    ensures never_falls { K.faults out.old ≤ K.faults out.new }
+    ensures steady { KeepsSteady (K.steady out.old) (K.steady out.new) (K.faults out.old) (K.faults out.new) }
+{
+    match out.flush() {
+        Put::Took(_) => Ok(()),
+        Put::Failed => Err(Fault::Write),
+        Put::NoMemory => Err(Fault::Memory),
+    }
+}

@@ -1,0 +1,13 @@
+pub mod Numbers
+pub mod Rows
+pub mod Fitting
+pub mod Numerals
+pub mod LowBits
+pub mod Names
+pub mod OctetLeaves
+pub mod Rooms
+pub mod Spelled
+pub mod Sound
+pub mod Complete
+pub mod Alive
+pub mod Places

@@ -1,0 +1,75 @@
+-- The text of a row, tree by tree.
+use Rattle.std.proofs.Common.{◌≡◌, ℕ, zero, suc, ◌+◌, ◌<◌, List, [], ◌∷◌, ◌++◌, length, take, slice_get, Option, Some, None, refl, sym, ap, ◌∙◌, append_assoc, append-nil, arith}
+use Rattle.csn_desc.specs.TreeV.{TreeV, trees_of}
+use Rattle.csn_desc.specs.TreeCode.{tree_size, rows_size}
+use Rattle.csn_treetext.specs.declared.version.Version.{Version}
+use Rattle.csn_treetext.specs.Text.{text_of, row_text, rest_text}
+use Rattle.csn_treetext.specs.Fits.{HasParts, AllHaveParts}
+
+-- a tree of a row is smaller than the row
+pub member_size : (trees : List TreeV) (at : ℕ) (t : TreeV) → slice_get trees at ≡ Some t → tree_size t < rows_size trees
+member_size [] at t h = absurd (cc)
+member_size (u ∷ trees) zero t h =
+    let same : u ≡ t = cc in
+    let sizes : tree_size u ≡ tree_size t = ap tree_size same in
+    omega arith
+member_size (u ∷ trees) (suc at) t h =
+    let inner : tree_size t < rows_size trees = member_size trees at t h in
+    omega arith
+
+-- the trees up to one of them are those before it, and it
+pub take_next : {A : Type 0} (xs : List A) (at : ℕ) (x : A) → slice_get xs at ≡ Some x → take (suc at) xs ≡ take at xs ++ x ∷ []
+take_next [] at x h = absurd (cc)
+take_next (y ∷ xs) zero x h = let same : y ≡ x = cc in ap (λ z. z ∷ []) same
+take_next (y ∷ xs) (suc at) x h = ap (λ l. y ∷ l) (take_next xs at x h)
+
+rest_text-push : (version : Version) (ts : List TreeV) (t : TreeV) → rest_text version (trees_of (ts ++ t ∷ [])) ≡ rest_text version (trees_of ts) ++ 32 ∷ text_of version t
+rest_text-push version [] t = ap (λ l. 32 ∷ l) (append-nil (text_of version t))
+rest_text-push version (u ∷ ts) t =
+    ap (λ l. 32 ∷ l)
+    (ap (λ l. text_of version u ++ l) (rest_text-push version ts t)
+    ∙ sym (append_assoc (text_of version u) (rest_text version (trees_of ts)) (32 ∷ text_of version t)))
+
+-- the first tree of a row
+pub row_text-one : (version : Version) (t : TreeV) → row_text version (trees_of (t ∷ [])) ≡ text_of version t
+row_text-one version t = append-nil (text_of version t)
+
+-- one more tree in a row that has some
+pub row_text-push : (version : Version) (u : TreeV) (ts : List TreeV) (t : TreeV) → row_text version (trees_of ((u ∷ ts) ++ t ∷ [])) ≡ row_text version (trees_of (u ∷ ts)) ++ 32 ∷ text_of version t
+row_text-push version u ts t =
+    ap (λ l. text_of version u ++ l) (rest_text-push version ts t)
+    ∙ sym (append_assoc (text_of version u) (rest_text version (trees_of ts)) (32 ∷ text_of version t))
+
+pub AllHaveParts-push : (ts : List TreeV) (t : TreeV) → AllHaveParts (trees_of ts) → HasParts t → AllHaveParts (trees_of (ts ++ t ∷ []))
+AllHaveParts-push [] t all this = (this, tt)
+AllHaveParts-push (u ∷ ts) t all this = (all.0, AllHaveParts-push ts t all.1 this)
+
+-- what is written after the first tree of a row, and after one more
+pub wrote_first : (version : Version) (before after : List ℕ) (trees : List TreeV) (at : ℕ) (t : TreeV) → slice_get trees at ≡ Some t → at ≡ 0
+    → before ≡ after ++ 91 ∷ row_text version (trees_of (take at trees))
+    → before ++ text_of version t ≡ after ++ 91 ∷ row_text version (trees_of (take (at + 1) trees))
+wrote_first version before after trees (suc at) t h zeroth wrote = absurd (omega arith)
+wrote_first version before after trees zero t h zeroth wrote =
+    let next : take 1 trees ≡ t ∷ [] = take_next trees 0 t h in
+    ap (λ l. l ++ text_of version t) wrote ∙ append_assoc after (91 ∷ []) (text_of version t)
+    ∙ ap (λ l. after ++ 91 ∷ l) (sym (row_text-one version t) ∙ ap (λ l. row_text version (trees_of l)) (sym next))
+
+pub wrote_next : (version : Version) (before after : List ℕ) (trees : List TreeV) (at : ℕ) (t : TreeV) → slice_get trees at ≡ Some t → 0 < at
+    → before ≡ after ++ 91 ∷ row_text version (trees_of (take at trees))
+    → (before ++ 32 ∷ []) ++ text_of version t ≡ after ++ 91 ∷ row_text version (trees_of (take (at + 1) trees))
+wrote_next version before after trees zero t h some wrote = absurd (omega arith)
+wrote_next version before after [] (suc at) t h some wrote = absurd (cc)
+wrote_next version before after (u ∷ trees) (suc at) t h some wrote =
+    let next : take (suc (suc at)) (u ∷ trees) ≡ (u ∷ take at trees) ++ t ∷ [] = take_next (u ∷ trees) (suc at) t h in
+    let count : suc at + 1 ≡ suc (suc at) = omega arith in
+    ap (λ l. (l ++ 32 ∷ []) ++ text_of version t) wrote
+    ∙ append_assoc (after ++ 91 ∷ row_text version (trees_of (u ∷ take at trees))) (32 ∷ []) (text_of version t)
+    ∙ append_assoc after (91 ∷ row_text version (trees_of (u ∷ take at trees))) (32 ∷ text_of version t)
+    ∙ ap (λ l. after ++ 91 ∷ l) (sym (row_text-push version u (take at trees) t))
+    ∙ ap (λ l. after ++ 91 ∷ row_text version (trees_of l)) (sym next)
+    ∙ ap (λ n. after ++ 91 ∷ row_text version (trees_of (take n (u ∷ trees)))) (sym count)
+
+pub have_next : (trees : List TreeV) (at : ℕ) (t : TreeV) → slice_get trees at ≡ Some t → AllHaveParts (trees_of (take at trees)) → HasParts t → AllHaveParts (trees_of (take (at + 1) trees))
+have_next trees at t h all this =
+    let count : at + 1 ≡ suc at = omega arith in
+    rw count (rw (take_next trees at t h) (AllHaveParts-push (take at trees) t all this))

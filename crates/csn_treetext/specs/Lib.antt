@@ -1,0 +1,8 @@
+pub mod Text
+pub mod Fits
+pub mod Place
+pub mod Laws
+pub mod Examples
+pub mod FrameCode
+pub mod Numeral
+pub mod Machine

@@ -1,0 +1,43 @@
+ghost use Rattle.std.specs.Prelude.{◌≡◌, ◌+◌, ◌<◌, ◌≤◌, ◌↔◌, IsTrue};
+ghost use Rattle.csn_treetext.specs.Fits.{Fits, FitsInside};
+
+use csn_desc::{Shape, Tree};
+
+/// The most levels of a tree that has a text.
+pub const MOST_LEVELS: u32 = 64;
+
+/// The greatest number of an alternative in a text.
+pub const GREATEST_ALTERNATIVE: u16 = 16_383;
+
+/// Whether a tree has a text: it has at most 64 levels, and alternatives below 16,384. It looks no deeper
+/// than that into a tree that has more levels.
+pub fn fits(tree: &Tree) -> bool
+    ensures { IsTrue result ↔ Fits tree.now }
+{
+    fits_inside(tree, 0)
+}
+
+// Whether the tree fits with so many levels round it.
+fn fits_inside(tree: &Tree, round: u32) -> bool
+    requires { round ≤ 64 }
+    ensures { IsTrue result ↔ FitsInside round tree.now }
+{
+    if round == MOST_LEVELS {
+        return false;
+    }
+    match &tree.shape {
+        Shape::Empty | Shape::Bits(_) => true,
+        Shape::Row(rows) => {
+            for at in 0..rows.len() {
+                if !fits_inside(rows.get(at), round + 1) {
+                    return false;
+                }
+            }
+            true
+        }
+        Shape::Alt(number, tree) => {
+            *number <= GREATEST_ALTERNATIVE && fits_inside(tree, round + 1)
+        }
+        Shape::Named(_, tree) => fits_inside(tree, round + 1),
+    }
+}

@@ -1,0 +1,50 @@
+ghost use Rattle.std.specs.Prelude.{◌≡◌, ◌≤◌, length, IfOk, IfErr};
+ghost use Rattle.csn_treetext.specs.declared.version.Version.TheVariants.{First, Second};
+ghost use Rattle.csn_treetext.specs.Place.{IsTextOf, TreeText, OldText, IsFaultOf};
+
+use crate::fault::TextFault;
+use crate::mode::Mode;
+use crate::stack::Stack;
+use crate::steps::{finish, step};
+use crate::version::Version;
+use csn_desc::Tree;
+use std::alloc::Global;
+
+/// The tree of a text in the second version.
+pub fn read_tree(alloc: Global, text: &[u8]) -> Result<Tree, TextFault>
+    requires { length text.now ≤ 16777216 }
+    ensures ok { IfOk result (λ tree. TreeText tree text.now) }
+    ensures refused { IfErr result (λ fault. IsFaultOf Second text.now fault) }
+{
+    read_text(alloc, Version::Second, text)
+}
+
+/// The tree of a text in the first version.
+pub fn read_old_tree(alloc: Global, text: &[u8]) -> Result<Tree, TextFault>
+    requires { length text.now ≤ 16777216 }
+    ensures ok { IfOk result (λ tree. OldText tree text.now) }
+    ensures refused { IfErr result (λ fault. IsFaultOf First text.now fault) }
+{
+    read_text(alloc, Version::First, text)
+}
+
+fn read_text(alloc: Global, version: Version, text: &[u8]) -> Result<Tree, TextFault>
+    requires { length text.now ≤ 16777216 }
+    ensures ok { IfOk result (λ tree. IsTextOf version tree text.now) }
+    ensures refused { IfErr result (λ fault. IsFaultOf version text.now fault) }
+{
+    let mut stack = Stack::new(alloc);
+    let mut mode = Mode::Start;
+    for (at, byte) in text.iter().enumerate() {
+        match step(alloc, version, &mut stack, mode, *byte)? {
+            Some(next) => mode = next,
+            None => return Err(TextFault::Place { place: at as u32 }),
+        }
+    }
+    match finish(alloc, &mut stack, mode)? {
+        Some(tree) => Ok(tree),
+        None => Err(TextFault::Place {
+            place: text.len() as u32,
+        }),
+    }
+}

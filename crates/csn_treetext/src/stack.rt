@@ -1,0 +1,63 @@
+ghost use Rattle.std.specs.Prelude.{◌≡◌, ◌∷◌, [], length, OnOk, MatchOption};
+
+use csn_bits::NoMemory;
+use csn_desc::{Label, Rows};
+use std::alloc::Global;
+use std::marker::Model;
+
+/// A tree that has begun and has not ended.
+#[derive(Drop)]
+pub enum Frame {
+    /// A row, with the trees of it that have ended.
+    Row(Rows),
+    /// An alternative, before its tree.
+    Alt(u16),
+    /// A labelled part, before its tree.
+    Named(Label),
+}
+
+/// The trees that have begun and not ended. A contract sees the list of them, the innermost one first.
+#[derive(Drop)]
+pub struct Stack {
+    frames: Vec<Frame>,
+}
+
+impl Model for Stack {
+    ghost use Rattle.std.specs.Prelude.{List, reverse};
+    ghost use Rattle.csn_treetext.specs.declared.stack.Frame.{Frame};
+    ghost use Rattle.csn_treetext.specs.FrameCode.{frames_code};
+
+    ghost Value = { List Frame };
+
+    ghost coded = { frames_code };
+
+    ghost view = { λ s. reverse s.frames.items };
+}
+
+impl Stack {
+    pub fn new(alloc: Global) -> Stack
+        ensures { result ≡ [] }
+    {
+        Stack {
+            frames: Vec::new(alloc),
+        }
+    }
+
+    pub fn len(&self) -> usize
+        ensures { result ≡ length self.now }
+    {
+        self.frames.len()
+    }
+
+    pub fn push(&mut self, frame: Frame) -> Result<(), NoMemory>
+        ensures { OnOk result (self.new ≡ frame ∷ self.old) }
+    {
+        Ok(self.frames.push(frame)?)
+    }
+
+    pub fn pop(&mut self) -> Option<Frame>
+        ensures { MatchOption result ((self.old ≡ []) × (self.new ≡ [])) (λ frame. self.old ≡ frame ∷ self.new) }
+    {
+        self.frames.pop()
+    }
+}
