@@ -1,26 +1,26 @@
 -- What is walked without a refusal, and is not empty of strings, gives nodes.
-use Rattle.std.proofs.Common.{◌≡◌, ℕ, suc, ◌+◌, ◌≤◌, Bool, true, false, List, [], ◌∷◌, ◌++◌, length, ◌⊎◌, inl, inr, refl, sym, ◌∙◌, ap, arith, codes, Option, Some, None}
+use Rattle.std.proofs.Common.{◌≡◌, ℕ, suc, ◌+◌, Bool, true, false, List, [], ◌∷◌, ◌++◌, length, ◌⊎◌, inl, inr, refl, sym, arith, codes, Some, None}
 use Rattle.std.specs.Cmp.Lexicographic.{same_text}
 use Rattle.csn_desc.specs.declared.reading.Reading.{Reading}
 use Rattle.csn_desc.specs.declared.reading.Reading.TheVariants.{Received, Sent}
+use Rattle.csn_desc.specs.declared.node.Node.TheVariants.{Times, Window}
 use Rattle.csn_grammar.specs.declared.rules.Rule.{Rule}
-use Rattle.csn_grammar.specs.ExprV.{ExprV, expr, name, choice, sends, ExprsV, item, BranchesV, no_branch, branch}
+use Rattle.csn_grammar.specs.ExprV.{ExprV, expr, name, choice, sends, ExprsV, BranchesV, branch}
 use Rattle.csn_grammar.specs.RulesV.{RulesV}
-use Rattle.csn_grammar.specs.Names.{same_name, is_built_in, built_in_names, rule_of}
-use Rattle.csn_grammar.specs.Forms.{WidthV, WindowV, width_of, window_of}
+use Rattle.csn_grammar.specs.Names.{same_name, is_built_in, built_in_names}
+use Rattle.csn_grammar.specs.Forms.{WidthV, width_of, window_of}
 use Rattle.csn_grammar.specs.Environment.{label_of}
 use Rattle.csn_grammar.specs.TailForm.{TailV, tail_of}
 use Rattle.csn_grammar.specs.Void.{Void, SomeVoid, AllVoid, Kept, void_none, void_name, void_group, void_labelled, void_window, void_seq, void_choice, void_received, void_sent, void_here, void_later, all_end, all_next, all_error, kept_end, kept_next, kept_void, kept_error}
 use Rattle.csn_resolve.specs.Seen.{Frame, Seen, with_labelled, inner_of}
-use Rattle.csn_resolve.specs.Gives.{Placed, Gives, ItemsGive, EachGives, RuleGives, start_of, gives_lits, gives_null, gives_bit, gives_octet, gives_field, gives_rest, gives_spare_bit, gives_spare_low, gives_padding, gives_seq, gives_choice, gives_only, gives_times, gives_many, gives_cut, gives_window, gives_labelled, gives_name, gives_group, gives_received, gives_sent, items_end, items_next, each_end, each_next, rule_plain, rule_tail}
+use Rattle.csn_resolve.specs.Gives.{Placed, placed, Gives, ItemsGive, EachGives, RuleGives, start_of, gives_lits, gives_null, gives_bit, gives_octet, gives_field, gives_rest, gives_spare_bit, gives_spare_low, gives_padding, gives_seq, gives_choice, gives_only, gives_times, gives_many, gives_cut, gives_window, gives_labelled, gives_name, gives_group, gives_received, gives_sent, items_end, items_next, each_end, each_next, rule_plain, rule_tail}
 use Rattle.csn_resolve.specs.declared.why.Why.TheVariants.{Undefined, Recursive, IntersectionForm}
 use Rattle.csn_resolve.specs.Steps.{Step, refused}
 use Rattle.csn_resolve.specs.Walk.{Around, is_among, inside, in_turn, turn_begun, behind, node_at, entering, Walk, ItemsWalk, ComponentsWalk, BranchesWalk, RuleWalk, walk_lits, walk_null, walk_bit, walk_octet, walk_field, walk_rest, walk_built_in, walk_undefined, walk_recursive, walk_name, walk_group, walk_labelled, walk_seq, walk_choice, walk_times, walk_many, walk_cut, walk_window, walk_window_behind, walk_no_window, walk_sends}
 use Rattle.csn_resolve.specs.Walk as walk
-use Rattle.csn_resolve.specs.Why.{Refusal}
 use Rattle.csn_resolve.specs.Resolved.{ResolveSteps, asked_unknown, asked_rule, NameGives, AreRefusals, twice_steps}
 use Rattle.csn_resolve.proofs.Bools.{or_cases}
-use Rattle.csn_resolve.proofs.Quiet.{Quiet, quiet_along, first_of, rest_of, quiet_from, SameFrame, SameSeen, same_with, count_given, part_full, turn_full}
+use Rattle.csn_resolve.proofs.Quiet.{Quiet, first_of, rest_of, quiet_from, SameFrame, SameSeen, same_with, count_given, part_full, turn_full}
 use Rattle.csn_resolve.proofs.VoidDecided.{void_decided}
 
 module _ (rules : RulesV) (r : Reading) where
@@ -37,8 +37,8 @@ module _ (rules : RulesV) (r : Reading) where
 
   -- a spare part
   built_in_given :
-      (s e : ℕ) (n : List ℕ) (at : ℕ) (seen : Seen ℕ) → is_built_in n ≡ true → ¬ Void rules r (expr s e (name n))
-      → Given (expr s e (name n)) at seen
+      (s e : ℕ) (n : List ℕ) (at : ℕ) (seen : Seen ℕ)
+      → is_built_in n ≡ true → ¬ Void rules r (expr s e (name n)) → Given (expr s e (name n)) at seen
   built_in_given s e n at seen built full =
       by_first (or_cases (same_name (codes "spare bit") n) (is_among n (codes "spare L" ∷ codes "spare padding" ∷ codes "no string" ∷ [])) built)
     where
@@ -86,8 +86,9 @@ module _ (rules : RulesV) (r : Reading) where
   all_void (kept_error kept) p = all_error (all_void kept p)
 
   choice_given :
-      (a : Around) (s e : ℕ) (bs : BranchesV) (xs : List ExprV) (at : ℕ) (seen : Seen ℕ) → SameSeen a.seen seen
-      → ¬ Void rules r (expr s e (choice bs)) → Kept rules r bs xs → EachCan a xs → Given (expr s e (choice bs)) at seen
+      (a : Around) (s e : ℕ) (bs : BranchesV) (xs : List ExprV) (at : ℕ) (seen : Seen ℕ)
+      → SameSeen a.seen seen → ¬ Void rules r (expr s e (choice bs)) → Kept rules r bs xs → EachCan a xs
+      → Given (expr s e (choice bs)) at seen
   choice_given a s e bs [] at seen same full kept can = absurd (full (void_choice (all_void kept refl)))
   choice_given a s e bs (x ∷ []) at seen same full kept can =
       let only = can.0 at seen same in (_, gives_only kept only.1)
@@ -103,7 +104,9 @@ module _ (rules : RulesV) (r : Reading) where
   kept_more a true x bs can later = (later.0, kept_error later.1, later.2)
   kept_more a false x bs can later = by (void_decided rules r x)
     where
-      by : Void rules r x ⊎ (¬ Void rules r x) → (xs : List ExprV) × Kept rules r (branch false x bs) xs × EachCan a xs
+      by :
+          Void rules r x ⊎ (¬ Void rules r x)
+          → (xs : List ExprV) × Kept rules r (branch false x bs) xs × EachCan a xs
       by (inl v) = (later.0, kept_void v later.1, later.2)
       by (inr full) = (x ∷ later.0, kept_next full later.1, (can full, later.2))
 
@@ -125,10 +128,21 @@ module _ (rules : RulesV) (r : Reading) where
       → window_of x y ≡ Some (record { width = w; part = x })
   right_window x y w p q = cc
 
+  tail_given :
+      (rule : Rule) (tail : TailV) (at : ℕ) (seen : Seen ℕ) (parts turn_parts : List ℕ)
+      (items turn : List Placed)
+      → tail_of rule ≡ Some tail → ItemsGive rules r tail.items (suc at) [] seen parts items
+      → ItemsGive rules r tail.items (suc at + length items + 3) [] seen turn_parts turn
+      → (nodes : List Placed) × RuleGives rules r rule at seen nodes
+  tail_given rule tail at seen parts turn_parts items turn is first second =
+      (_, rule_tail tail (suc at + length items) (suc at + length items + 3 + length turn) parts turn_parts items turn is first refl second refl refl)
+
   -- ---- all forms
 
   mutual
-    given : {a : Around} {x : ExprV} {steps : List Step} → Walk rules r a x steps → Quiet steps → ¬ Void rules r x → CanGive a x
+    given :
+        {a : Around} {x : ExprV} {steps : List Step}
+        → Walk rules r a x steps → Quiet steps → ¬ Void rules r x → CanGive a x
     given (walk_lits p) q full at seen same = (_, gives_lits refl)
     given (walk_null p) q full at seen same = (_, gives_null refl)
     given (walk_bit p) q full at seen same = (_, gives_bit refl)
@@ -160,7 +174,7 @@ module _ (rules : RulesV) (r : Reading) where
         let behind_counts = rest_of counts (inner ++ left) refl after in
         let count = count_given rules r seen same c (first_of counts (inner ++ left) refl after) in
         let nodes = given h (first_of inner left refl behind_counts) (part_full rules r l (rest_of inner left refl behind_counts)) (suc at) seen same in
-        (_, gives_times count.0 none count.1 nodes.1 refl)
+        (placed (Times count.0 (suc at)) s ∷ nodes.0, gives_times count.0 none count.1 nodes.1 refl)
     given {a} (walk_many {s = s} {inner = inner} {left = left} not h l p) q full at seen same =
         let after = rest_of (node_at a s) (inner ++ left) p q in
         let nodes = given h (first_of inner left refl after) (part_full rules r l (rest_of inner left refl after)) (suc at) seen same in
@@ -173,13 +187,13 @@ module _ (rules : RulesV) (r : Reading) where
         let count = count_given rules r seen same c (first_of counts inner refl after) in
         let window : window_of x y ≡ Some (record { width = w; part = y }) = left_window x y w is in
         let nodes = given h (rest_of counts inner refl after) (λ v. full (void_window (record { width = w; part = y }) window v)) (suc at) seen same in
-        (_, gives_window (record { width = w; part = y }) count.0 window count.1 nodes.1 refl)
+        (placed (Window w.unit count.0 (suc at)) s ∷ nodes.0, gives_window (record { width = w; part = y }) count.0 window count.1 nodes.1 refl)
     given {a} (walk_window_behind {s = s} {x = x} {y = y} {counts = counts} {inner = inner} w none is h c p) q full at seen same =
         let after = rest_of (node_at a s) (inner ++ counts) p q in
         let count = count_given rules r seen same c (rest_of inner counts refl after) in
         let window : window_of x y ≡ Some (record { width = w; part = x }) = right_window x y w none is in
         let nodes = given h (first_of inner counts refl after) (λ v. full (void_window (record { width = w; part = x }) window v)) (suc at) seen same in
-        (_, gives_window (record { width = w; part = x }) count.0 window count.1 nodes.1 refl)
+        (placed (Window w.unit count.0 (suc at)) s ∷ nodes.0, gives_window (record { width = w; part = x }) count.0 window count.1 nodes.1 refl)
     given {a} (walk_no_window {s = s} {x = x} {left = left} {right = right} none none' h h' p) q full at seen same =
         absurd (rest_of (node_at a s) (refused IntersectionForm (start_of x) ∷ (left ++ right)) p q)
     given {a} (walk_sends {s = s} {e = e} {x = x} {y = y} {left = left} {right = right} h h' p) q full at seen same =
@@ -195,8 +209,8 @@ module _ (rules : RulesV) (r : Reading) where
     items_given {frame = frame} (walk.items_next {x = x} {first = first} {rest = rest} h more p) q full at other seen alike same =
         let nodes = given h (first_of first rest p q) (λ v. full (void_here v)) at (other ∷ seen) (alike, same) in
         let later =
-                items_given more (rest_of first rest p q) (λ v. full (void_later v)) (at + length nodes.0)
-                (with_labelled (label_of r x) at other) seen (same_with (label_of r x) (inner_of r x) at frame other alike) same in
+        items_given more (rest_of first rest p q) (λ v. full (void_later v)) (at + length nodes.0)
+        (with_labelled (label_of r x) at other) seen (same_with (label_of r x) (inner_of r x) at frame other alike) same in
         (_, _, items_next nodes.0 later.1 nodes.1 later.2 refl refl)
 
     components_given :
@@ -209,8 +223,8 @@ module _ (rules : RulesV) (r : Reading) where
         let after = rest_of first (left ++ rest) p q in
         let nodes = given h (first_of first (left ++ rest) p q) (part_full rules r l (first_of left rest refl after)) at (other ∷ seen) (alike, same) in
         let later =
-                components_given more (rest_of left rest refl after) (at + length nodes.0)
-                (with_labelled (label_of r x) at other) seen (same_with (label_of r x) (inner_of r x) at frame other alike) same in
+        components_given more (rest_of left rest refl after) (at + length nodes.0)
+        (with_labelled (label_of r x) at other) seen (same_with (label_of r x) (inner_of r x) at frame other alike) same in
         (_, _, items_next nodes.0 later.1 nodes.1 later.2 refl refl)
 
     branches_given :
@@ -234,11 +248,12 @@ module _ (rules : RulesV) (r : Reading) where
         let in_turns = rest_of begun (turn ++ (left ++ stop)) refl (rest_of items (begun ++ (turn ++ (left ++ stop))) refl after) in
         let items_full = turn_full rules r l (first_of left stop refl (rest_of turn (left ++ stop) refl in_turns)) in
         let first = items_given i (first_of items (begun ++ (turn ++ (left ++ stop))) refl after) items_full (suc at) [] seen tt same in
-        let many = suc at + length first.1 in
-        let second = items_given t (first_of turn (left ++ stop) refl in_turns) items_full (many + 3) [] seen tt same in
-        (_, rule_tail tail many (many + 3 + length second.1) first.0 second.0 first.1 second.1 is first.2 refl second.2 refl refl)
+        let second = items_given t (first_of turn (left ++ stop) refl in_turns) items_full (suc at + length first.1 + 3) [] seen tt same in
+        tail_given rule tail at seen first.0 second.0 first.1 second.1 is first.2 second.2
 
-  name_given : {n : List ℕ} {steps : List Step} → ResolveSteps rules n r steps → Quiet steps → (nodes : List Placed) × NameGives rules n r nodes
+  name_given :
+      {n : List ℕ} {steps : List Step}
+      → ResolveSteps rules n r steps → Quiet steps → (nodes : List Placed) × NameGives rules n r nodes
   name_given (asked_unknown none p) q = absurd (rest_of (twice_steps built_in_names rules) (refused Undefined 0 ∷ []) p q)
   name_given (asked_rule {walk = walk} {left = left} rule is h l p) q =
       let after = rest_of (twice_steps built_in_names rules) (walk ++ left) p q in

@@ -1,5 +1,5 @@
 -- Steps without a refusal, and what they say of the parts that are left and of counts.
-use Rattle.std.proofs.Common.{◌≡◌, ℕ, suc, Bool, true, false, List, [], ◌∷◌, ◌++◌, ◌==◌, refl, sym, ◌∙◌, ap, subst, Option, Some, None, is_some}
+use Rattle.std.proofs.Common.{◌≡◌, ℕ, suc, Bool, true, false, List, [], ◌∷◌, ◌++◌, refl, ◌∙◌, ap, subst, Option, Some, None, is_some}
 use Rattle.std.specs.Prelude.{if◌then◌else◌}
 use Rattle.std.specs.Option.{option_map, option_or}
 use Rattle.csn_desc.specs.declared.reading.Reading.{Reading}
@@ -114,7 +114,8 @@ node_seen :
 node_seen label seen others x same at = is_there (seen_of others label) refl (same_label label seen others same)
   where
     is_there :
-        (o : Option ℕ) → seen_of others label ≡ o → is_some (seen_of seen label) ≡ is_some (seen_of others label)
+        (o : Option ℕ)
+        → seen_of others label ≡ o → is_some (seen_of seen label) ≡ is_some (seen_of others label)
         → (i : ℕ) × (seen_of others label ≡ Some i)
     is_there (Some i) is p = (i, is)
     is_there None is p = absurd (clash (ap is_some at) (p ∙ ap is_some is))
@@ -139,6 +140,8 @@ module _ (rules : RulesV) (r : Reading) where
   part_full (left_void v p) q = absurd (quiet_along p q)
   part_full (left_full full p) q = full
 
-  pub turn_full : {tail : TailV} {steps : List Step} → TurnLeft rules r tail steps → Quiet steps → ¬ SomeVoid rules r tail.items
+  pub turn_full :
+      {tail : TailV} {steps : List Step}
+      → TurnLeft rules r tail steps → Quiet steps → ¬ SomeVoid rules r tail.items
   turn_full (left_void_turn v p) q = absurd (quiet_along p q)
   turn_full (left_full_turn full p) q = full

@@ -1,7 +1,8 @@
 -- Laws over the definitions.
-use Rattle.std.specs.Prelude.{◌≡◌, ℕ, ◌⊎◌, List, []}
+use Rattle.std.specs.Prelude.{◌≡◌, ℕ, ◌⊎◌, List, [], length}
 use Rattle.csn_desc.specs.declared.reading.Reading.{Reading}
 use Rattle.csn_desc.specs.Nodes.{DescV}
+use Rattle.csn_desc.specs.Formed.{Spans}
 use Rattle.csn_grammar.specs.ExprV.{ExprV}
 use Rattle.csn_grammar.specs.RulesV.{RulesV}
 use Rattle.csn_grammar.specs.Void.{Void}
@@ -12,7 +13,7 @@ use Rattle.csn_resolve.specs.Gives.{Placed, Gives}
 use Rattle.csn_resolve.specs.Steps.{Step}
 use Rattle.csn_resolve.specs.Counts.{Narrow}
 use Rattle.csn_resolve.specs.Walk.{Around, Walk}
-use Rattle.csn_resolve.specs.Resolved.{NameGives, AreRefusals, IsRefused, IsResolved}
+use Rattle.csn_resolve.specs.Resolved.{NameGives, nodes_of, AreRefusals, IsRefused, IsResolved}
 
 -- an expression gives one list of nodes
 abbrev pub NodesAreGivenOnce : Type 0
@@ -80,3 +81,9 @@ abbrev pub NodesAreGiven : Type 0
 NodesAreGiven =
     (rules : RulesV) (r : Reading) (n : List ℕ)
     → AreRefusals rules n r [] → (nodes : List Placed) × NameGives rules n r nodes
+
+-- the nodes of a named rule are numbered through from the root
+abbrev pub NodesAreNumbered : Type 0
+NodesAreNumbered =
+    (rules : RulesV) (r : Reading) (n : List ℕ) (nodes : List Placed)
+    → NameGives rules n r nodes → Spans (nodes_of nodes) 0 (length nodes)

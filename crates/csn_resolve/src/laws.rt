@@ -1,6 +1,6 @@
 //! Laws over the definitions, each the contract of a function that does nothing.
 
-ghost use Rattle.csn_resolve.specs.Laws.{NodesAreGivenOnce, VoidGivesNothing, StepsAreWalkedOnce, ResolvedOnce, RefusalsAreOneList, RefusedOnce, RefusedOrResolved, EmptinessIsDecided, WidthsAreDecided, WalksEnd, RefusalsEnd, NodesAreGiven};
+ghost use Rattle.csn_resolve.specs.Laws.{NodesAreGivenOnce, VoidGivesNothing, StepsAreWalkedOnce, ResolvedOnce, RefusalsAreOneList, RefusedOnce, RefusedOrResolved, EmptinessIsDecided, WidthsAreDecided, WalksEnd, RefusalsEnd, NodesAreGiven, NodesAreNumbered};
 
 /// An expression gives one list of nodes, at one number; so a named rule has one description.
 pub fn descriptions_are_one()
@@ -31,7 +31,9 @@ pub fn walks_end()
     ensures list { RefusalsEnd }
 {}
 
-/// A named rule that is not refused on the walk gives nodes.
+/// A named rule that is not refused on the walk gives nodes, and these are numbered through from the
+/// root, each before those inside it.
 pub fn nodes_are_given()
-    ensures { NodesAreGiven }
+    ensures given { NodesAreGiven }
+    ensures numbered { NodesAreNumbered }
 {}

@@ -1,5 +1,9 @@
 use Rattle.csn_resolve.proofs.Given.{nodes_given}
+use Rattle.csn_resolve.proofs.Numbered.{nodes_numbered}
 use Rattle.csn_resolve.proofs.laws.nodes_are_given.Goals as goal
 
-pub returns : goal.returns
-returns c = λ rules r n h. nodes_given rules r h
+pub returns-clause-given : goal.returns-clause-given
+returns-clause-given c = λ rules r n h. nodes_given rules r h
+
+pub returns-clause-numbered : goal.returns-clause-numbered
+returns-clause-numbered c = λ rules r n nodes h. nodes_numbered rules r h
