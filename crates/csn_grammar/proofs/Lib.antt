@@ -11,3 +11,5 @@ pub mod SoundExponents
 pub mod SoundExpr
 pub mod SoundBody
 pub mod SoundRules
+pub mod Alive
+pub mod Reading
