@@ -1,24 +1,23 @@
 -- The reader takes the tokens of each expression.
-use Rattle.std.proofs.Common.{◌≡◌, ℕ, suc, ◌+◌, ◌<◌, Bool, true, false, List, [], ◌∷◌, ◌++◌, length, Option, Some, None, nat_lt, refl, sym, ap, ◌∙◌, subst, arith, append_assoc, lt-ltb}
+use Rattle.std.proofs.Common.{◌≡◌, ℕ, Bool, true, false, List, [], ◌∷◌, ◌++◌, Option, Some, None, refl, ap}
 use Rattle.csn_lexer.specs.declared.token.TokenKind.{TokenKind}
 use Rattle.csn_lexer.specs.declared.token.TokenKind.TheVariants as kind
 use Rattle.csn_grammar.specs.declared.reader.body.Frame.{Frame}
-use Rattle.csn_grammar.specs.declared.reader.body.Joint.{Joint}
-use Rattle.csn_grammar.specs.declared.reader.body.Joint.TheVariants.{Alone, Window, Sends}
+use Rattle.csn_grammar.specs.declared.reader.body.Joint.TheVariants.{Alone}
 use Rattle.csn_grammar.specs.declared.reader.body.Level.{Level}
 use Rattle.csn_grammar.specs.declared.reader.body.Opening.{Opening}
 use Rattle.csn_grammar.specs.declared.reader.body.Opening.TheVariants.{Brace, Label}
 use Rattle.csn_grammar.specs.declared.reader.body.Mode.{Mode}
-use Rattle.csn_grammar.specs.declared.reader.body.Mode.TheVariants.{Side, Less, Name, Base, Done, Slashes, Exponent}
+use Rattle.csn_grammar.specs.declared.reader.body.Mode.TheVariants.{Side}
 use Rattle.csn_grammar.specs.declared.reader.body.Next.{Next}
 use Rattle.csn_grammar.specs.declared.reader.state.State.TheVariants.{Body}
-use Rattle.csn_grammar.specs.ExprV.{ExprV, expr, FormV, BranchV, ExprsV, item, item_list, BranchesV, branch_list}
+use Rattle.csn_grammar.specs.ExprV.{ExprV, BranchV}
 use Rattle.csn_grammar.specs.RulesV.{RulesV}
 use Rattle.csn_grammar.specs.TokenV.{TokenV, token}
-use Rattle.csn_grammar.specs.Building.{start_of, end_of, seq_with, cut_with, choice_with, both_of, sends_of, power_of}
-use Rattle.csn_grammar.specs.BodySteps.{open_frame, begin_side, close, close_in, after_seq, after_item, after_window, after_joint, after_side, after_slashes, after_base, body_step}
+use Rattle.csn_grammar.specs.Building.{seq_with, choice_with}
+use Rattle.csn_grammar.specs.BodySteps.{begin_side, close, close_in, after_seq, after_item, after_window, after_joint, after_side, body_step}
 use Rattle.csn_grammar.specs.ReaderSteps.{after_body, finished}
-use Rattle.csn_grammar.proofs.Run.{Step, level_of, in_body, Leads, Comes, pour, parse, run, ends}
+use Rattle.csn_grammar.proofs.Run.{level_of, Leads, Comes, pour}
 
 -- a token that closes nothing
 abbrev pub is_closer : TokenKind → Bool
@@ -49,9 +48,9 @@ module _ (rules : RulesV) (begin : ℕ) (title : List ℕ) where
       → Comes rules begin title frames level mode [] out → ⊥
   unfinished frames level mode out h = unfinished_rules rules h
     where
-    unfinished_rules : (rs : RulesV) → finished rs (Body begin title (record { frames = frames; level = level; mode = mode })) ≡ Some out → ⊥
-    unfinished_rules [] h = absurd (cc)
-    unfinished_rules (r ∷ rs) h = absurd (cc)
+      unfinished_rules : (rs : RulesV) → finished rs (Body begin title (record { frames = frames; level = level; mode = mode })) ≡ Some out → ⊥
+      unfinished_rules [] h = absurd (cc)
+      unfinished_rules (r ∷ rs) h = absurd (cc)
 
   -- what may come behind an alternative that ends is what may come behind an alternative
   pub close_to_seq : (frames : List Frame) (bs : List BranchV) (e : Bool) (q : ExprV) (ts : List TokenV) (out : RulesV)

@@ -1,25 +1,23 @@
 -- The reader takes every expression and all rules.
-use Rattle.std.proofs.Common.{◌≡◌, ℕ, suc, ◌+◌, ◌<◌, Bool, true, false, List, [], ◌∷◌, ◌++◌, length, Option, Some, None, ◌⊎◌, refl, sym, ap, ◌∙◌, subst, arith, append_assoc, lt-ltb}
-use Rattle.csn_lexer.specs.declared.token.TokenKind.{TokenKind}
+use Rattle.std.proofs.Common.{◌≡◌, ℕ, suc, ◌<◌, Bool, true, false, List, [], ◌∷◌, ◌++◌, length, Some, None, refl, sym, ap, ◌∙◌, subst, arith, append_assoc, lt-ltb}
 use Rattle.csn_lexer.specs.declared.token.TokenKind.TheVariants as kind
 use Rattle.csn_grammar.specs.declared.reader.body.Frame.{Frame}
 use Rattle.csn_grammar.specs.declared.reader.body.Joint.{Joint}
 use Rattle.csn_grammar.specs.declared.reader.body.Joint.TheVariants.{Alone, Window, Sends}
 use Rattle.csn_grammar.specs.declared.reader.body.Level.{Level}
-use Rattle.csn_grammar.specs.declared.reader.body.Opening.{Opening}
 use Rattle.csn_grammar.specs.declared.reader.body.Opening.TheVariants.{Brace, Label}
-use Rattle.csn_grammar.specs.declared.reader.body.Mode.TheVariants.{Side, Less, Name, Base, Done, Slashes, Exponent}
-use Rattle.csn_grammar.specs.ExprV.{ExprV, expr, FormV, lits, null, bit, octet, name, labelled, group, seq, choice, power, cut, both, sends, ExprsV, no_item, item, item_list, BranchesV, no_branch, branch, BranchV, branch_list}
+use Rattle.csn_grammar.specs.declared.reader.body.Mode.TheVariants.{Side, Less, Name, Base, Done, Slashes}
+use Rattle.csn_grammar.specs.ExprV.{ExprV, expr, FormV, lits, null, bit, octet, name, labelled, group, ExprsV, no_item, item, item_list, BranchesV, no_branch, branch, BranchV, branch_list}
 use Rattle.csn_grammar.specs.RulesV.{RulesV}
 use Rattle.csn_grammar.specs.TokenV.{TokenV, token}
 use Rattle.csn_grammar.specs.Counts.{IsName, last_word, more_words}
 use Rattle.csn_grammar.specs.Grammar.{NotSlashes, components_of, IsBase, bit_base, octet_base, name_base, labelled_base, group_base, IsSide, lits_side, null_side, base_side, power_side, cut_side, IsWindow, side_window, both_window, IsItem, window_item, sends_item, AreItems, last_item, more_items, IsSeq, one_item, items, cut_items, AreBranches, last_branch, last_error, more_branches, more_errors, IsExpr, one_seq, branches}
 use Rattle.csn_grammar.specs.Spellings.{word_form}
-use Rattle.csn_grammar.specs.Building.{start_of, end_of, seq_with, cut_with, choice_with, both_of, sends_of, power_of, cut_group}
-use Rattle.csn_grammar.specs.BodySteps.{fresh, with_joint, word_mode, open_frame, begin_side, close, close_in, after_seq, after_item, after_window, after_joint, after_side, after_slashes, after_base, after_words, first_word, body_step}
-use Rattle.csn_grammar.proofs.Run.{Step, level_of, Leads, Comes}
+use Rattle.csn_grammar.specs.Building.{end_of, seq_with, cut_with, choice_with, both_of, sends_of, power_of}
+use Rattle.csn_grammar.specs.BodySteps.{fresh, with_joint, word_mode, open_frame, begin_side, close, after_seq, after_item, after_window, after_joint, after_side, after_slashes, after_base, after_words, first_word, body_step}
+use Rattle.csn_grammar.proofs.Run.{level_of, Leads, Comes}
 use Rattle.csn_grammar.proofs.Members.{whole_seq, whole_cut, items_begin, no_items, no_branches, whole_choice}
-use Rattle.csn_grammar.proofs.Complete.{is_closer, close_none, no_lead, unfinished, close_to_seq, seq_to_item, side_to_item, item_to_window, window_to_side}
+use Rattle.csn_grammar.proofs.Complete.{close_none, no_lead, close_to_seq, seq_to_item, side_to_item, item_to_window, window_to_side}
 use Rattle.csn_grammar.proofs.CompleteWords.{lits_is, exponent_from}
 
 -- a base in braces has no `//` behind it
@@ -37,16 +35,17 @@ base_follow (group_base deep x free) = free
 -- no exponent may come behind a side that is whole
 item_none : (frames : List Frame) (level : Level) (x : ExprV) (s n : ℕ) (w : List ℕ)
     → (after_item frames level x kind.ParenLeft s n w ≡ None) × (after_item frames level x kind.Star s n w ≡ None)
-        × (after_item frames level x kind.StarStar s n w ≡ None)
+    × (after_item frames level x kind.StarStar s n w ≡ None)
 unfolding after_item after_seq
-item_none frames level x s n w =
-    ( close_none frames (choice_with level.branches level.error (seq_with level.items x)) kind.ParenLeft n refl
-    , close_none frames (choice_with level.branches level.error (seq_with level.items x)) kind.Star n refl
-    , close_none frames (choice_with level.branches level.error (seq_with level.items x)) kind.StarStar n refl )
+item_none frames level x s n w = (
+  close_none frames (choice_with level.branches level.error (seq_with level.items x)) kind.ParenLeft n refl,
+  close_none frames (choice_with level.branches level.error (seq_with level.items x)) kind.Star n refl,
+  close_none frames (choice_with level.branches level.error (seq_with level.items x)) kind.StarStar n refl,
+)
 
 side_none : (frames : List Frame) (level : Level) (j : Joint) (x : ExprV) (s n : ℕ) (w : List ℕ)
     → (after_joint frames level j x kind.ParenLeft s n w ≡ None) × (after_joint frames level j x kind.Star s n w ≡ None)
-        × (after_joint frames level j x kind.StarStar s n w ≡ None)
+    × (after_joint frames level j x kind.StarStar s n w ≡ None)
 unfolding after_joint after_window
 side_none frames level Alone x s n w = item_none frames (with_joint level Alone) x s n w
 side_none frames level (Window l) x s n w = item_none frames (with_joint level Alone) (both_of l x) s n w
@@ -54,7 +53,7 @@ side_none frames level (Sends l) x s n w = item_none frames (with_joint level Al
 
 module _ (rules : RulesV) (begin : ℕ) (title : List ℕ) where
   -- what may come behind a side that is a base
-  side_to_base : (frames : List Frame) (level : Level) (x : ExprV) (ts : List TokenV) (out : RulesV) → MayFollow x ts
+  pub side_to_base : (frames : List Frame) (level : Level) (x : ExprV) (ts : List TokenV) (out : RulesV) → MayFollow x ts
       → Leads rules begin title (after_side frames level x) ts out → Comes rules begin title frames level (Base x) ts out
   unfolding body_step after_base after_slashes after_side
   side_to_base frames level x [] out free h = absurd h
@@ -68,21 +67,21 @@ module _ (rules : RulesV) (begin : ℕ) (title : List ℕ) where
   side_to_base frames level (expr a b f) (token kind.SlashSlash s n w ∷ ts) out free h = h
   side_to_base frames level x (token k s n w ∷ ts) out free h = h
 
-  leads_done : (frames : List Frame) (level : Level) (x : ExprV) (ts : List TokenV) (out : RulesV)
+  pub leads_done : (frames : List Frame) (level : Level) (x : ExprV) (ts : List TokenV) (out : RulesV)
       → Leads rules begin title (after_side frames level x) ts out → Comes rules begin title frames level (Done x) ts out
   unfolding body_step
   leads_done frames level x [] out h = absurd h
   leads_done frames level x (token k s n w ∷ ts) out h = h
 
   -- behind the second side of `&` and of `=`
-  both_leads : (frames : List Frame) (bs : List BranchV) (e : Bool) (xs : List ExprV) (l x : ExprV) (ts : List TokenV) (out : RulesV)
+  pub both_leads : (frames : List Frame) (bs : List BranchV) (e : Bool) (xs : List ExprV) (l x : ExprV) (ts : List TokenV) (out : RulesV)
       → Leads rules begin title (after_window frames (level_of bs e xs Alone) (both_of l x)) ts out
       → Leads rules begin title (after_side frames (level_of bs e xs (Window l)) x) ts out
   unfolding after_side after_joint
   both_leads frames bs e xs l x [] out h = h
   both_leads frames bs e xs l x (token k s n w ∷ ts) out h = h
 
-  sends_leads : (frames : List Frame) (bs : List BranchV) (e : Bool) (xs : List ExprV) (l x : ExprV) (ts : List TokenV) (out : RulesV)
+  pub sends_leads : (frames : List Frame) (bs : List BranchV) (e : Bool) (xs : List ExprV) (l x : ExprV) (ts : List TokenV) (out : RulesV)
       → Leads rules begin title (after_item frames (level_of bs e xs Alone) (sends_of l x)) ts out
       → Leads rules begin title (after_side frames (level_of bs e xs (Sends l)) x) ts out
   unfolding after_side after_joint
@@ -96,7 +95,7 @@ module _ (rules : RulesV) (begin : ℕ) (title : List ℕ) where
   slashes_lead frames bs e q [] out h = absurd h
   slashes_lead frames bs e q (token k s n w ∷ ts) out h = h
 
-  word_comes : (frames : List Frame) (level : Level) (f : FormV) (s n : ℕ) (w : List ℕ) (ts : List TokenV) (out : RulesV) → word_form w ≡ Some f
+  pub word_comes : (frames : List Frame) (level : Level) (f : FormV) (s n : ℕ) (w : List ℕ) (ts : List TokenV) (out : RulesV) → word_form w ≡ Some f
       → Comes rules begin title frames level (word_mode s n f) ts out → Comes rules begin title frames level Side (token kind.Word s n w ∷ ts) out
   unfolding body_step begin_side
   word_comes frames level f s n w ts out e h = rw e h
@@ -118,7 +117,7 @@ module _ (rules : RulesV) (begin : ℕ) (title : List ℕ) where
   unfolding body_step after_words open_frame
   label_comes frames level st s n l w ts out deep limit h = rw (lt-ltb (length frames) 64 (omega arith)) h
 
-  greater_comes : (frames : List Frame) (level : Level) (st s n : ℕ) (l w : List ℕ) (ts : List TokenV) (out : RulesV)
+  pub greater_comes : (frames : List Frame) (level : Level) (st s n : ℕ) (l w : List ℕ) (ts : List TokenV) (out : RulesV)
       → Comes rules begin title frames level (Base (expr st n (name l))) ts out
       → Comes rules begin title frames level (Name st l) (token kind.Greater s n w ∷ ts) out
   unfolding body_step after_words
@@ -180,7 +179,7 @@ module _ (rules : RulesV) (begin : ℕ) (title : List ℕ) where
       subst (λ r. Comes rules begin title frames level (Name st (ws ++ 32 ∷ w)) r out) e h
   words_come {rest = rest} frames level st ws out (more_words {w = w} {name = more} is) h =
       words_come frames level st (ws ++ 32 ∷ w) out is
-          (subst (λ l. Comes rules begin title frames level (Name st l) rest out) (sym (append_assoc ws (32 ∷ w) (32 ∷ more))) h)
+      (subst (λ l. Comes rules begin title frames level (Name st l) rest out) (sym (append_assoc ws (32 ∷ w) (32 ∷ more))) h)
 
   name_comes : {ts rest : List TokenV} {l : List ℕ} (frames : List Frame) (level : Level) (st : ℕ) (out : RulesV)
       → IsName ts l rest → Comes rules begin title frames level (Name st l) rest out
@@ -202,32 +201,32 @@ module _ (rules : RulesV) (begin : ℕ) (title : List ℕ) where
         less_comes frames level s n w _ out (name_comes frames level s out is (greater_comes frames level s s1 n1 l w1 _ out h))
     base_comes {d} frames level out deep (labelled_base {s = s} {n = n} {s1 = s1} {n1 = n1} {s2 = s2} {n2 = n2} {w = w} {w1 = w1} {w2 = w2} {l = l} {x = x} limit is inner) h =
         less_comes frames level s n w _ out (name_comes frames level s out is (label_comes frames level s s1 n1 l w1 _ out deep limit
-            (expr_comes (record { start = s; opening = Label l; level = level } ∷ frames) out (ap suc deep) inner
-                (close_label frames level s s2 n2 l x w2 _ out h))))
+        (expr_comes (record { start = s; opening = Label l; level = level } ∷ frames) out (ap suc deep) inner
+        (close_label frames level s s2 n2 l x w2 _ out h))))
     base_comes {d} frames level out deep (group_base {s = s} {n = n} {s1 = s1} {n1 = n1} {w = w} {w1 = w1} {x = x} limit inner free) h =
         brace_comes frames level s n w _ out deep limit
-            (expr_comes (record { start = s; opening = Brace; level = level } ∷ frames) out (ap suc deep) inner
-                (close_brace frames level s s1 n1 x w1 _ out h))
+        (expr_comes (record { start = s; opening = Brace; level = level } ∷ frames) out (ap suc deep) inner
+        (close_brace frames level s s1 n1 x w1 _ out h))
 
     side_comes : {d : ℕ} {x : ExprV} {ts rest : List TokenV} (frames : List Frame) (level : Level) (out : RulesV) → length frames ≡ d
         → IsSide d ts x rest → Leads rules begin title (after_side frames level x) rest out
         → Comes rules begin title frames level Side ts out
     side_comes frames level out deep (lits_side {s = s} {n = n} {w = w} {run = run} is r) h =
         word_comes frames level (lits run) s n w _ out (lits_is w run is)
-            (subst (λ ts. Comes rules begin title frames level (Done (expr s n (lits run))) ts out) r (leads_done frames level (expr s n (lits run)) _ out h))
+        (subst (λ ts. Comes rules begin title frames level (Done (expr s n (lits run))) ts out) r (leads_done frames level (expr s n (lits run)) _ out h))
     side_comes frames level out deep (null_side {s = s} {n = n} {w = w} e r) h =
         word_comes frames level null s n w _ out (ap word_form e)
-            (subst (λ ts. Comes rules begin title frames level (Done (expr s n null)) ts out) r (leads_done frames level (expr s n null) _ out h))
+        (subst (λ ts. Comes rules begin title frames level (Done (expr s n null)) ts out) r (leads_done frames level (expr s n null) _ out h))
     side_comes frames level out deep (base_side {x = x} {rest = rest} is) h =
         base_comes frames level out deep is (side_to_base frames level x rest out (base_follow is) h)
     side_comes frames level out deep (power_side {s = s} {n = n} {n1 = n1} {f = f} {e = e} is raised) h =
         base_comes frames level out deep is
-            (exponent_from rules begin title frames level (expr s n f) out raised (leads_done frames level (power_of (expr s n f) n1 e) _ out h))
+        (exponent_from rules begin title frames level (expr s n f) out raised (leads_done frames level (power_of (expr s n f) n1 e) _ out h))
     side_comes frames level out deep (cut_side {s = s} {n = n} {s1 = s1} {n1 = n1} {s2 = s2} {n2 = n2} {w = w} {w1 = w1} {w2 = w2} {x = x} {rest = rest} limit inner) h =
         brace_comes frames level s n w _ out deep limit
-            (expr_comes (record { start = s; opening = Brace; level = level } ∷ frames) out (ap suc deep) inner
-                (close_brace frames level s s1 n1 x w1 (token kind.SlashSlash s2 n2 w2 ∷ rest) out
-                    (cut_comes frames level s n1 s2 n2 x w2 _ out (leads_done frames level (expr s n2 (group (components_of x))) _ out h))))
+        (expr_comes (record { start = s; opening = Brace; level = level } ∷ frames) out (ap suc deep) inner
+        (close_brace frames level s s1 n1 x w1 (token kind.SlashSlash s2 n2 w2 ∷ rest) out
+        (cut_comes frames level s n1 s2 n2 x w2 _ out (leads_done frames level (expr s n2 (group (components_of x))) _ out h))))
 
     window_comes : {d : ℕ} {x : ExprV} {ts rest : List TokenV} (frames : List Frame) (bs : List BranchV) (e : Bool) (xs : List ExprV) (out : RulesV)
         → length frames ≡ d → IsWindow d ts x rest → Leads rules begin title (after_window frames (level_of bs e xs Alone) x) rest out
@@ -236,9 +235,9 @@ module _ (rules : RulesV) (begin : ℕ) (title : List ℕ) where
         side_comes frames (level_of bs e xs Alone) out deep is (window_to_side rules begin title frames bs e xs x rest out h)
     window_comes frames bs e xs out deep (both_window {s = s} {n = n} {s1 = s1} {n1 = n1} {s2 = s2} {n2 = n2} {w = w} {f = f} {g = g} left right) h =
         side_comes frames (level_of bs e xs Alone) out deep left
-            (and_leads frames bs e xs (expr s n f) s1 n1 w _ out
-                (side_comes frames (level_of bs e xs (Window (expr s n f))) out deep right
-                    (both_leads frames bs e xs (expr s n f) (expr s2 n2 g) _ out h)))
+        (and_leads frames bs e xs (expr s n f) s1 n1 w _ out
+        (side_comes frames (level_of bs e xs (Window (expr s n f))) out deep right
+        (both_leads frames bs e xs (expr s n f) (expr s2 n2 g) _ out h)))
 
     item_comes : {d : ℕ} {x : ExprV} {ts rest : List TokenV} (frames : List Frame) (bs : List BranchV) (e : Bool) (xs : List ExprV) (out : RulesV)
         → length frames ≡ d → IsItem d ts x rest → Leads rules begin title (after_item frames (level_of bs e xs Alone) x) rest out
@@ -247,21 +246,21 @@ module _ (rules : RulesV) (begin : ℕ) (title : List ℕ) where
         window_comes frames bs e xs out deep is (item_to_window rules begin title frames bs e xs x rest out h)
     item_comes frames bs e xs out deep (sends_item {s = s} {n = n} {s1 = s1} {n1 = n1} {s2 = s2} {n2 = n2} {w = w} {f = f} {g = g} left right) h =
         window_comes frames bs e xs out deep left
-            (equal_leads frames bs e xs (expr s n f) s1 n1 w _ out
-                (side_comes frames (level_of bs e xs (Sends (expr s n f))) out deep right
-                    (sends_leads frames bs e xs (expr s n f) (expr s2 n2 g) _ out h)))
+        (equal_leads frames bs e xs (expr s n f) s1 n1 w _ out
+        (side_comes frames (level_of bs e xs (Sends (expr s n f))) out deep right
+        (sends_leads frames bs e xs (expr s n f) (expr s2 n2 g) _ out h)))
 
     items_come : {d s n : ℕ} {ys : ExprsV} {ts rest : List TokenV} (frames : List Frame) (bs : List BranchV) (e : Bool) (xs : List ExprV) (out : RulesV)
         → length frames ≡ d → AreItems d ts ys s n rest
         → ((zs : List ExprV) (x : ExprV) → xs ++ item_list ys ≡ zs ++ x ∷ [] → end_of x ≡ n
-            → Leads rules begin title (after_item frames (level_of bs e zs Alone) x) rest out)
+        → Leads rules begin title (after_item frames (level_of bs e zs Alone) x) rest out)
         → Comes rules begin title frames (level_of bs e xs Alone) Side ts out
     items_come frames bs e xs out deep (last_item {s = s} {n = n} {f = f} is) h =
         item_comes frames bs e xs out deep is (h xs (expr s n f) refl refl)
     items_come frames bs e xs out deep (more_items {s = s} {n = n} {f = f} {xs = ys} {middle = middle} is more) h =
         item_comes frames bs e xs out deep is (side_to_item rules begin title frames bs e xs (expr s n f) middle out
-            (items_come frames bs e (xs ++ expr s n f ∷ []) out deep more
-                (λ zs x same end. h zs x (sym (append_assoc xs (expr s n f ∷ []) (item_list ys)) ∙ same) end)))
+        (items_come frames bs e (xs ++ expr s n f ∷ []) out deep more
+        (λ zs x same end. h zs x (sym (append_assoc xs (expr s n f ∷ []) (item_list ys)) ∙ same) end)))
 
     seq_comes : {d : ℕ} {q : ExprV} {ts rest : List TokenV} (frames : List Frame) (bs : List BranchV) (e : Bool) (out : RulesV)
         → length frames ≡ d → IsSeq d ts q rest
@@ -271,40 +270,40 @@ module _ (rules : RulesV) (begin : ℕ) (title : List ℕ) where
         item_comes frames bs e [] out deep is (seq_to_item rules begin title frames bs e [] x rest out h)
     seq_comes frames bs e out deep (items {s = s} {n = n} {x = a} {y = b} {xs = ys} {rest = rest} is) h =
         items_come frames bs e [] out deep is (λ zs x same end.
-            seq_to_item rules begin title frames bs e zs x rest out
-                (subst (λ q. Leads rules begin title (λ k s n w. after_seq frames (level_of bs e [] Alone) q k n) rest out)
-                    (sym (whole_seq zs x a b ys s n (sym same) (items_begin a (item b ys) is) end)) h))
+        seq_to_item rules begin title frames bs e zs x rest out
+        (subst (λ q. Leads rules begin title (λ k s n w. after_seq frames (level_of bs e [] Alone) q k n) rest out)
+        (sym (whole_seq zs x a b ys s n (sym same) (items_begin a (item b ys) is) end)) h))
     seq_comes frames bs e out deep (cut_items {xs = no_item} is) h = absurd (no_items is)
     seq_comes frames bs e out deep (cut_items {s = s} {n = n} {s1 = s1} {n1 = n1} {w = w} {xs = item a ys} {rest = rest} is) h =
         items_come frames bs e [] out deep is (λ zs x same end.
-            cut_leads frames bs e zs x s1 n1 w rest out (slashes_lead frames bs e (cut_with zs x n1) rest out
-                (subst (λ q. Leads rules begin title (λ k s n w. after_seq frames (level_of bs e [] Alone) q k n) rest out)
-                    (sym (whole_cut zs x a ys s n1 (sym same) (items_begin a ys is))) h)))
+        cut_leads frames bs e zs x s1 n1 w rest out (slashes_lead frames bs e (cut_with zs x n1) rest out
+        (subst (λ q. Leads rules begin title (λ k s n w. after_seq frames (level_of bs e [] Alone) q k n) rest out)
+        (sym (whole_cut zs x a ys s n1 (sym same) (items_begin a ys is))) h)))
 
     branches_come : {d n : ℕ} {brs : BranchesV} {ts rest : List TokenV} (frames : List Frame) (bs : List BranchV) (e : Bool) (q : ExprV) (out : RulesV)
         → length frames ≡ d → AreBranches d ts brs n rest
         → ((cs : List BranchV) (error : Bool) (x : ExprV)
-            → bs ++ record { error = e; body = q } ∷ branch_list brs ≡ cs ++ record { error = error; body = x } ∷ [] → end_of x ≡ n
-            → Leads rules begin title (λ k s n w. close frames (choice_with cs error x) k n) rest out)
+        → bs ++ record { error = e; body = q } ∷ branch_list brs ≡ cs ++ record { error = error; body = x } ∷ [] → end_of x ≡ n
+        → Leads rules begin title (λ k s n w. close frames (choice_with cs error x) k n) rest out)
         → Leads rules begin title (λ k s n w. after_seq frames (level_of bs e [] Alone) q k n) ts out
     branches_come frames bs e q out deep (last_branch {s = s} {n = n} {s1 = s1} {n1 = n1} {w = w} {f = f} {rest = rest} is) h =
         bar_leads frames bs e q s1 n1 w _ out (seq_comes frames (bs ++ record { error = e; body = q } ∷ []) false out deep is
-            (close_to_seq rules begin title frames (bs ++ record { error = e; body = q } ∷ []) false (expr s n f) rest out
-                (h (bs ++ record { error = e; body = q } ∷ []) false (expr s n f)
-                    (sym (append_assoc bs (record { error = e; body = q } ∷ []) (record { error = false; body = expr s n f } ∷ []))) refl)))
+        (close_to_seq rules begin title frames (bs ++ record { error = e; body = q } ∷ []) false (expr s n f) rest out
+        (h (bs ++ record { error = e; body = q } ∷ []) false (expr s n f)
+        (sym (append_assoc bs (record { error = e; body = q } ∷ []) (record { error = false; body = expr s n f } ∷ []))) refl)))
     branches_come frames bs e q out deep (last_error {s = s} {n = n} {s1 = s1} {n1 = n1} {w = w} {f = f} {rest = rest} is) h =
         bang_leads frames bs e q s1 n1 w _ out (seq_comes frames (bs ++ record { error = e; body = q } ∷ []) true out deep is
-            (close_to_seq rules begin title frames (bs ++ record { error = e; body = q } ∷ []) true (expr s n f) rest out
-                (h (bs ++ record { error = e; body = q } ∷ []) true (expr s n f)
-                    (sym (append_assoc bs (record { error = e; body = q } ∷ []) (record { error = true; body = expr s n f } ∷ []))) refl)))
+        (close_to_seq rules begin title frames (bs ++ record { error = e; body = q } ∷ []) true (expr s n f) rest out
+        (h (bs ++ record { error = e; body = q } ∷ []) true (expr s n f)
+        (sym (append_assoc bs (record { error = e; body = q } ∷ []) (record { error = true; body = expr s n f } ∷ []))) refl)))
     branches_come frames bs e q out deep (more_branches {s1 = s1} {n1 = n1} {w = w} {x = x} {bs = brs} is more) h =
         bar_leads frames bs e q s1 n1 w _ out (seq_comes frames (bs ++ record { error = e; body = q } ∷ []) false out deep is
-            (branches_come frames (bs ++ record { error = e; body = q } ∷ []) false x out deep more (λ cs error y same end.
-                h cs error y (sym (append_assoc bs (record { error = e; body = q } ∷ []) (record { error = false; body = x } ∷ branch_list brs)) ∙ same) end)))
+        (branches_come frames (bs ++ record { error = e; body = q } ∷ []) false x out deep more (λ cs error y same end.
+        h cs error y (sym (append_assoc bs (record { error = e; body = q } ∷ []) (record { error = false; body = x } ∷ branch_list brs)) ∙ same) end)))
     branches_come frames bs e q out deep (more_errors {s1 = s1} {n1 = n1} {w = w} {x = x} {bs = brs} is more) h =
         bang_leads frames bs e q s1 n1 w _ out (seq_comes frames (bs ++ record { error = e; body = q } ∷ []) true out deep is
-            (branches_come frames (bs ++ record { error = e; body = q } ∷ []) true x out deep more (λ cs error y same end.
-                h cs error y (sym (append_assoc bs (record { error = e; body = q } ∷ []) (record { error = true; body = x } ∷ branch_list brs)) ∙ same) end)))
+        (branches_come frames (bs ++ record { error = e; body = q } ∷ []) true x out deep more (λ cs error y same end.
+        h cs error y (sym (append_assoc bs (record { error = e; body = q } ∷ []) (record { error = true; body = x } ∷ branch_list brs)) ∙ same) end)))
 
     pub expr_comes : {d : ℕ} {x : ExprV} {ts rest : List TokenV} (frames : List Frame) (out : RulesV) → length frames ≡ d
         → IsExpr d ts x rest → Leads rules begin title (λ k s n w. close frames x k n) rest out
@@ -314,5 +313,5 @@ module _ (rules : RulesV) (begin : ℕ) (title : List ℕ) where
     expr_comes frames out deep (branches {s = s} {n = n} {n1 = n1} {f = f} {bs = no_branch} is more) h = absurd (no_branches more)
     expr_comes frames out deep (branches {s = s} {n = n} {n1 = n1} {f = f} {bs = branch e z brs} {rest = rest} is more) h =
         seq_comes frames [] false out deep is (branches_come frames [] false (expr s n f) out deep more (λ cs error x same end.
-            subst (λ y. Leads rules begin title (λ k s n w. close frames y k n) rest out)
-                (sym (whole_choice cs error false e x (expr s n f) z brs n1 (sym same) end)) h))
+        subst (λ y. Leads rules begin title (λ k s n w. close frames y k n) rest out)
+        (sym (whole_choice cs error false e x (expr s n f) z brs n1 (sym same) end)) h))

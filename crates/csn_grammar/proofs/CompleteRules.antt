@@ -1,9 +1,9 @@
 -- The reader takes all rules, so that no tokens are two lists of rules.
-use Rattle.std.proofs.Common.{◌≡◌, ℕ, List, [], ◌∷◌, ◌++◌, Option, Some, None, refl, sym, ap, ◌∙◌, subst, append_assoc}
+use Rattle.std.proofs.Common.{◌≡◌, ℕ, List, [], ◌∷◌, ◌++◌, Some, refl, sym, subst, append_assoc}
 use Rattle.csn_lexer.specs.declared.token.TokenKind.TheVariants as kind
 use Rattle.csn_grammar.specs.declared.rules.Rule.{Rule}
 use Rattle.csn_grammar.specs.declared.reader.state.State.{State}
-use Rattle.csn_grammar.specs.declared.reader.state.State.TheVariants.{Between, Less, Name, Named}
+use Rattle.csn_grammar.specs.declared.reader.state.State.TheVariants.{Between, Less, Name}
 use Rattle.csn_grammar.specs.ExprV.{ExprV}
 use Rattle.csn_grammar.specs.RulesV.{RulesV}
 use Rattle.csn_grammar.specs.TokenV.{TokenV, token}
@@ -23,7 +23,7 @@ words_from : {ts rest : List TokenV} {l : List ℕ} (rules : RulesV) (st : ℕ) 
 words_from rules st ws out (last_word {w = w} e) h = subst (λ r. From rules (Name st (ws ++ 32 ∷ w)) r out) e h
 words_from {rest = rest} rules st ws out (more_words {w = w} {name = more} is) h =
     words_from rules st (ws ++ 32 ∷ w) out is
-        (subst (λ l. From rules (Name st l) rest out) (sym (append_assoc ws (32 ∷ w) (32 ∷ more))) h)
+    (subst (λ l. From rules (Name st l) rest out) (sym (append_assoc ws (32 ∷ w) (32 ∷ more))) h)
 
 name_from : {ts rest : List TokenV} {l : List ℕ} (rules : RulesV) (st : ℕ) (out : RulesV)
     → IsName ts l rest → From rules (Name st l) rest out → From rules (Less st) ts out
@@ -41,7 +41,7 @@ rule_from : {ts rest : List TokenV} {r : Rule} (rules out : RulesV) → IsRule t
 rule_from rules out (rule {s = s} {s3 = s3} {n3 = n3} {w3 = w3} {l = l} {x = x} {rest = rest} is body) h =
     name_from rules s out is (expr_comes rules s l [] out refl body (semicolon_leads rules s l x s3 n3 w3 rest out h))
 
-some_rules : (rules : RulesV) (r : Rule) → finished (rules ++ r ∷ []) Between ≡ Some (rules ++ r ∷ [])
+pub some_rules : (rules : RulesV) (r : Rule) → finished (rules ++ r ∷ []) Between ≡ Some (rules ++ r ∷ [])
 some_rules [] r = refl
 some_rules (q ∷ rules) r = refl
 
@@ -49,7 +49,7 @@ pub rules_from : {ts : List TokenV} {more : RulesV} (rules : RulesV) → AreRule
 rules_from rules (last_rule {r = r} is) = rule_from rules (rules ++ r ∷ []) is (some_rules rules r)
 rules_from rules (more_rules {r = r} {rs = rs} {rest = rest} is more) =
     rule_from rules (rules ++ r ∷ rs) is
-        (subst (λ out. From (rules ++ r ∷ []) Between rest out) (append_assoc rules (r ∷ []) rs) (rules_from (rules ++ r ∷ []) more))
+    (subst (λ out. From (rules ++ r ∷ []) Between rest out) (append_assoc rules (r ∷ []) rs) (rules_from (rules ++ r ∷ []) more))
 
 -- tokens that are rules are read as those
 pub complete : {ts : List TokenV} {rules : RulesV} → AreRules ts rules → parse start ts ≡ Some rules

@@ -1,9 +1,6 @@
 -- The reader takes words, names and exponents.
-use Rattle.std.proofs.Common.{◌≡◌, ℕ, ◌+◌, ◌-◌, ◌*◌, ◌≤◌, Bool, true, false, ◌&&◌, List, [], ◌∷◌, ◌++◌, length, map, Option, Some, None, cond, refl, sym, ap, ◌∙◌, subst, arith, append_assoc}
-use Rattle.std.specs.Prelude.{nat_le, unwrap_or, codes}
-use Rattle.std.specs.Char.{is_ascii_digit}
-use Rattle.std.specs.List.{list_all}
-use Rattle.std.proofs.lemmas.Bool.{and_from}
+use Rattle.std.proofs.Common.{◌≡◌, ℕ, true, false, List, [], ◌∷◌, ◌++◌, length, map, Option, Some, None, refl, sym, ap, ◌∙◌, subst, append_assoc}
+use Rattle.std.specs.Prelude.{unwrap_or}
 use Rattle.std.proofs.Common.{le-leb}
 use Rattle.csn_lexer.specs.declared.token.TokenKind.TheVariants as kind
 use Rattle.csn_desc.specs.declared.symbol.Symbol.{Symbol}
@@ -12,19 +9,18 @@ use Rattle.csn_grammar.specs.declared.exponent.Exponent.{Exponent}
 use Rattle.csn_grammar.specs.declared.exponent.Exponent.TheVariants as exponent
 use Rattle.csn_grammar.specs.declared.reader.body.Frame.{Frame}
 use Rattle.csn_grammar.specs.declared.reader.body.Level.{Level}
-use Rattle.csn_grammar.specs.declared.reader.body.Mode.TheVariants.{Side, Less, Name, Base, Done, Slashes, Exponent as In}
+use Rattle.csn_grammar.specs.declared.reader.body.Mode.TheVariants.{Base, Done, Exponent as In}
 use Rattle.csn_grammar.specs.declared.reader.progress.Terms.{Terms}
 use Rattle.csn_grammar.specs.declared.reader.progress.Progress.{Progress}
-use Rattle.csn_grammar.specs.declared.reader.progress.Progress.TheVariants.{Bracket, Star, StarBracket, Number, Summand, Factor, Before, Val, ValBracket, ValWords, Product, FactorBehind, SummandBehind, Whole}
-use Rattle.csn_grammar.specs.ExprV.{ExprV, expr, FormV, lits}
+use Rattle.csn_grammar.specs.declared.reader.progress.Progress.TheVariants.{Bracket, StarBracket, Number, Summand, Before, ValBracket, ValWords, Product, SummandBehind}
+use Rattle.csn_grammar.specs.ExprV.{ExprV, lits}
 use Rattle.csn_grammar.specs.RulesV.{RulesV}
 use Rattle.csn_grammar.specs.TokenV.{TokenV, token}
-use Rattle.csn_grammar.specs.Writing.{letter_of, IsLits, decimal_after, IsNumber}
+use Rattle.csn_grammar.specs.Writing.{letter_of, IsLits, IsNumber}
 use Rattle.csn_grammar.specs.Counts.{IsName, last_word, more_words, IsVal, val, IsProduct, alone, factor_before, factor_behind, IsCount, number, product, summand_behind, summand_before, IsExponent, count, times_number, times_val, times_count, any, any_star, any_stars}
-use Rattle.csn_grammar.specs.Spellings.{is_text, number_of, symbol_of, with_symbol, run_of, word_form}
+use Rattle.csn_grammar.specs.Spellings.{number_of, symbol_of, run_of, word_form}
 use Rattle.csn_grammar.specs.Building.{power_of}
 use Rattle.csn_grammar.specs.BodySteps.{goes, after_base, after_exponent, body_step}
-use Rattle.csn_grammar.specs.ExponentSteps.{exponent_step, linear}
 use Rattle.csn_grammar.proofs.Run.{Step, Leads, Comes}
 
 pub number_is : (w : List ℕ) (n : ℕ) → IsNumber w n → number_of w ≡ Some n

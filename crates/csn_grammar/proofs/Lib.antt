@@ -18,3 +18,5 @@ pub mod SoundExponents
 pub mod SoundExpr
 pub mod SoundBody
 pub mod SoundRules
+pub mod Alive
+pub mod Reading

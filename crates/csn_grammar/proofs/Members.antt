@@ -1,9 +1,9 @@
 -- Items and alternatives, one by one and all together.
-use Rattle.std.proofs.Common.{◌≡◌, ℕ, Bool, List, [], ◌∷◌, ◌++◌, refl, sym, ap, ◌∙◌, subst}
-use Rattle.csn_grammar.specs.ExprV.{ExprV, expr, FormV, seq, choice, cut, ExprsV, no_item, item, BranchesV, no_branch, branch, BranchV, item_list, exprs_of, branch_list, branches_of}
+use Rattle.std.proofs.Common.{◌≡◌, ℕ, Bool, List, [], ◌∷◌, ◌++◌, refl, ap, ◌∙◌}
+use Rattle.csn_grammar.specs.ExprV.{ExprV, expr, seq, choice, cut, ExprsV, no_item, item, BranchesV, no_branch, branch, BranchV, item_list, exprs_of, branch_list, branches_of}
 use Rattle.csn_grammar.specs.TokenV.{TokenV}
 use Rattle.csn_grammar.specs.Building.{start_of, end_of, seq_with, cut_with, choice_with}
-use Rattle.csn_grammar.specs.Grammar.{AreItems, last_item, more_items, AreBranches, last_branch, last_error, more_branches, more_errors}
+use Rattle.csn_grammar.specs.Grammar.{AreItems, last_item, more_items, AreBranches}
 
 pub exprs_of-item_list : (ys : ExprsV) → exprs_of (item_list ys) ≡ ys
 exprs_of-item_list no_item = refl
@@ -49,9 +49,9 @@ choice_is [] error e f x y z bs h = absurd (cc)
 choice_is (c ∷ cs) error e f x y z bs h =
     let first : c ≡ record { error = e; body = y } = cc in
     let all : branches_of ((c ∷ cs) ++ record { error = error; body = x } ∷ []) ≡ branch e y (branch f z bs) =
-        ap branches_of h ∙ ap (branch e y) (branches_of-branch_list (branch f z bs)) in
+    ap branches_of h ∙ ap (branch e y) (branches_of-branch_list (branch f z bs)) in
     ap (λ i. expr (start_of c.body) (end_of x) (choice i)) all
-        ∙ ap (λ (b : BranchV). expr (start_of b.body) (end_of x) (choice (branch e y (branch f z bs)))) first
+    ∙ ap (λ (b : BranchV). expr (start_of b.body) (end_of x) (choice (branch e y (branch f z bs)))) first
 
 pub no_branches : {d n : ℕ} {ts rest : List TokenV} → AreBranches d ts no_branch n rest → ⊥
 no_branches h = elim h [ ]

@@ -1,5 +1,5 @@
 -- Running the reader over tokens.
-use Rattle.std.proofs.Common.{◌≡◌, ℕ, Bool, List, [], ◌∷◌, ◌++◌, Option, Some, None, refl, sym, ap, ◌∙◌}
+use Rattle.std.proofs.Common.{◌≡◌, ℕ, Bool, List, [], ◌∷◌, Option, Some}
 use Rattle.std.specs.Option.{option_and_then}
 use Rattle.csn_lexer.specs.declared.token.TokenKind.{TokenKind}
 use Rattle.csn_grammar.specs.declared.reader.body.Frame.{Frame}
@@ -7,7 +7,6 @@ use Rattle.csn_grammar.specs.declared.reader.body.Joint.{Joint}
 use Rattle.csn_grammar.specs.declared.reader.body.Level.{Level}
 use Rattle.csn_grammar.specs.declared.reader.body.Mode.{Mode}
 use Rattle.csn_grammar.specs.declared.reader.body.Next.{Next}
-use Rattle.csn_grammar.specs.declared.reader.state.State.{State}
 use Rattle.csn_grammar.specs.declared.reader.state.State.TheVariants.{Between, Body}
 use Rattle.csn_grammar.specs.declared.reader.state.Reader.{Reader}
 use Rattle.csn_grammar.specs.ExprV.{ExprV, BranchV}

@@ -1,5 +1,5 @@
 -- A step back through the body of a rule.
-use Rattle.std.proofs.Common.{◌≡◌, ℕ, suc, ◌+◌, ◌<◌, Bool, true, false, List, [], ◌∷◌, ◌++◌, length, Option, Some, None, nat_lt, refl, sym, ap, ◌∙◌, subst, arith, append_assoc}
+use Rattle.std.proofs.Common.{◌≡◌, ℕ, suc, ◌<◌, Bool, true, false, List, [], ◌∷◌, ◌++◌, length, Option, Some, None, nat_lt, refl, sym, subst, append_assoc}
 use Rattle.std.specs.Prelude.{if◌then◌else◌}
 use Rattle.std.specs.Option.{option_map}
 use Rattle.std.proofs.lemmas.Bool.{ltb-true}
@@ -28,13 +28,13 @@ use Rattle.csn_grammar.specs.Counts.{IsName, last_word, more_words, IsExponent, 
 use Rattle.csn_grammar.specs.Grammar.{NotSlashes, components_of, IsBase, bit_base, octet_base, name_base, labelled_base, group_base, IsSide, lits_side, null_side, base_side, power_side, cut_side, IsExpr}
 use Rattle.csn_grammar.specs.Spellings.{word_form}
 use Rattle.csn_grammar.specs.ExponentSteps.{exponent_step}
-use Rattle.csn_grammar.specs.Building.{seq_with, cut_with, choice_with, both_of, sends_of, power_of, cut_group}
+use Rattle.csn_grammar.specs.Building.{seq_with, choice_with, both_of, sends_of, power_of, cut_group}
 use Rattle.csn_grammar.specs.BodySteps.{goes, fresh, with_joint, word_mode, open_frame, begin_side, close, close_in, after_seq, after_item, after_window, after_joint, after_side, after_slashes, after_base, after_exponent, first_word, after_words, body_step}
 use Rattle.csn_grammar.specs.ReaderSteps.{rule_of}
 use Rattle.csn_grammar.proofs.CompleteExpr.{MayFollow}
 use Rattle.csn_grammar.proofs.SoundWords.{Said, said_null, said_bit, said_octet, said_lits, form_said}
 use Rattle.csn_grammar.proofs.SoundExponents.{Completes, at_bracket, at_star, Goes_on, exponent_back}
-use Rattle.csn_grammar.proofs.SoundExpr.{Rest, Closes, closes_rule, closes_brace, closes_label, AfterSeq, seq_closes, AfterItem, item_seq, item_cut, AfterWindow, window_whole, window_sends, AfterSide, side_alone, side_both, side_in_window, side_in_sends, AfterBase, base_whole, base_power, base_cut, Sides, Seqs, Exprs, side_gather, seq_gather, more_behind, bar_behind, bang_behind, expr_gather}
+use Rattle.csn_grammar.proofs.SoundExpr.{Rest, Closes, closes_rule, closes_brace, closes_label, AfterSeq, seq_closes, AfterItem, item_seq, item_cut, AfterWindow, window_whole, window_sends, AfterSide, side_alone, side_both, side_in_window, side_in_sends, AfterBase, base_whole, base_power, base_cut, Sides, Exprs, side_gather, seq_gather, more_behind, bar_behind, bang_behind, expr_gather}
 
 -- an exponent does not begin with `//`
 exponent_free : {ts rest : List TokenV} {e : Exponent} {n : ℕ} → IsExponent ts e n rest → NotSlashes ts
@@ -159,7 +159,7 @@ module _ (rules : RulesV) (begin : ℕ) (title : List ℕ) where
   label_back {frames} {level} {out = out} s n w s1 n1 w1 l x middle limit title' is (closes_label {n = n2} {l = m} {ts = rest} e b) =
       let same : m ≡ l = cc in
       base_back s n2 (labelled l x) (λ k y e. absurd (cc)) (labelled_base limit title' is)
-          (subst (λ k. AfterBase rules begin title frames level (expr s n2 (labelled k x)) rest out) same b)
+      (subst (λ k. AfterBase rules begin title frames level (expr s n2 (labelled k x)) rest out) same b)
 
   less_back : {frames : List Frame} {level : Level} {ts middle : List TokenV} {out : RulesV} (s n : ℕ) (w l : List ℕ) → IsName ts l middle
       → BehindName frames level s l middle out → Sides rules begin title frames level (token kind.Less s n w ∷ ts) out
@@ -258,19 +258,19 @@ module _ (rules : RulesV) (begin : ℕ) (title : List ℕ) where
       → Powers frames level x Bracket ts out → AfterBase rules begin title frames level x (token kind.ParenLeft s n w ∷ ts) out
   bracket_back {frames} {level} {x} s n w h = raised h.is h.behind
     where
-    raised : {ts rest : List TokenV} {out : RulesV} {e : Exponent} {n1 : ℕ} → Completes Bracket ts e n1 rest
-        → AfterSide rules begin title frames level.branches level.error level.items level.joint (power_of x n1 e) rest out
-        → AfterBase rules begin title frames level x (token kind.ParenLeft s n w ∷ ts) out
-    raised {rest = rest} {e = e} {n1 = n1} (at_bracket is) b = base_power e n1 rest (is s n w) b
+      raised : {ts rest : List TokenV} {out : RulesV} {e : Exponent} {n1 : ℕ} → Completes Bracket ts e n1 rest
+          → AfterSide rules begin title frames level.branches level.error level.items level.joint (power_of x n1 e) rest out
+          → AfterBase rules begin title frames level x (token kind.ParenLeft s n w ∷ ts) out
+      raised {rest = rest} {e = e} {n1 = n1} (at_bracket is) b = base_power e n1 rest (is s n w) b
 
   star_back : {frames : List Frame} {level : Level} {x : ExprV} {ts : List TokenV} {out : RulesV} (s n : ℕ) (w : List ℕ)
       → Powers frames level x Star ts out → AfterBase rules begin title frames level x (token kind.Star s n w ∷ ts) out
   star_back {frames} {level} {x} s n w h = raised h.is h.behind
     where
-    raised : {ts rest : List TokenV} {out : RulesV} {e : Exponent} {n1 : ℕ} → Completes Star ts e n1 rest
-        → AfterSide rules begin title frames level.branches level.error level.items level.joint (power_of x n1 e) rest out
-        → AfterBase rules begin title frames level x (token kind.Star s n w ∷ ts) out
-    raised {rest = rest} {e = e} {n1 = n1} (at_star is) b = base_power e n1 rest (is s n w) b
+      raised : {ts rest : List TokenV} {out : RulesV} {e : Exponent} {n1 : ℕ} → Completes Star ts e n1 rest
+          → AfterSide rules begin title frames level.branches level.error level.items level.joint (power_of x n1 e) rest out
+          → AfterBase rules begin title frames level x (token kind.Star s n w ∷ ts) out
+      raised {rest = rest} {e = e} {n1 = n1} (at_star is) b = base_power e n1 rest (is s n w) b
 
   slashes_back : {ts : List TokenV} {out : RulesV} (frames : List Frame) (level : Level) (x : ExprV) (o : Option ExprV) (s n : ℕ) (w : List ℕ) → cut_group x n ≡ o
       → Leaves n (after_slashes frames level o x s n w) ts out → AfterBase rules begin title frames level x (token kind.SlashSlash s n w ∷ ts) out

@@ -1,5 +1,5 @@
 -- Tokens that the reader takes in an exponent are one.
-use Rattle.std.proofs.Common.{◌≡◌, ℕ, Bool, true, false, List, [], ◌∷◌, ◌++◌, Option, Some, None, refl, sym, ap, ◌∙◌, subst, append_assoc}
+use Rattle.std.proofs.Common.{◌≡◌, ℕ, Bool, true, false, List, ◌∷◌, ◌++◌, Option, Some, None, refl, sym, subst, append_assoc}
 use Rattle.std.specs.Prelude.{unwrap_or, codes, if◌then◌else◌}
 use Rattle.std.specs.Option.{option_map}
 use Rattle.std.specs.Cmp.Lexicographic.{same_text}
@@ -14,7 +14,7 @@ use Rattle.csn_grammar.specs.declared.reader.progress.ExponentNext.{ExponentNext
 use Rattle.csn_grammar.specs.declared.reader.progress.ExponentNext.TheVariants.{Goes, Ends}
 use Rattle.csn_grammar.specs.TokenV.{TokenV, token}
 use Rattle.csn_grammar.specs.Writing.{IsNumber}
-use Rattle.csn_grammar.specs.Counts.{IsName, last_word, more_words, IsVal, val, IsProduct, alone, factor_before, factor_behind, IsCount, number, product, summand_behind, summand_before, IsExponent, count, times_number, times_val, times_count, any, any_star, any_stars}
+use Rattle.csn_grammar.specs.Counts.{IsName, last_word, more_words, IsVal, val, IsProduct, alone, factor_before, factor_behind, IsCount, number, product, summand_behind, summand_before, IsExponent, count, times_number, times_val, times_count, any_star, any_stars}
 use Rattle.csn_grammar.specs.Spellings.{is_text, number_of}
 use Rattle.csn_grammar.specs.ExponentSteps.{exponent_step, linear, first_some, val_step, count_step, star_step, summand_step}
 use Rattle.csn_grammar.specs.ExponentSteps as step
@@ -105,7 +105,7 @@ count_moved : {ts rest inner : List TokenV} {d e : Exponent} {s n : ℕ} {w : Li
     → IsCount ts d (token kind.ParenRight s n w ∷ inner) → IsCount ts e (token kind.ParenRight s n w ∷ rest)
 count_moved {ts} {rest} {inner} {d} {e} {s} {n} {w} p q h =
     subst (λ r. IsCount ts e (token kind.ParenRight s n w ∷ r)) (sym q)
-        (subst (λ x. IsCount ts x (token kind.ParenRight s n w ∷ inner)) (sym p) h)
+    (subst (λ x. IsCount ts x (token kind.ParenRight s n w ∷ inner)) (sym p) h)
 
 count_with : {m : ℕ} {l : List ℕ} {ts middle rest : List TokenV} {e : Exponent} {n : ℕ} → IsProduct ts m l middle
     → BehindProduct (Some m) None l middle e n rest
@@ -163,10 +163,10 @@ star_word : (s n1 : ℕ) (w : List ℕ) (ts : List TokenV) (e : Exponent) (n : �
     → NumberOrVal (λ k. Ends (exponent.Number k)) (terms None None false) n1 w ts e n rest → Completes Star (token kind.Word s n1 w ∷ ts) e n rest
 star_word s n1 w ts e n rest (is_number k is h) = at_star (λ s0 n0 w0.
     subst (λ m. IsExponent (token kind.Star s0 n0 w0 ∷ token kind.Word s n1 w ∷ ts) e m rest) (sym h.1)
-        (subst (λ d. IsExponent (token kind.Star s0 n0 w0 ∷ token kind.Word s n1 w ∷ ts) d n1 rest) (sym h.0) (times_number is h.2)))
+    (subst (λ d. IsExponent (token kind.Star s0 n0 w0 ∷ token kind.Word s n1 w ∷ ts) d n1 rest) (sym h.0) (times_number is h.2)))
 star_word s n1 w ts e n rest (is_val is (at_val {w = w2} {s = s2} {n1 = n2} (at_val_bracket {l = l} {ts = inner} name (words_end {w = w3} {s = s3} d r)))) =
     at_star (λ s0 n0 w0. subst (λ x. IsExponent (token kind.Star s0 n0 w0 ∷ token kind.Word s n1 w ∷ token kind.ParenLeft s2 n2 w2 ∷ inner) x n rest) (sym d)
-        (times_val is (subst (λ q. IsName inner l (token kind.ParenRight s3 n w3 ∷ q)) (sym r) name)))
+    (times_val is (subst (λ q. IsName inner l (token kind.ParenRight s3 n w3 ∷ q)) (sym r) name)))
 
 summand_word : (c s n1 : ℕ) (w : List ℕ) (ts : List TokenV) (e : Exponent) (n : ℕ) (rest : List TokenV)
     → NumberOrVal (λ k. Goes (Factor c k)) (terms None (Some c) true) n1 w ts e n rest → Completes (Summand c) (token kind.Word s n1 w ∷ ts) e n rest

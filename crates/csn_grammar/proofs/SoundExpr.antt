@@ -1,31 +1,22 @@
 -- Tokens that the reader takes in the body of a rule are an expression.
-use Rattle.std.proofs.Common.{◌≡◌, ℕ, suc, ◌+◌, ◌<◌, Bool, true, false, List, [], ◌∷◌, ◌++◌, length, Option, Some, None, nat_lt, ◌⊎◌, inl, inr, refl, sym, ap, ◌∙◌, subst, arith, append_assoc}
-use Rattle.std.proofs.lemmas.Bool.{cases_Bool, ltb-true}
-use Rattle.csn_lexer.specs.declared.token.TokenKind.{TokenKind}
+use Rattle.std.proofs.Common.{◌≡◌, ℕ, Bool, true, false, List, [], ◌∷◌, ◌++◌, length, Some, refl, ap, ◌∙◌, subst, append_assoc}
 use Rattle.csn_lexer.specs.declared.token.TokenKind.TheVariants as kind
 use Rattle.csn_grammar.specs.declared.exponent.Exponent.{Exponent}
-use Rattle.csn_grammar.specs.declared.exponent.Exponent.TheVariants as exponent
 use Rattle.csn_grammar.specs.declared.reader.body.Frame.{Frame}
 use Rattle.csn_grammar.specs.declared.reader.body.Joint.{Joint}
 use Rattle.csn_grammar.specs.declared.reader.body.Joint.TheVariants.{Alone, Window, Sends}
 use Rattle.csn_grammar.specs.declared.reader.body.Level.{Level}
-use Rattle.csn_grammar.specs.declared.reader.body.Opening.{Opening}
 use Rattle.csn_grammar.specs.declared.reader.body.Opening.TheVariants.{Brace, Label}
-use Rattle.csn_grammar.specs.declared.reader.body.Mode.{Mode}
-use Rattle.csn_grammar.specs.declared.reader.body.Mode.TheVariants.{Side, Less, Name, Base, Done, Slashes, Exponent as In}
-use Rattle.csn_grammar.specs.declared.reader.body.Next.{Next}
-use Rattle.csn_grammar.specs.declared.reader.body.Next.TheVariants.{Goes, Ends}
-use Rattle.csn_grammar.specs.ExprV.{ExprV, expr, FormV, lits, null, bit, octet, name, labelled, group, seq, choice, power, cut, both, sends, ExprsV, no_item, item, item_list, exprs_of, BranchesV, no_branch, branch, BranchV, branch_list, branches_of}
+use Rattle.csn_grammar.specs.ExprV.{ExprV, expr, labelled, group, seq, choice, cut, ExprsV, no_item, item, item_list, exprs_of, BranchesV, no_branch, branch, BranchV, branch_list, branches_of}
 use Rattle.csn_grammar.specs.RulesV.{RulesV}
 use Rattle.csn_grammar.specs.TokenV.{TokenV, token}
-use Rattle.csn_grammar.specs.Counts.{IsName, last_word, more_words, IsExponent, count, times_number, times_val, times_count, any, any_star, any_stars}
-use Rattle.csn_grammar.specs.Grammar.{NotSlashes, components_of, IsBase, bit_base, octet_base, name_base, labelled_base, group_base, IsSide, lits_side, null_side, base_side, power_side, cut_side, IsWindow, side_window, both_window, IsItem, window_item, sends_item, AreItems, last_item, more_items, IsSeq, one_item, items, cut_items, AreBranches, last_branch, last_error, more_branches, more_errors, IsExpr, one_seq, branches, AreRules}
+use Rattle.csn_grammar.specs.Counts.{IsExponent}
+use Rattle.csn_grammar.specs.Grammar.{IsSide, IsWindow, side_window, both_window, IsItem, window_item, sends_item, AreItems, last_item, more_items, IsSeq, one_item, items, cut_items, AreBranches, last_branch, last_error, more_branches, more_errors, IsExpr, one_seq, branches, AreRules}
 use Rattle.csn_grammar.specs.Building.{start_of, end_of, seq_with, cut_with, choice_with, both_of, sends_of, power_of, cut_group}
 use Rattle.csn_grammar.specs.BodySteps.{fresh}
 use Rattle.csn_grammar.specs.ReaderSteps.{rule_of}
-use Rattle.csn_grammar.proofs.Members.{exprs_of-item_list, branches_of-branch_list, no_items, no_branches}
+use Rattle.csn_grammar.proofs.Members.{exprs_of-item_list, branches_of-branch_list, no_items}
 use Rattle.csn_grammar.proofs.CompleteExpr.{MayFollow}
-use Rattle.csn_grammar.proofs.SoundExponents.{Completes}
 
 -- the tokens are the rest of the rules behind these
 pub data Rest (rules : RulesV) (ts : List TokenV) (out : RulesV) : Type 0 where
@@ -185,7 +176,7 @@ module _ (rules : RulesV) (begin : ℕ) (title : List ℕ) where
       → choice_all (bs ++ record { error = e; body = q } ∷ []) d i brs n ≡ choice_all bs e q (branch d i brs) n
   choice_next bs e q d i brs n =
       ap (λ b. expr b n (choice (branches_of ((bs ++ record { error = e; body = q } ∷ []) ++ record { error = d; body = i } ∷ branch_list brs)))) (begin_branch_next bs e q i)
-          ∙ ap (λ l. expr (begin_branch bs q) n (choice (branches_of l))) (append_assoc bs (record { error = e; body = q } ∷ []) (record { error = d; body = i } ∷ branch_list brs))
+      ∙ ap (λ l. expr (begin_branch bs q) n (choice (branches_of l))) (append_assoc bs (record { error = e; body = q } ∷ []) (record { error = d; body = i } ∷ branch_list brs))
 
   pub more_behind : {frames : List Frame} {bs : List BranchV} {e : Bool} {xs : List ExprV} {x : ExprV} {ts middle : List TokenV} {out : RulesV} (i : ExprV)
       → IsItem (length frames) ts i middle → AfterItem frames bs e (xs ++ x ∷ []) i middle out → AfterItem frames bs e xs x ts out

@@ -1,10 +1,10 @@
 -- What the reader makes of a word is what the word says.
-use Rattle.std.proofs.Common.{◌≡◌, ℕ, ◌≤◌, Bool, true, false, ◌&&◌, List, [], ◌∷◌, length, map, Option, Some, None, cond, eqb, leb, refl, sym, ap, ◌∙◌, subst, ◌⊎◌, inl, inr}
+use Rattle.std.proofs.Common.{◌≡◌, ℕ, Bool, true, false, ◌&&◌, List, [], ◌∷◌, length, map, Option, Some, None, refl, sym, ap, ◌∙◌, ◌⊎◌, inl, inr}
 use Rattle.std.specs.Prelude.{codes, ◌==◌, nat_le, if◌then◌else◌}
 use Rattle.std.specs.Char.{is_ascii_digit}
 use Rattle.std.specs.List.{list_all}
 use Rattle.std.specs.Option.{option_map}
-use Rattle.std.proofs.lemmas.Bool.{and_parts, cases_Bool, eqb-true, leb-true}
+use Rattle.std.proofs.lemmas.Bool.{and_parts, eqb-true, leb-true}
 use Rattle.std.specs.Cmp.Lexicographic.{same_text}
 use Rattle.csn_desc.specs.declared.symbol.Symbol.{Symbol}
 use Rattle.csn_desc.specs.declared.symbol.Symbol.TheVariants.{Zero, One, Low, High}
@@ -20,31 +20,31 @@ if_said false t x rest h = inr h
 
 pub number_said : (w : List ℕ) (n : ℕ) → number_of w ≡ Some n → IsNumber w n
 number_said w n h = elim (if_said ((nat_le 1 (length w) && nat_le (length w) 9) && list_all is_ascii_digit w) (decimal_after 0 w) n None h) [
-    inl said ↦
-        let whole = and_parts (nat_le 1 (length w) && nat_le (length w) 9) (list_all is_ascii_digit w) said.0 in
-        let sizes = and_parts (nat_le 1 (length w)) (nat_le (length w) 9) whole.0 in
-        record {
-          some = leb-true 1 (length w) sizes.0;
-          few = leb-true (length w) 9 sizes.1;
-          digits = whole.1;
-          value = said.1;
-        }
-    | inr unsaid ↦ absurd (cc)
+  | inl said ↦
+      let whole = and_parts (nat_le 1 (length w) && nat_le (length w) 9) (list_all is_ascii_digit w) said.0 in
+      let sizes = and_parts (nat_le 1 (length w)) (nat_le (length w) 9) whole.0 in
+      record {
+        some = leb-true 1 (length w) sizes.0;
+        few = leb-true (length w) 9 sizes.1;
+        digits = whole.1;
+        value = said.1;
+      }
+  | inr unsaid ↦ absurd (cc)
 ]
 
 symbol_said : (c : ℕ) (s : Symbol) → symbol_of c ≡ Some s → c ≡ letter_of s
 symbol_said c s h = elim (if_said (c == 48) Zero s _ h) [
-    inl said ↦ eqb-true c 48 said.0 ∙ ap letter_of (sym said.1)
-    | inr h ↦ elim (if_said (c == 49) One s _ h) [
-        inl said ↦ eqb-true c 49 said.0 ∙ ap letter_of (sym said.1)
-        | inr h ↦ elim (if_said (c == 76) Low s _ h) [
-            inl said ↦ eqb-true c 76 said.0 ∙ ap letter_of (sym said.1)
-            | inr h ↦ elim (if_said (c == 72) High s None h) [
-                inl said ↦ eqb-true c 72 said.0 ∙ ap letter_of (sym said.1)
-                | inr h ↦ absurd (cc)
-            ]
-        ]
+  | inl said ↦ eqb-true c 48 said.0 ∙ ap letter_of (sym said.1)
+  | inr h ↦ elim (if_said (c == 49) One s _ h) [
+    | inl said ↦ eqb-true c 49 said.0 ∙ ap letter_of (sym said.1)
+    | inr h ↦ elim (if_said (c == 76) Low s _ h) [
+      | inl said ↦ eqb-true c 76 said.0 ∙ ap letter_of (sym said.1)
+      | inr h ↦ elim (if_said (c == 72) High s None h) [
+        | inl said ↦ eqb-true c 72 said.0 ∙ ap letter_of (sym said.1)
+        | inr h ↦ absurd (cc)
+      ]
     ]
+  ]
 ]
 
 with_said : (o : Option Symbol) (r : Option (List Symbol)) (run : List Symbol) → with_symbol o r ≡ Some run
@@ -74,12 +74,12 @@ lits_said w (Some run) f e h = said_lits run (run_said w run e) (cc)
 
 pub form_said : (w : List ℕ) (f : FormV) → word_form w ≡ Some f → Said w f
 form_said w f h = elim (if_said (is_text w (codes "null")) null f _ h) [
-    inl said ↦ said_null (same_text w (codes "null") (sym said.0)) said.1
-    | inr h ↦ elim (if_said (is_text w (codes "bit")) bit f _ h) [
-        inl said ↦ said_bit (same_text w (codes "bit") (sym said.0)) said.1
-        | inr h ↦ elim (if_said (is_text w (codes "octet")) octet f _ h) [
-            inl said ↦ said_octet (same_text w (codes "octet") (sym said.0)) said.1
-            | inr h ↦ lits_said w (run_of w) f refl h
-        ]
+  | inl said ↦ said_null (same_text w (codes "null") (sym said.0)) said.1
+  | inr h ↦ elim (if_said (is_text w (codes "bit")) bit f _ h) [
+    | inl said ↦ said_bit (same_text w (codes "bit") (sym said.0)) said.1
+    | inr h ↦ elim (if_said (is_text w (codes "octet")) octet f _ h) [
+      | inl said ↦ said_octet (same_text w (codes "octet") (sym said.0)) said.1
+      | inr h ↦ lits_said w (run_of w) f refl h
     ]
+  ]
 ]

@@ -2,7 +2,7 @@
 -- there are; this is read only with the reader's proofs.
 use Rattle.std.specs.Prelude.{ℕ, Bool, List, [], ◌∷◌, ◌++◌, Option, Some, None}
 use Rattle.csn_grammar.specs.declared.exponent.Exponent.{Exponent}
-use Rattle.csn_grammar.specs.ExprV.{ExprV, expr, FormV, group, seq, choice, power, cut, both, sends, exprs_of, BranchV, branches_of}
+use Rattle.csn_grammar.specs.ExprV.{ExprV, expr, group, seq, choice, power, cut, both, sends, exprs_of, BranchV, branches_of}
 use Rattle.csn_grammar.specs.Grammar.{components_of}
 
 abbrev pub start_of : ExprV → ℕ

@@ -1,6 +1,6 @@
 -- What the reader makes of the tokens of an exponent, one after another. `Counts` says what exponents
 -- are; this says what the parts of the reader compute, and is read only with their proofs.
-use Rattle.std.specs.Prelude.{ℕ, Bool, true, false, List, [], ◌∷◌, ◌++◌, Option, Some, None, unwrap_or, if◌then◌else◌, codes}
+use Rattle.std.specs.Prelude.{ℕ, true, false, List, ◌∷◌, ◌++◌, Option, Some, None, unwrap_or, if◌then◌else◌, codes}
 use Rattle.std.specs.Option.{option_map}
 use Rattle.csn_lexer.specs.declared.token.TokenKind.{TokenKind}
 use Rattle.csn_lexer.specs.declared.token.TokenKind.TheVariants as kind
@@ -27,7 +27,7 @@ val_step t w = if is_text w (codes "val") then Some (Goes (Val t)) else None
 abbrev pub count_step : TokenKind → List ℕ → Option ExponentNext
 count_step kind.Word w =
     first_some (option_map (λ n. Goes (Number n)) (number_of w))
-        (val_step (record { factor = None; summand = None; bracket = true }) w)
+    (val_step (record { factor = None; summand = None; bracket = true }) w)
 count_step _ w = None
 
 abbrev pub bracket_step : TokenKind → List ℕ → Option ExponentNext
@@ -39,7 +39,7 @@ abbrev pub star_step : TokenKind → List ℕ → Option ExponentNext
 star_step kind.ParenLeft w = Some (Goes StarBracket)
 star_step kind.Word w =
     first_some (option_map (λ n. Ends (exponent.Number n)) (number_of w))
-        (val_step (record { factor = None; summand = None; bracket = false }) w)
+    (val_step (record { factor = None; summand = None; bracket = false }) w)
 star_step _ w = None
 
 abbrev pub number_step : ℕ → TokenKind → Option ExponentNext
@@ -51,7 +51,7 @@ number_step n _ = None
 abbrev pub summand_step : ℕ → TokenKind → List ℕ → Option ExponentNext
 summand_step c kind.Word w =
     first_some (option_map (λ m. Goes (Factor c m)) (number_of w))
-        (val_step (record { factor = None; summand = Some c; bracket = true }) w)
+    (val_step (record { factor = None; summand = Some c; bracket = true }) w)
 summand_step c _ w = None
 
 abbrev pub factor_step : ℕ → ℕ → TokenKind → Option ExponentNext

@@ -25,3 +25,4 @@ pub mod GivesForm
 pub mod Building
 pub mod BodySteps
 pub mod ReaderSteps
+pub mod Answers

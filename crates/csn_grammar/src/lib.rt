@@ -6,10 +6,12 @@ mod exponent;
 mod expr;
 mod fault;
 pub mod laws;
+mod read;
 mod reader;
 mod rules;
 
 pub use exponent::Exponent;
 pub use expr::{Branch, Branches, Expr, Exprs, Form, Span};
 pub use fault::GrammarFault;
+pub use read::read_rules;
 pub use rules::{Rule, Rules};

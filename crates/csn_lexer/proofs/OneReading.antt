@@ -114,7 +114,7 @@ token_or_nothing text t f l b same =
     b.no_token t.end (omega (arith, l.begins)) l.within t.kind
     (subst (λ n. IsSpelled t.kind (slice_range text n t.end)) same l.spelled)
 
-one_next : (text : List ℕ) (at : ℕ) (r s : Result (Option Token) LexFault) → IsNext text at r → IsNext text at s → r ≡ s
+pub one_next : (text : List ℕ) (at : ℕ) (r s : Result (Option Token) LexFault) → IsNext text at r → IsNext text at s → r ≡ s
 one_next text at (Ok None) (Ok None) g h = refl
 one_next text at (Ok None) (Ok (Some u)) g h =
     let e = one_gap g h.0 (still_at_end text) (still_at_token text u h.1) in absurd (omega (arith, h.1.begins, h.1.within, e))

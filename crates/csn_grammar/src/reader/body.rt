@@ -89,7 +89,6 @@ pub enum Next {
 impl Model for Frames {
     ghost use Rattle.std.specs.Prelude.{List, reverse};
     ghost use Rattle.csn_grammar.specs.declared.reader.body.Frame.{Frame};
-
     ghost use Rattle.std.specs.Coded.{codes};
     ghost use Rattle.csn_grammar.specs.ExprCode.{expr_code, branch_code};
 

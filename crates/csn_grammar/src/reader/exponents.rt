@@ -52,7 +52,9 @@ fn bracket_step(kind: TokenKind, word: &[u8]) -> Result<ExponentNext, Stop>
     ensures { Gives result (bracket_step kind word.now) }
 {
     match kind {
-        TokenKind::Star | TokenKind::StarStar => Ok(ExponentNext::Goes(Progress::Whole(Exponent::Any))),
+        TokenKind::Star | TokenKind::StarStar => Ok(ExponentNext::Goes(Progress::Whole(
+            Exponent::Any,
+        ))),
         _ => count_step(kind, word),
     }
 }

@@ -27,11 +27,7 @@ pub enum State {
     /// Behind its `< name >`.
     Named { start: u32, name: Label },
     /// In its body.
-    Body {
-        start: u32,
-        name: Label,
-        body: Body,
-    },
+    Body { start: u32, name: Label, body: Body },
 }
 
 /// The rules that are whole, and where the reader stands.
@@ -89,11 +85,9 @@ fn in_body(
 ) -> Result<Reader, Stop>
     requires word { IsWordToken token.kind text.now }
     requires short { length text.now ≤ 262144 }
-    ensures {
-        Gives result
-            (after_body rules start name token.end
-                (body_step body.frames body.level body.mode token.kind token.start token.end text.now))
-    }
+    ensures { Gives result
+        (after_body rules start name token.end
+        (body_step body.frames body.level body.mode token.kind token.start token.end text.now)) }
 {
     match body_step(alloc, body, token, text)? {
         Next::Goes(body) => Ok(Reader {
@@ -118,10 +112,8 @@ fn in_body(
 pub fn reader_step(alloc: Global, reader: Reader, token: Token, text: &[u8]) -> Result<Reader, Stop>
     requires word { IsWordToken token.kind text.now }
     requires short { length text.now ≤ 262144 }
-    ensures {
-        Gives result
-            (reader_step reader.rules reader.state token.kind token.start token.end text.now)
-    }
+    ensures { Gives result
+        (reader_step reader.rules reader.state token.kind token.start token.end text.now) }
 {
     let rules = reader.rules;
     let state = match (reader.state, token.kind) {

@@ -11,7 +11,9 @@ ghost use Rattle.csn_grammar.specs.BodySteps.{fresh, goes, with_item, with_branc
 use crate::exponent::Exponent;
 use crate::expr::{Branch, Branches, Expr, Exprs, Form, Span};
 use crate::reader::body::{Body, Frame, Frames, Joint, Level, Mode, Next, Opening};
-use crate::reader::build::{both_of, choice_with, components_of, cut_with, power_of, sends_of, seq_with};
+use crate::reader::build::{
+    both_of, choice_with, components_of, cut_with, power_of, sends_of, seq_with,
+};
 use crate::reader::exponents::exponent_step;
 use crate::reader::progress::{ExponentNext, Progress};
 use crate::reader::spellings::word_form;
@@ -311,10 +313,8 @@ fn after_slashes(
 ) -> Result<Next, Stop>
     requires text { length text.now ≤ 262144 }
     requires slashes { token.kind ≡ TokenKind.SlashSlash }
-    ensures {
-        Gives result
-            (after_slashes frames level (cut_group base token.end) base token.start token.end text.now)
-    }
+    ensures { Gives result
+        (after_slashes frames level (cut_group base token.end) base token.start token.end text.now) }
 {
     let span = base.span;
     match base.form {
@@ -453,10 +453,8 @@ pub fn body_of(alloc: Global) -> Body
 pub fn body_step(alloc: Global, body: Body, token: Token, text: &[u8]) -> Result<Next, Stop>
     requires word { IsWordToken token.kind text.now }
     requires short { length text.now ≤ 262144 }
-    ensures {
-        Gives result
-            (body_step body.frames body.level body.mode token.kind token.start token.end text.now)
-    }
+    ensures { Gives result
+        (body_step body.frames body.level body.mode token.kind token.start token.end text.now) }
 {
     let Body {
         frames,

@@ -1,4 +1,4 @@
-use Rattle.std.proofs.Common.{◌≡◌, List, subst, None}
+use Rattle.std.proofs.Common.{List, subst, None}
 use Rattle.csn_lexer.specs.declared.token.Token.{Token}
 use Rattle.csn_grammar.specs.TokenV.{tokens_in}
 use Rattle.csn_grammar.specs.Grammar.{AreRules}

@@ -1,4 +1,4 @@
-use Rattle.std.proofs.Common.{◌≡◌, ℕ, ◌+◌, ◌*◌, ◌<◌, ◌≤◌, ◌^◌, Fits, w32, arith}
+use Rattle.std.proofs.Common.{arith}
 use Rattle.csn_grammar.proofs.Spelled.{few_digits}
 use Rattle.csn_grammar.proofs.reader.spellings.decimal.Goals as goal
 
