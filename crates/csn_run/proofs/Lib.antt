@@ -1,6 +1,16 @@
+pub mod JobLemmas
 pub mod LinesLemmas
 pub mod OutsideLemmas
 pub mod ProgressLemmas
+pub mod ResultLemmas
+pub mod ShowLemmas
 pub mod StandingLemmas
 pub mod TreeLemmas
 pub mod Words
+pub mod SimpleSlotFacts
+pub mod SimpleLists
+pub mod SimpleSteps
+pub mod SimpleRows
+pub mod SimpleMeaning
+pub mod SimpleAnswers
+pub mod SimpleTexts

@@ -1,28 +1,28 @@
 -- The command table. It is this project's own choice.
-use Rattle.std.specs.Prelude.{◌≡◌, ◌≢◌, ◌⊎◌, ℕ, List, [], ◌∷◌, codes}
-use Rattle.csn_run.specs.declared.command.Command.{Command}
-use Rattle.csn_run.specs.declared.command.Command.TheVariants.{Show}
+use Rattle.std.specs.Prelude.{◌≡◌, ◌≢◌, ℕ, List, [], ◌∷◌, codes}
+use Rattle.csn_desc.specs.declared.reading.Reading.{Reading}
+use Rattle.csn_desc.specs.declared.reading.Reading.TheVariants.{Received, Sent}
 
 -- a word that can be an argument: it is not empty, and does not begin with `-`
 abbrev pub IsArgument : List ℕ → Type 0
 IsArgument [] = ⊥
 IsArgument (c ∷ _) = c ≢ 45
 
--- a word that names a reading
-abbrev pub IsReading : List ℕ → Type 0
-IsReading word = (word ≡ codes "received") ⊎ (word ≡ codes "sent")
+-- the word that names a reading
+abbrev pub word_of : Reading → List ℕ
+word_of Received = codes "received"
+word_of Sent = codes "sent"
 
--- the words are a row of the command table: `show FILE NAME READING`
+-- the words are `show FILE NAME READING`
+pub record IsShow (words : List (List ℕ)) (file name : List ℕ) (reading : Reading) : Type 0 where
+  pub words_are : words ≡ codes "show" ∷ file ∷ name ∷ word_of reading ∷ []
+  pub file_fits : IsArgument file
+  pub name_fits : IsArgument name
+
+-- the words are a row of the command table
 abbrev pub IsCommand : List (List ℕ) → Type 0
-IsCommand (command ∷ file ∷ name ∷ reading ∷ []) =
-    (command ≡ codes "show") × IsArgument file × IsArgument name × IsReading reading
-IsCommand _ = ⊥
+IsCommand words = (file name : List ℕ) × (reading : Reading) × IsShow words file name reading
 
--- the words name a file: for each command, the word in the place of FILE
+-- the words name a file
 abbrev pub NamesFile : List (List ℕ) → List ℕ → Type 0
-NamesFile (command ∷ file ∷ rest) name = name ≡ file
-NamesFile _ name = ⊥
-
--- what the words of a row are read as
-abbrev pub IsReadAs : List (List ℕ) → Command → Type 0
-IsReadAs words (Show file name reading) = NamesFile words file.now
+NamesFile words file = (name : List ℕ) × (reading : Reading) × IsShow words file name reading

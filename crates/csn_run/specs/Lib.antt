@@ -1,5 +1,10 @@
 pub mod Command
 pub mod Ended
 pub mod Lines
+pub mod OutLine
 pub mod Outside
 pub mod Progress
+pub mod Simple
+pub mod SimpleSlots
+pub mod Result
+pub mod Job

@@ -1,23 +1,18 @@
 ghost use Rattle.std.specs.Prelude.{◌≡◌, ◌↔◌, IsTrue, IsSome, IfSome, map};
 ghost use Rattle.std.specs.String.{string_bytes};
-ghost use Rattle.csn_run.specs.Command.{IsArgument, IsCommand, IsReadAs, IsReading};
+ghost use Rattle.csn_desc.specs.declared.reading.Reading.{Reading};
+ghost use Rattle.csn_run.specs.Command.{IsArgument, IsCommand, IsShow, word_of};
 
-/// Which side speaks: the receiver of a block takes spare bits of any value, and its sender
-/// gives them the one value that is sent.
-#[derive(Clone, Copy)]
-pub enum Reading {
-    Received,
-    Sent,
-}
+use csn_desc::Reading;
 
-/// A row of the command table, with what the words name.
+/// The words `show FILE NAME READING`, with what they name.
 #[derive(Clone, Copy)]
-pub enum Command<'a> {
-    Show {
-        file: &'a str,
-        name: &'a str,
-        reading: Reading,
-    },
+pub struct ShowWords<'a> {
+    /// The file of the description.
+    pub file: &'a str,
+    /// The name of the rule.
+    pub name: &'a str,
+    pub reading: Reading,
 }
 
 fn is_argument(word: &str) -> bool
@@ -29,8 +24,10 @@ fn is_argument(word: &str) -> bool
     }
 }
 
+/// The reading that a word names.
 fn reading_of(word: &str) -> Option<Reading>
-    ensures { IsSome result ↔ IsReading word.now }
+    ensures named { IfSome result (λ reading. word.now ≡ word_of reading) }
+    ensures none { (reading : Reading) → word.now ≡ word_of reading → IsSome result }
 {
     match word.as_bytes() {
         b"received" => Some(Reading::Received),
@@ -39,17 +36,17 @@ fn reading_of(word: &str) -> Option<Reading>
     }
 }
 
-/// The row of the command table that the words are.
-pub fn command_of(words: &[String]) -> Option<Command<'_>>
+/// What the words of the command table name, where these are a row of it.
+pub fn command_of(words: &[String]) -> Option<ShowWords<'_>>
     ensures row { IsSome result ↔ IsCommand (map string_bytes words.now) }
-    ensures names { IfSome result (IsReadAs (map string_bytes words.now)) }
+    ensures names { IfSome result (λ show. IsShow (map string_bytes words.now) show.file.now show.name.now show.reading) }
 {
     let [command, file, name, reading] = words else {
         return None;
     };
     let reading = reading_of(reading.as_str())?;
     if command.as_str() == "show" && is_argument(file.as_str()) && is_argument(name.as_str()) {
-        Some(Command::Show {
+        Some(ShowWords {
             file: file.as_str(),
             name: name.as_str(),
             reading,

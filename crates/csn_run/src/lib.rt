@@ -7,8 +7,7 @@ mod fault;
 mod lines;
 mod output;
 mod show;
-mod small;
-mod text;
+mod simple;
 mod top;
 
 pub use ended::Ended;

@@ -1,0 +1,81 @@
+-- How jobs are over.
+use Rattle.std.proofs.Common.{◌≡◌, ℕ, ◌+◌, ◌<◌, Bool, inl, inr, List, [], ◌∷◌, ◌++◌, length, Option, Some, None, IsSome, Result, Ok, Err, IfOk, IfErr, codes, refl, sym, ap, subst}
+use Rattle.std.specs.List.{AllZip}
+use Rattle.csn_desc.specs.declared.reading.Reading.{Reading}
+use Rattle.csn_grammar.specs.RulesV.{RulesV}
+use Rattle.csn_grammar.specs.Place.{HasRules, IsSyntaxPlace}
+use Rattle.csn_grammar.specs.Answers.{OnSyntax}
+use Rattle.csn_io.specs.ShelfFault.{BeginsFile}
+use Rattle.csn_run.specs.declared.fault.Fault.{Fault}
+use Rattle.csn_run.specs.declared.fault.Fault.TheVariants.{Read, Write, Memory, TooLong}
+use Rattle.csn_run.specs.declared.top.Outcome.{Outcome}
+use Rattle.csn_run.specs.declared.top.Outcome.TheVariants.{BadDescription}
+use Rattle.csn_run.specs.declared.top.TheConstants.{MOST_DESCRIPTION}
+use Rattle.csn_run.specs.Lines.{answered}
+use Rattle.csn_run.specs.OutLine.{ShowsLine, ShowsThings}
+use Rattle.csn_run.specs.declared.simple.things.Thing.{Thing}
+use Rattle.csn_run.specs.Progress.{Answers, AnswersAll, StopsAfter, StopsWithin, StopsBy, Stops}
+use Rattle.csn_run.specs.Simple.{IsSimple, things_of}
+use Rattle.csn_run.specs.Job.{IsDescription, ShowEnds, unread, too_long, bad_description, all_lines, some_lines, outcome_of}
+use Rattle.csn_run.specs.Result.{no_rules}
+use Rattle.csn_grammar.specs.declared.fault.GrammarFault.{GrammarFault}
+use Rattle.csn_grammar.specs.declared.fault.GrammarFault.TheVariants.{Syntax}
+use Rattle.std.specs.Fmt.{decimal}
+
+-- ---- answers that hold of more
+
+AllZip-weaker : {X Y : Type 0} (A B : X → Y → Type 0) → ((x : X) (y : Y) → A x y → B x y) → (xs : List X) (ys : List Y) → AllZip A xs ys → AllZip B xs ys
+AllZip-weaker A B w [] [] h = tt
+AllZip-weaker A B w [] (y ∷ ys) h = absurd h
+AllZip-weaker A B w (x ∷ xs) [] h = absurd h
+AllZip-weaker A B w (x ∷ xs) (y ∷ ys) h = (w x y h.0, AllZip-weaker A B w xs ys h.1)
+
+module _ (A B : List ℕ → List ℕ → Type 0) (w : (line answer : List ℕ) → A line answer → B line answer) where
+  answers_weaker : {pieces : List (List ℕ)} {text : List ℕ} {refused : Bool} → Answers A pieces text refused → Answers B pieces text refused
+  answers_weaker {pieces} a = record { answers = a.answers; each = AllZip-weaker A B w (answered pieces) a.answers a.each; text_is = a.text_is; refused_is = a.refused_is }
+
+  pub all_weaker : {left left' taken taken' : Option (List ℕ)} {waits : List ℕ} {refused : Bool} → AnswersAll A left left' taken taken' waits refused → AnswersAll B left left' taken taken' waits refused
+  all_weaker a = record { given = a.given; took = a.took; source = a.source; nothing_left = a.nothing_left; fits = a.fits; sink = a.sink; answers = answers_weaker a.answers }
+
+  after_weaker : {input text : List ℕ} → StopsAfter A input text → StopsAfter B input text
+  after_weaker a = record { ended = a.ended; line = a.line; refused = a.refused; ends = a.ends; answers = answers_weaker a.answers }
+
+  within_weaker : {input text : List ℕ} → StopsWithin A input text → StopsWithin B input text
+  within_weaker a = record { ended = a.ended; whole_text = a.whole_text; rest = a.rest; refused = a.refused; begins = a.begins; answers = answers_weaker a.answers; text_begins = a.text_begins }
+
+  by_weaker : (fault : Fault) (given text : List ℕ) → StopsBy A fault given text → StopsBy B fault given text
+  by_weaker Read given text h = after_weaker h
+  by_weaker Write given text h = within_weaker h
+  by_weaker Memory given text h = within_weaker h
+  by_weaker TooLong given text h = (h.0, after_weaker h.1)
+
+  pub stops_weaker : {left left' taken taken' : Option (List ℕ)} {waits : List ℕ} (fault : Fault) → Stops A fault left left' taken taken' waits → Stops B fault left left' taken taken' waits
+  stops_weaker fault s = record { given = s.given; took = s.took; source = s.source; sink = s.sink; by = by_weaker fault s.given _ s.by }
+
+-- ---- ends of `show`
+
+is_simple : (rules : RulesV) (name : List ℕ) (things : List Thing) → things_of rules name ≡ Some things → IsSimple rules name
+is_simple rules name things e = subst IsSome (sym e) refl
+
+pub not_simple : (rules : RulesV) (name : List ℕ) → None ≡ things_of rules name → IsSimple rules name → ⊥
+not_simple rules name e simple = let some : IsSome {T = List Thing} None = subst IsSome (sym e) simple in absurd (cc)
+
+-- the job is over with its lines
+pub lines_end : (files : Option (List ℕ → Option (List ℕ))) (file name : List ℕ) (reading : Reading) (left left' taken taken' : Option (List ℕ)) (waits text : List ℕ) (things : List Thing) (rules : RulesV) (refused : Bool) (end : Result Outcome Fault) → IsDescription files file text → HasRules text rules → things_of rules name ≡ Some things → IfOk end (λ outcome. AnswersAll (ShowsThings things) left left' taken taken' waits refused × (outcome ≡ outcome_of refused)) → IfErr end (λ fault. Stops (ShowsThings things) fault left left' taken taken' waits) → ShowEnds files file name reading left left' taken taken' waits end
+lines_end files file name reading left left' taken taken' waits text things rules refused (Ok outcome) is has are ok err =
+    all_lines text rules refused is has (is_simple rules name things are) (all_weaker (ShowsThings things) (ShowsLine rules name reading) (λ line answer h. h rules name reading are) ok.0) (ap Ok ok.1)
+lines_end files file name reading left left' taken taken' waits text things rules refused (Err fault) is has are ok err =
+    some_lines text rules fault is has (is_simple rules name things are) (stops_weaker (ShowsThings things) (ShowsLine rules name reading) (λ line answer h. h rules name reading are) fault err) refl
+
+-- the job is over before its description was there
+pub fetch_ends : (files : Option (List ℕ → Option (List ℕ))) (file name : List ℕ) (reading : Reading) (left taken : Option (List ℕ)) (waits : List ℕ) (fault : Fault) → waits ≡ [] → (fault ≡ Write → ⊥) → (fault ≡ TooLong → (front : List ℕ) × BeginsFile files file (MOST_DESCRIPTION + 1) front × (MOST_DESCRIPTION < length front)) → ShowEnds files file name reading left left taken taken waits (Err fault)
+fetch_ends files file name reading left taken waits Read none not_write long = unread refl refl none (inl refl)
+fetch_ends files file name reading left taken waits Write none not_write long = absurd (not_write refl)
+fetch_ends files file name reading left taken waits Memory none not_write long = unread refl refl none (inr refl)
+fetch_ends files file name reading left taken waits TooLong none not_write long = let l = long refl in too_long l.0 l.1 l.2 refl refl none refl
+
+-- the job is over with a text that has no rules
+pub text_refused : (files : Option (List ℕ → Option (List ℕ))) (file name : List ℕ) (reading : Reading) (left taken : Option (List ℕ)) (waits text : List ℕ) (fault : GrammarFault) (end : Result Outcome Fault) → IsDescription files file text → OnSyntax fault (IsSyntaxPlace text) → IfOk end (λ outcome. (outcome ≡ BadDescription) × (place : ℕ) × (fault ≡ Syntax place) × (waits ≡ codes "syntax " ++ (decimal place ++ 10 ∷ []))) → IfErr end (λ cause. (cause ≡ Memory) × (waits ≡ [])) → ShowEnds files file name reading left left taken taken waits end
+text_refused files file name reading left taken waits text fault (Ok outcome) is place ok err =
+    bad_description text is (λ input. no_rules ok.1 is.fits (subst (λ f. OnSyntax f (IsSyntaxPlace text)) ok.2 place) ok.3 refl) refl refl (ap Ok ok.0)
+text_refused files file name reading left taken waits text fault (Err cause) is place ok err = unread refl refl err.1 (inr (ap Err err.0))
