@@ -58,7 +58,12 @@ fn expect(rt: &impl Abort, ran: &Ran, text: &[u8], status: u8, what: &str) {
 fn blocks_are_shown(rt: HostRuntime) -> Result<(), Fail> {
     let literal = b"<M> ::= 01 ;".as_slice();
     let cases = [
-        (FIELDS, b"A5\n".as_slice(), b"ok [<A>=3'5 . <B>=4'5]\n".as_slice(), 0),
+        (
+            FIELDS,
+            b"A5\n".as_slice(),
+            b"ok [<A>=3'5 . <B>=4'5]\n".as_slice(),
+            0,
+        ),
         (FIELDS, b"B5\n", b"no 3 bit\n", 1),
         (FIELDS, b"A0/6\n", b"no 6 ended\n", 1),
         (FIELDS, b"A500\n", b"no 8 bit\n", 1),
@@ -68,7 +73,12 @@ fn blocks_are_shown(rt: HostRuntime) -> Result<(), Fail> {
         (FIELDS, b"\n\r\n", b"", 0),
         (FIELDS, b"AG\nA0GG\n", b"bad 1 1\nbad 1 2\n", 1),
         (FIELDS, b"A\nA5/8\nA1/3\n", b"bad 2\nbad 2\nbad 3\n", 1),
-        (FIELDS, b"A5\nB5\nA5\n", b"ok [<A>=3'5 . <B>=4'5]\nno 3 bit\nok [<A>=3'5 . <B>=4'5]\n", 1),
+        (
+            FIELDS,
+            b"A5\nB5\nA5\n",
+            b"ok [<A>=3'5 . <B>=4'5]\nno 3 bit\nok [<A>=3'5 . <B>=4'5]\n",
+            1,
+        ),
         (literal, b"40/2\n", b"ok .\n", 0),
         (b"<M> ::= { 0 } ;", b"A5\n", b"later\n", 3),
         (b"<N> ::= <A : bit (3)> ;", b"A5\n", b"later\n", 3),
@@ -76,6 +86,27 @@ fn blocks_are_shown(rt: HostRuntime) -> Result<(), Fail> {
     for (description, input, text, status) in cases {
         let ran = shown(rt.alloc(), description, input)?;
         expect(&rt, &ran, text, status, "a block");
+    }
+    Ok(())
+}
+
+#[test]
+fn texts_without_rules_are_refused(rt: HostRuntime) -> Result<(), Fail> {
+    let alloc = rt.alloc();
+    let mut deep = Vec::from_slice(alloc, b"<M> ::= ")?;
+    deep.extend_from_slice(&vec![in alloc; b'{'; 65]?)?;
+    let cases = [
+        (b"<M> ::= { 0 ;".as_slice(), b"syntax 12\n".as_slice()),
+        (b"", b"syntax 0\n"),
+        (b"<M> ::= bit (** ;", b"syntax 16\n"),
+        (b"<M> ::= 0 # ;", b"syntax 10\n"),
+        (b"<M> ::= 0 -- x", b"syntax 14\n"),
+        (b"\xFF\x00", b"syntax 0\n"),
+        (&deep, b"syntax 72\n"),
+    ];
+    for (description, text) in cases {
+        let ran = shown(alloc, description, b"A5\n")?;
+        expect(&rt, &ran, text, 3, "a text without rules");
     }
     Ok(())
 }
@@ -111,13 +142,25 @@ fn limits_are_kept(rt: HostRuntime) -> Result<(), Fail> {
     expect(&rt, &ran, b"", 0, "an input of the greatest length");
     let mut line = vec![in alloc; b'0'; 131_072]?;
     let ran = shown(alloc, FIELDS, &line)?;
-    expect(&rt, &ran, b"no 8 bit\n", 1, "a block of the greatest length");
+    expect(
+        &rt,
+        &ran,
+        b"no 8 bit\n",
+        1,
+        "a block of the greatest length",
+    );
     line.extend_from_slice(b"00")?;
     let ran = shown(alloc, FIELDS, &line)?;
     expect(&rt, &ran, b"bad 4\n", 1, "a long block");
     line.push(b'G')?;
     let ran = shown(alloc, FIELDS, &line)?;
-    expect(&rt, &ran, b"bad 1 131074\n", 1, "a long block with a bad digit");
+    expect(
+        &rt,
+        &ran,
+        b"bad 1 131074\n",
+        1,
+        "a long block with a bad digit",
+    );
     Ok(())
 }
 
@@ -146,7 +189,12 @@ fn faults_keep_what_was_answered(rt: HostRuntime) -> Result<(), Fail> {
     let ran = shown_in_pieces(alloc, b"", 4096, Vec::new(alloc), vec![in alloc; 0]?)?;
     expect(&rt, &ran, b"", 6, "the flush fails");
     let words = words_of(alloc, &["show", "F", "M", "received"])?;
-    let ran = run_in_memory(alloc, &words, BTreeMap::new(alloc), Vec::from_slice(alloc, b"A5\n")?)?;
+    let ran = run_in_memory(
+        alloc,
+        &words,
+        BTreeMap::new(alloc),
+        Vec::from_slice(alloc, b"A5\n")?,
+    )?;
     expect(&rt, &ran, b"", 5, "no file");
     Ok(())
 }
