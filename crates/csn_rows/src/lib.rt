@@ -13,6 +13,8 @@ use std::alloc::{AllocError, Global};
 use std::collections::BTreeMap;
 
 #[cfg(test)]
+mod catalogue;
+#[cfg(test)]
 mod tests;
 
 /// How a run over memory ended, and what it wrote.

@@ -1,6 +1,7 @@
 ghost use Rattle.std.specs.Prelude.{◌≤◌};
 
 use super::*;
+use crate::catalogue::CATALOGUE;
 use std::process::Abort;
 use std::test::Fail;
 
@@ -108,6 +109,13 @@ fn texts_without_rules_are_refused(rt: HostRuntime) -> Result<(), Fail> {
         let ran = shown(alloc, description, b"A5\n")?;
         expect(&rt, &ran, text, 3, "a text without rules");
     }
+    Ok(())
+}
+
+#[test]
+fn catalogue_is_read(rt: HostRuntime) -> Result<(), Fail> {
+    let ran = shown(rt.alloc(), CATALOGUE, b"A5\n")?;
+    expect(&rt, &ran, b"later\n", 3, "the catalogue");
     Ok(())
 }
 
