@@ -1,6 +1,8 @@
 -- How jobs are over.
-use Rattle.std.proofs.Common.{◌≡◌, ℕ, ◌+◌, ◌<◌, Bool, inl, inr, List, [], ◌∷◌, ◌++◌, length, Option, Some, None, IsSome, Result, Ok, Err, IfOk, IfErr, codes, refl, sym, ap, subst}
+use Rattle.std.proofs.Common.{◌≡◌, ℕ, ◌+◌, ◌<◌, Bool, inl, inr, List, [], ◌∷◌, ◌++◌, length, Option, Some, None, IsSome, Result, Ok, Err, IfOk, IfErr, codes, refl, sym, ap, subst, take, arith}
 use Rattle.std.specs.List.{AllZip}
+use Rattle.std.specs.Option.{option_map}
+use Rattle.std.proofs.lemmas.List.{length-take-le}
 use Rattle.csn_desc.specs.declared.reading.Reading.{Reading}
 use Rattle.csn_grammar.specs.RulesV.{RulesV}
 use Rattle.csn_grammar.specs.Place.{HasRules, IsSyntaxPlace}
@@ -16,7 +18,7 @@ use Rattle.csn_run.specs.OutLine.{ShowsLine, ShowsThings}
 use Rattle.csn_run.specs.declared.simple.things.Thing.{Thing}
 use Rattle.csn_run.specs.Progress.{Answers, AnswersAll, StopsAfter, StopsWithin, StopsBy, Stops}
 use Rattle.csn_run.specs.Simple.{IsSimple, things_of}
-use Rattle.csn_run.specs.Job.{IsDescription, ShowEnds, unread, too_long, bad_description, all_lines, some_lines, outcome_of}
+use Rattle.csn_run.specs.Job.{IsDescription, IsLongFile, ShowEnds, unread, too_long, bad_description, all_lines, some_lines, outcome_of}
 use Rattle.csn_run.specs.Result.{no_rules}
 use Rattle.csn_grammar.specs.declared.fault.GrammarFault.{GrammarFault}
 use Rattle.csn_grammar.specs.declared.fault.GrammarFault.TheVariants.{Syntax}
@@ -79,3 +81,14 @@ pub text_refused : (files : Option (List ℕ → Option (List ℕ))) (file name 
 text_refused files file name reading left taken waits text fault (Ok outcome) is place ok err =
     bad_description text is (λ input. no_rules ok.1 is.fits (subst (λ f. OnSyntax f (IsSyntaxPlace text)) ok.2 place) ok.3 refl) refl refl (ap Ok ok.0)
 text_refused files file name reading left taken waits text fault (Err cause) is place ok err = unread refl refl err.1 (inr (ap Err err.0))
+
+-- a description that was fetched is not of a longer file
+pub not_long : (files : Option (List ℕ → Option (List ℕ))) (file text : List ℕ) → IsDescription files file text → IsLongFile files file → ⊥
+not_long None file text is long = absurd long
+not_long (Some files) file text is long =
+    let front : option_map (λ f. take (MOST_DESCRIPTION + 1) f) (files file) ≡ Some text = is.front in
+    let same : Some (take (MOST_DESCRIPTION + 1) long.0) ≡ Some text = rw long.1 at front in
+    let taken : take (MOST_DESCRIPTION + 1) long.0 ≡ text = cc in
+    let count : length (take (MOST_DESCRIPTION + 1) long.0) ≡ MOST_DESCRIPTION + 1 = length-take-le (MOST_DESCRIPTION + 1) long.0 (omega (arith, long.2)) in
+    let whole : length (take (MOST_DESCRIPTION + 1) long.0) ≡ length text = ap length taken in
+    omega (arith, count, whole, is.fits)

@@ -1,5 +1,5 @@
 -- What `show` has done with the outside when it is over, before the answers that still wait are handed on.
-use Rattle.std.specs.Prelude.{◌≡◌, ℕ, ◌+◌, ◌<◌, ◌≤◌, ◌⊎◌, Bool, if◌then◌else◌, List, [], length, Option, Result, Ok, Err}
+use Rattle.std.specs.Prelude.{◌≡◌, ℕ, ◌+◌, ◌<◌, ◌≤◌, ◌⊎◌, Bool, if◌then◌else◌, List, [], length, Option, Some, None, Result, Ok, Err}
 use Rattle.csn_desc.specs.declared.reading.Reading.{Reading}
 use Rattle.csn_grammar.specs.RulesV.{RulesV}
 use Rattle.csn_grammar.specs.Place.{HasRules}
@@ -20,6 +20,11 @@ use Rattle.csn_run.specs.Simple.{IsSimple}
 pub record IsDescription (files : Option (List ℕ → Option (List ℕ))) (file text : List ℕ) : Type 0 where
   pub front : BeginsFile files file (MOST_DESCRIPTION + 1) text
   pub fits : length text ≤ MOST_DESCRIPTION
+
+-- the shelf tells that the file is longer than a description may be
+abbrev pub IsLongFile : Option (List ℕ → Option (List ℕ)) → List ℕ → Type 0
+IsLongFile None file = ⊥
+IsLongFile (Some files) file = (text : List ℕ) × (files file ≡ Some text) × (MOST_DESCRIPTION < length text)
 
 -- how a job is over whose lines are all answered
 abbrev pub outcome_of : Bool → Outcome

@@ -11,7 +11,7 @@ ghost use Rattle.csn_run.specs.OutLine.{ShowsThings};
 ghost use Rattle.csn_run.specs.declared.simple.things.TheConstants.{MOST_THINGS};
 ghost use Rattle.csn_run.specs.Outside.{CannotRead, KeepsSteady};
 ghost use Rattle.csn_desc.specs.declared.reading.Reading.{Reading};
-ghost use Rattle.csn_run.specs.Job.{IsDescription, ShowEnds, IsEndOf, outcome_of};
+ghost use Rattle.csn_run.specs.Job.{IsDescription, IsLongFile, ShowEnds, IsEndOf, outcome_of};
 ghost use Rattle.csn_run.specs.Result.{BeginsResult, IsFinished, Result, StopsReading};
 ghost use Rattle.csn_run.specs.declared.top.TheConstants.{MOST_DESCRIPTION};
 
@@ -175,6 +175,7 @@ fn show<B: Shelf, S: Source, K: Sink>(
         ⊎ CannotRead (B.files shelf.old) (B.faults shelf.old) (B.faults shelf.new) (B.last_fault shelf.new) file.now }
     ensures write { result ≡ Err Fault.Write → Rose (K.faults out.old) (K.faults out.new) }
     ensures before_lines { result ≡ Ok Outcome.BadDescription → input.new ≡ input.old }
+    ensures long_file { IsLongFile (B.files shelf.old) file.now → input.new ≡ input.old }
     ensures missing { LacksFile (B.files shelf.old) file.now → ((result ≡ Err Fault.Read) ⊎ (result ≡ Err Fault.Memory))
         × (input.new ≡ input.old) × (out.new ≡ out.old) × (lines.new.pending.items ≡ []) }
     ensures shelf_never_falls { B.faults shelf.old ≤ B.faults shelf.new }
@@ -278,6 +279,8 @@ pub fn run<B: Shelf, S: Source, K: Sink>(
     // What is left of the input.
     ensures input_read { (result ≡ Ended.Done) ⊎ (result ≡ Ended.SomeRefused) → NothingLeft (S.left input.new) }
     ensures before_lines { result ≡ Ended.BadDescription → input.new ≡ input.old }
+    ensures long_file { (file : List ℕ) → NamesFile (map string_bytes words.now) file → IsLongFile (B.files shelf.old) file
+        → input.new ≡ input.old }
 
     // A file that is told as not held ends the run at once.
     ensures missing { (file : List ℕ) → NamesFile (map string_bytes words.now) file → LacksFile (B.files shelf.old) file

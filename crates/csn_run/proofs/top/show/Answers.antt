@@ -1,6 +1,6 @@
 use Rattle.std.proofs.Common.{ap, sym, ◌∙◌, Err}
 use Rattle.std.proofs.lemmas.Result.{err_from_is_err_and}
-use Rattle.csn_run.proofs.JobLemmas.{fetch_ends}
+use Rattle.csn_run.proofs.JobLemmas.{fetch_ends, not_long}
 use Rattle.csn_run.proofs.top.show.Goals as goal
 
 pub returns-in_err-text-clause-ends : goal.returns-in_err-text-clause-ends
@@ -10,3 +10,6 @@ returns-in_err-text-clause-ends g c = λ reading.
 
 pub returns-clause-ends : goal.returns-clause-ends
 returns-clause-ends g c = λ reading. rw (← c.as_bytes.ensures.value) (c.show_text.ensures.ends _ _ reading (rw c.deref.ensures.value c.in_ok-text.ensures.whole))
+
+pub returns-clause-long_file : goal.returns-clause-long_file
+returns-clause-long_file g c = λ long. absurd (not_long _ _ _ c.in_ok-text.ensures.whole long)
