@@ -24,10 +24,10 @@ use Rattle.csn_grammar.specs.ExprV.{ExprV, expr, lits, name, labelled, group, Br
 use Rattle.csn_grammar.specs.RulesV.{RulesV}
 use Rattle.csn_grammar.specs.TokenV.{TokenV, token}
 use Rattle.csn_grammar.specs.Grammar.{NotSlashes}
-use Rattle.csn_grammar.specs.Building.{seq_with, choice_with, both_of, sends_of, power_of}
-use Rattle.csn_grammar.specs.ExponentSteps.{linear}
-use Rattle.csn_grammar.specs.BodySteps.{fresh, close, close_in, after_seq, after_item, after_side, after_exponent, first_word, body_step}
-use Rattle.csn_grammar.specs.ReaderSteps.{rule_of}
+use Rattle.csn_grammar.specs.reader.Building.{seq_with, choice_with, both_of, sends_of, power_of}
+use Rattle.csn_grammar.specs.reader.ExponentSteps.{linear}
+use Rattle.csn_grammar.specs.reader.BodySteps.{fresh, close, close_in, after_seq, after_item, after_side, after_exponent, first_word, body_step}
+use Rattle.csn_grammar.specs.reader.RuleSteps.{rule_of}
 use Rattle.csn_grammar.proofs.Run.{Step, level_of, Leads, Comes, parse}
 use Rattle.csn_grammar.proofs.Complete.{close_none, no_lead, close_to_seq, seq_to_item, item_to_window, window_to_side}
 use Rattle.csn_grammar.proofs.CompleteExpr.{MayFollow, side_to_base, leads_done, both_leads, sends_leads, word_comes, greater_comes}

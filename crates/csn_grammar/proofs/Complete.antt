@@ -14,9 +14,9 @@ use Rattle.csn_grammar.specs.declared.reader.state.State.TheVariants.{Body}
 use Rattle.csn_grammar.specs.ExprV.{ExprV, BranchV}
 use Rattle.csn_grammar.specs.RulesV.{RulesV}
 use Rattle.csn_grammar.specs.TokenV.{TokenV, token}
-use Rattle.csn_grammar.specs.Building.{seq_with, choice_with}
-use Rattle.csn_grammar.specs.BodySteps.{begin_side, close, close_in, after_seq, after_item, after_window, after_joint, after_side, body_step}
-use Rattle.csn_grammar.specs.ReaderSteps.{after_body, finished}
+use Rattle.csn_grammar.specs.reader.Building.{seq_with, choice_with}
+use Rattle.csn_grammar.specs.reader.BodySteps.{begin_side, close, close_in, after_seq, after_item, after_window, after_joint, after_side, body_step}
+use Rattle.csn_grammar.specs.reader.RuleSteps.{after_body, finished}
 use Rattle.csn_grammar.proofs.Run.{level_of, Leads, Comes, pour}
 
 -- a token that closes nothing

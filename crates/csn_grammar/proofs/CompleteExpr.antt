@@ -12,9 +12,9 @@ use Rattle.csn_grammar.specs.RulesV.{RulesV}
 use Rattle.csn_grammar.specs.TokenV.{TokenV, token}
 use Rattle.csn_grammar.specs.Counts.{IsName, last_word, more_words}
 use Rattle.csn_grammar.specs.Grammar.{NotSlashes, components_of, IsBase, bit_base, octet_base, name_base, labelled_base, group_base, IsSide, lits_side, null_side, base_side, power_side, cut_side, IsWindow, side_window, both_window, IsItem, window_item, sends_item, AreItems, last_item, more_items, IsSeq, one_item, items, cut_items, AreBranches, last_branch, last_error, more_branches, more_errors, IsExpr, one_seq, branches}
-use Rattle.csn_grammar.specs.Spellings.{word_form}
-use Rattle.csn_grammar.specs.Building.{end_of, seq_with, cut_with, choice_with, both_of, sends_of, power_of}
-use Rattle.csn_grammar.specs.BodySteps.{fresh, with_joint, word_mode, open_frame, begin_side, close, after_seq, after_item, after_window, after_joint, after_side, after_slashes, after_base, after_words, first_word, body_step}
+use Rattle.csn_grammar.specs.reader.Spellings.{word_form}
+use Rattle.csn_grammar.specs.reader.Building.{end_of, seq_with, cut_with, choice_with, both_of, sends_of, power_of}
+use Rattle.csn_grammar.specs.reader.BodySteps.{fresh, with_joint, word_mode, open_frame, begin_side, close, after_seq, after_item, after_window, after_joint, after_side, after_slashes, after_base, after_words, first_word, body_step}
 use Rattle.csn_grammar.proofs.Run.{level_of, Leads, Comes}
 use Rattle.csn_grammar.proofs.Members.{whole_seq, whole_cut, items_begin, no_items, no_branches, whole_choice}
 use Rattle.csn_grammar.proofs.Complete.{close_none, no_lead, close_to_seq, seq_to_item, side_to_item, item_to_window, window_to_side}

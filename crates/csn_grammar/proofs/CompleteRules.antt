@@ -9,8 +9,8 @@ use Rattle.csn_grammar.specs.RulesV.{RulesV}
 use Rattle.csn_grammar.specs.TokenV.{TokenV, token}
 use Rattle.csn_grammar.specs.Counts.{IsName, last_word, more_words}
 use Rattle.csn_grammar.specs.Grammar.{IsRule, rule, AreRules, last_rule, more_rules}
-use Rattle.csn_grammar.specs.BodySteps.{close}
-use Rattle.csn_grammar.specs.ReaderSteps.{rule_of, finished}
+use Rattle.csn_grammar.specs.reader.BodySteps.{close}
+use Rattle.csn_grammar.specs.reader.RuleSteps.{rule_of, finished}
 use Rattle.csn_grammar.proofs.Run.{Leads, parse, start}
 use Rattle.csn_grammar.proofs.CompleteExpr.{expr_comes}
 

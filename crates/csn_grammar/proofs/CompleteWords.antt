@@ -18,9 +18,9 @@ use Rattle.csn_grammar.specs.RulesV.{RulesV}
 use Rattle.csn_grammar.specs.TokenV.{TokenV, token}
 use Rattle.csn_grammar.specs.Writing.{letter_of, IsLits, IsNumber}
 use Rattle.csn_grammar.specs.Counts.{IsName, last_word, more_words, IsVal, val, IsProduct, alone, factor_before, factor_behind, IsCount, number, product, summand_behind, summand_before, IsExponent, count, times_number, times_val, times_count, any, any_star, any_stars}
-use Rattle.csn_grammar.specs.Spellings.{number_of, symbol_of, run_of, word_form}
-use Rattle.csn_grammar.specs.Building.{power_of}
-use Rattle.csn_grammar.specs.BodySteps.{goes, after_base, after_exponent, body_step}
+use Rattle.csn_grammar.specs.reader.Spellings.{number_of, symbol_of, run_of, word_form}
+use Rattle.csn_grammar.specs.reader.Building.{power_of}
+use Rattle.csn_grammar.specs.reader.BodySteps.{goes, after_base, after_exponent, body_step}
 use Rattle.csn_grammar.proofs.Run.{Step, Leads, Comes}
 
 pub number_is : (w : List ℕ) (n : ℕ) → IsNumber w n → number_of w ≡ Some n

@@ -14,7 +14,8 @@ use Rattle.csn_grammar.specs.TokenV.{TokenV, token_in, tokens_in}
 use Rattle.csn_grammar.specs.Grammar.{AreRules}
 use Rattle.csn_grammar.specs.declared.fault.GrammarFault.{GrammarFault}
 use Rattle.csn_grammar.specs.declared.fault.GrammarFault.TheVariants.{Syntax, NoMemory}
-use Rattle.csn_grammar.specs.Answers.{OnSyntax, HasNoRules, GivesAt}
+use Rattle.csn_grammar.specs.Answers.{OnSyntax, HasNoRules}
+use Rattle.csn_grammar.specs.reader.Gives.{GivesAt}
 use Rattle.csn_grammar.specs.Place.{HasRules, BeginRules, IsSyntaxPlace, refused_token, refused_byte, refused_end}
 use Rattle.csn_grammar.proofs.Run.{token_step, run, ends, parse, start}
 use Rattle.csn_grammar.proofs.CompleteRules.{complete}

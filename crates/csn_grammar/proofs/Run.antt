@@ -12,7 +12,7 @@ use Rattle.csn_grammar.specs.declared.reader.state.Reader.{Reader}
 use Rattle.csn_grammar.specs.ExprV.{ExprV, BranchV}
 use Rattle.csn_grammar.specs.RulesV.{RulesV}
 use Rattle.csn_grammar.specs.TokenV.{TokenV, token}
-use Rattle.csn_grammar.specs.ReaderSteps.{after_body, reader_step, finished}
+use Rattle.csn_grammar.specs.reader.RuleSteps.{after_body, reader_step, finished}
 
 abbrev pub token_step : Reader → TokenV → Option Reader
 token_step r (token k s n w) = reader_step r.rules r.state k s n w

@@ -26,11 +26,11 @@ use Rattle.csn_grammar.specs.RulesV.{RulesV}
 use Rattle.csn_grammar.specs.TokenV.{TokenV, token}
 use Rattle.csn_grammar.specs.Counts.{IsName, last_word, more_words, IsExponent, count, times_number, times_val, times_count, any, any_star, any_stars}
 use Rattle.csn_grammar.specs.Grammar.{NotSlashes, components_of, IsBase, bit_base, octet_base, name_base, labelled_base, group_base, IsSide, lits_side, null_side, base_side, power_side, cut_side, IsExpr}
-use Rattle.csn_grammar.specs.Spellings.{word_form}
-use Rattle.csn_grammar.specs.ExponentSteps.{exponent_step}
-use Rattle.csn_grammar.specs.Building.{seq_with, choice_with, both_of, sends_of, power_of, cut_group}
-use Rattle.csn_grammar.specs.BodySteps.{goes, fresh, with_joint, word_mode, open_frame, begin_side, close, close_in, after_seq, after_item, after_window, after_joint, after_side, after_slashes, after_base, after_exponent, first_word, after_words, body_step}
-use Rattle.csn_grammar.specs.ReaderSteps.{rule_of}
+use Rattle.csn_grammar.specs.reader.Spellings.{word_form}
+use Rattle.csn_grammar.specs.reader.ExponentSteps.{exponent_step}
+use Rattle.csn_grammar.specs.reader.Building.{seq_with, choice_with, both_of, sends_of, power_of, cut_group}
+use Rattle.csn_grammar.specs.reader.BodySteps.{goes, fresh, with_joint, word_mode, open_frame, begin_side, close, close_in, after_seq, after_item, after_window, after_joint, after_side, after_slashes, after_base, after_exponent, first_word, after_words, body_step}
+use Rattle.csn_grammar.specs.reader.RuleSteps.{rule_of}
 use Rattle.csn_grammar.proofs.CompleteExpr.{MayFollow}
 use Rattle.csn_grammar.proofs.SoundWords.{Said, said_null, said_bit, said_octet, said_lits, form_said}
 use Rattle.csn_grammar.proofs.SoundExponents.{Completes, at_bracket, at_star, Goes_on, exponent_back}

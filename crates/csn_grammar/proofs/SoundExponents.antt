@@ -15,9 +15,9 @@ use Rattle.csn_grammar.specs.declared.reader.progress.ExponentNext.TheVariants.{
 use Rattle.csn_grammar.specs.TokenV.{TokenV, token}
 use Rattle.csn_grammar.specs.Writing.{IsNumber}
 use Rattle.csn_grammar.specs.Counts.{IsName, last_word, more_words, IsVal, val, IsProduct, alone, factor_before, factor_behind, IsCount, number, product, summand_behind, summand_before, IsExponent, count, times_number, times_val, times_count, any_star, any_stars}
-use Rattle.csn_grammar.specs.Spellings.{is_text, number_of}
-use Rattle.csn_grammar.specs.ExponentSteps.{exponent_step, linear, first_some, val_step, count_step, star_step, summand_step}
-use Rattle.csn_grammar.specs.ExponentSteps as step
+use Rattle.csn_grammar.specs.reader.Spellings.{is_text, number_of}
+use Rattle.csn_grammar.specs.reader.ExponentSteps.{exponent_step, linear, first_some, val_step, count_step, star_step, summand_step}
+use Rattle.csn_grammar.specs.reader.ExponentSteps as step
 use Rattle.csn_grammar.proofs.SoundWords.{number_said}
 
 abbrev pub terms : Option ℕ → Option ℕ → Bool → Terms

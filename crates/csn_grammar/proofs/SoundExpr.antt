@@ -12,9 +12,9 @@ use Rattle.csn_grammar.specs.RulesV.{RulesV}
 use Rattle.csn_grammar.specs.TokenV.{TokenV, token}
 use Rattle.csn_grammar.specs.Counts.{IsExponent}
 use Rattle.csn_grammar.specs.Grammar.{IsSide, IsWindow, side_window, both_window, IsItem, window_item, sends_item, AreItems, last_item, more_items, IsSeq, one_item, items, cut_items, AreBranches, last_branch, last_error, more_branches, more_errors, IsExpr, one_seq, branches, AreRules}
-use Rattle.csn_grammar.specs.Building.{start_of, end_of, seq_with, cut_with, choice_with, both_of, sends_of, power_of, cut_group}
-use Rattle.csn_grammar.specs.BodySteps.{fresh}
-use Rattle.csn_grammar.specs.ReaderSteps.{rule_of}
+use Rattle.csn_grammar.specs.reader.Building.{start_of, end_of, seq_with, cut_with, choice_with, both_of, sends_of, power_of, cut_group}
+use Rattle.csn_grammar.specs.reader.BodySteps.{fresh}
+use Rattle.csn_grammar.specs.reader.RuleSteps.{rule_of}
 use Rattle.csn_grammar.proofs.Members.{exprs_of-item_list, branches_of-branch_list, no_items}
 use Rattle.csn_grammar.proofs.CompleteExpr.{MayFollow}
 

@@ -13,8 +13,8 @@ use Rattle.csn_grammar.specs.RulesV.{RulesV}
 use Rattle.csn_grammar.specs.TokenV.{TokenV, token}
 use Rattle.csn_grammar.specs.Counts.{IsName, last_word, more_words}
 use Rattle.csn_grammar.specs.Grammar.{IsRule, rule, IsExpr, AreRules, last_rule, more_rules}
-use Rattle.csn_grammar.specs.BodySteps.{body_step}
-use Rattle.csn_grammar.specs.ReaderSteps.{after_body, reader_step, finished}
+use Rattle.csn_grammar.specs.reader.BodySteps.{body_step}
+use Rattle.csn_grammar.specs.reader.RuleSteps.{after_body, reader_step, finished}
 use Rattle.csn_grammar.proofs.Run.{pour, parse, start}
 use Rattle.csn_grammar.proofs.SoundExpr.{Rest, rest_none, rest_more, Closes, closes_rule, Exprs, expr_gather}
 use Rattle.csn_grammar.proofs.SoundBody.{Stands, Leaves, body_back}

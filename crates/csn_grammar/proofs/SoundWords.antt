@@ -10,7 +10,7 @@ use Rattle.csn_desc.specs.declared.symbol.Symbol.{Symbol}
 use Rattle.csn_desc.specs.declared.symbol.Symbol.TheVariants.{Zero, One, Low, High}
 use Rattle.csn_grammar.specs.ExprV.{FormV, lits, null, bit, octet}
 use Rattle.csn_grammar.specs.Writing.{letter_of, IsLits, decimal_after, IsNumber}
-use Rattle.csn_grammar.specs.Spellings.{is_text, number_of, symbol_of, with_symbol, run_of, word_form}
+use Rattle.csn_grammar.specs.reader.Spellings.{is_text, number_of, symbol_of, with_symbol, run_of, word_form}
 
 -- a choice that gave something
 if_said : {X : Type 0} (b : Bool) (t x : X) (rest : Option X) → (if b then Some t else rest) ≡ Some x

@@ -18,11 +18,5 @@ pub mod Writing
 pub mod Counts
 pub mod Grammar
 pub mod Place
-pub mod Gives
-pub mod Spellings
-pub mod ExponentSteps
-pub mod GivesForm
-pub mod Building
-pub mod BodySteps
-pub mod ReaderSteps
 pub mod Answers
+pub mod reader

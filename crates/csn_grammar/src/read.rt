@@ -2,9 +2,10 @@
 
 ghost use Rattle.std.specs.Prelude.{◌≡◌, ◌≤◌, length, slice_range, IfOk, IfErr, IsTrue, ◌↔◌};
 ghost use Rattle.csn_lexer.specs.Tokens.{IsLongest};
-ghost use Rattle.csn_grammar.specs.Answers.{GivesAt, HasNoRules, OnSyntax};
+ghost use Rattle.csn_grammar.specs.Answers.{HasNoRules, OnSyntax};
+ghost use Rattle.csn_grammar.specs.reader.Gives.{GivesAt};
 ghost use Rattle.csn_grammar.specs.Place.{HasRules, IsSyntaxPlace};
-ghost use Rattle.csn_grammar.specs.ReaderSteps.{finished, reader_step};
+ghost use Rattle.csn_grammar.specs.reader.RuleSteps.{finished, reader_step};
 
 use crate::fault::GrammarFault;
 use crate::reader::{Reader, State, Stop, reader_step};

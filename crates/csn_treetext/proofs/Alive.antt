@@ -18,8 +18,8 @@ use Rattle.csn_treetext.specs.declared.mode.Mode.{Mode}
 use Rattle.csn_treetext.specs.declared.mode.Mode.TheVariants.{Start, Opened, Behind, Done, Width, Quote, Value, Hash, Number, Name, NameEnd, Octets, Slash, Bare}
 use Rattle.csn_treetext.specs.Text.{text_of, row_text, bit_digits, is_short}
 use Rattle.csn_treetext.specs.Place.{BeginsText}
-use Rattle.csn_treetext.specs.Numeral.{greatest_of, low_bits}
-use Rattle.csn_treetext.specs.Machine.{state, AreOctets, AreDigits, cut_octets}
+use Rattle.csn_treetext.specs.reader.Numeral.{greatest_of, low_bits}
+use Rattle.csn_treetext.specs.reader.Machine.{state, AreOctets, AreDigits, cut_octets}
 use Rattle.csn_treetext.proofs.Names.{closed_label}
 use Rattle.csn_treetext.proofs.OctetLeaves.{encode_upper-push, cut_text}
 use Rattle.csn_treetext.proofs.Spelled.{spaced, before, behind, high_text, IsTree, AreTrees-push, IsStack, HasTree, StandsFor, level_low, row_is_tree, spaced-push}

@@ -15,7 +15,7 @@ use Rattle.csn_treetext.specs.declared.mode.Mode.TheVariants.{Start, Opened, Beh
 use Rattle.csn_treetext.specs.Text.{text_of, row_text, rest_text, bit_digits, leaf_text, is_short, short_text, other_text}
 use Rattle.csn_treetext.specs.Fits.{FitsInside, AllFitInside, HasParts, AllHaveParts}
 use Rattle.csn_treetext.specs.Place.{IsTextOf}
-use Rattle.csn_treetext.specs.Machine.{with_tree, step}
+use Rattle.csn_treetext.specs.reader.Machine.{with_tree, step}
 use Rattle.csn_treetext.proofs.Fitting.{room_for}
 use Rattle.csn_treetext.proofs.WholeTrees.{eqb-below}
 use Rattle.csn_treetext.proofs.Runs.{number_run, leaf_run, label_run, Stops, stops_end, stops_space, stops_bracket, run, At}

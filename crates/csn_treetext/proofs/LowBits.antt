@@ -5,7 +5,7 @@ use Rattle.std.proofs.lemmas.List.{length_push}
 use Rattle.csn_bits.specs.Octets.{IsBits}
 use Rattle.csn_bits.proofs.Packing.{IsBits-append}
 use Rattle.csn_desc.specs.Values.{number_of}
-use Rattle.csn_treetext.specs.Numeral.{low_bits}
+use Rattle.csn_treetext.specs.reader.Numeral.{low_bits}
 use Rattle.csn_treetext.proofs.Numbers.{number_of-push, number_of-small}
 
 pub length-low_bits : (width n : ℕ) → length (low_bits width n) ≡ width

@@ -8,7 +8,7 @@ use Rattle.csn_lexer.specs.Word.{begins_word, goes_on_in_word, joins_pieces, sta
 use Rattle.csn_desc.specs.Label.{is_label, IsLabel}
 use Rattle.csn_treetext.specs.declared.mode.NameAt.{NameAt}
 use Rattle.csn_treetext.specs.declared.mode.NameAt.TheVariants.{Front, Within, Joint}
-use Rattle.csn_treetext.specs.Machine.{name_after, name_from, name_run, may_end}
+use Rattle.csn_treetext.specs.reader.Machine.{name_after, name_from, name_run, may_end}
 
 pub accepts : Option NameAt → Bool
 accepts None = false

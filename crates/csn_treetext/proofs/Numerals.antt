@@ -3,7 +3,7 @@ use Rattle.std.proofs.Common.{◌≡◌, ℕ, zero, suc, ◌+◌, ◌-◌, ◌*�
 use Rattle.std.specs.Fmt.{decimal}
 use Rattle.std.proofs.lemmas.Fmt.{decimal_digit, decimal_step}
 use Rattle.std.proofs.lemmas.Bool.{agree_below_at, and_parts, cases_Bool, leb-true, le-leb}
-use Rattle.csn_treetext.specs.Numeral.{digit_of, at_most, appended, grown, greatest_of}
+use Rattle.csn_treetext.specs.reader.Numeral.{digit_of, at_most, appended, grown, greatest_of}
 
 -- what a program makes of all ones, shifted
 pub greatest_shifted : (width : ℕ) → width ≤ 64 → 18446744073709551615 / 2 ^ (64 - width) ≡ greatest_of width

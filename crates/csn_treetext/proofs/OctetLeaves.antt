@@ -11,7 +11,7 @@ use Rattle.csn_bits.proofs.Packing.{IsBits-bits_of_octets, IsBits-take, length-b
 use Rattle.csn_bits.proofs.Written.{written-packed}
 use Rattle.csn_treetext.specs.declared.version.Version.TheVariants.{Second}
 use Rattle.csn_treetext.specs.Text.{leaf_text, is_short, other_text}
-use Rattle.csn_treetext.specs.Machine.{AreOctets, last_octet, upper_value}
+use Rattle.csn_treetext.specs.reader.Machine.{AreOctets, last_octet, upper_value}
 
 -- ---- the last octet
 

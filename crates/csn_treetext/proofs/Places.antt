@@ -14,7 +14,7 @@ use Rattle.csn_treetext.specs.declared.mode.Mode.{Mode}
 use Rattle.csn_treetext.specs.declared.mode.Mode.TheVariants.{Start, Opened, Behind, Done, Width, Quote, Value, Hash, Number, Name, NameEnd, Octets, Slash, Bare}
 use Rattle.csn_treetext.specs.Text.{text_of, row_text, leaf_text, is_short, short_text, other_text}
 use Rattle.csn_treetext.specs.Place.{IsTextOf, BeginsText, IsFaultPlace}
-use Rattle.csn_treetext.specs.Machine.{State, state, HasRoom, step, step_from, steps, ended}
+use Rattle.csn_treetext.specs.reader.Machine.{State, state, HasRoom, step, step_from, steps, ended}
 use Rattle.csn_treetext.proofs.Spelled.{spaced, before, behind, HasTree, StandsFor, spaced-row}
 use Rattle.csn_treetext.proofs.Sound.{steps-none, steps-append, steps_stand, start_stands, ended_is}
 use Rattle.csn_treetext.proofs.Runs.{end_of}

@@ -2,7 +2,7 @@
 use Rattle.std.proofs.Common.{List, [], ◌∷◌}
 use Rattle.csn_treetext.specs.declared.stack.Frame.{Frame}
 use Rattle.csn_treetext.specs.declared.stack.Frame.TheVariants.{Row, Alt, Named}
-use Rattle.csn_treetext.specs.Machine.{HasRoom, HasRoomBelow}
+use Rattle.csn_treetext.specs.reader.Machine.{HasRoom, HasRoomBelow}
 
 pub room_below : (stack : List Frame) → HasRoom stack → HasRoomBelow stack
 room_below [] h = tt

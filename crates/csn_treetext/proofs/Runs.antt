@@ -22,8 +22,8 @@ use Rattle.csn_treetext.specs.declared.mode.NameAt.TheVariants.{Front, Within}
 use Rattle.csn_treetext.specs.declared.mode.Mode.{Mode}
 use Rattle.csn_treetext.specs.declared.mode.Mode.TheVariants.{Start, Width, Quote, Value, Hash, Number, Name, Octets, Slash, Bare}
 use Rattle.csn_treetext.specs.Text.{bit_digits, leaf_text, is_short, short_text, other_text}
-use Rattle.csn_treetext.specs.Numeral.{greatest_of}
-use Rattle.csn_treetext.specs.Machine.{State, state, AreOctets, with_tree, closed, name_after, name_run, are_many, last_octet, upper_value, step, steps, root_of, ended}
+use Rattle.csn_treetext.specs.reader.Numeral.{greatest_of}
+use Rattle.csn_treetext.specs.reader.Machine.{State, state, AreOctets, with_tree, closed, name_after, name_run, are_many, last_octet, upper_value, step, steps, root_of, ended}
 use Rattle.csn_treetext.proofs.Numbers.{number_of-small}
 use Rattle.csn_treetext.proofs.Numerals.{grown_first, grown_next}
 use Rattle.csn_treetext.proofs.LowBits.{low_bits-number_of}

@@ -13,7 +13,7 @@ use Rattle.csn_treetext.specs.declared.mode.Mode.{Mode}
 use Rattle.csn_treetext.specs.declared.mode.Mode.TheVariants.{Start, Opened, Behind, Done, Width, Quote, Value, Hash, Number, Name, NameEnd, Octets, Slash, Bare}
 use Rattle.csn_treetext.specs.Text.{text_of, row_text, rest_text, bit_digits}
 use Rattle.csn_treetext.specs.Fits.{FitsInside, AllFitInside, HasParts, AllHaveParts}
-use Rattle.csn_treetext.specs.Machine.{State, IsMode, with_tree}
+use Rattle.csn_treetext.specs.reader.Machine.{State, IsMode, with_tree}
 use Rattle.csn_treetext.proofs.Rows.{row_text-one, row_text-push}
 
 -- ---- the bytes

@@ -11,8 +11,8 @@ use Rattle.csn_treetext.specs.declared.stack.Frame.TheVariants.{Row, Alt, Named}
 use Rattle.csn_treetext.specs.declared.mode.Mode.{Mode}
 use Rattle.csn_treetext.specs.declared.mode.Mode.TheVariants.{Behind}
 use Rattle.csn_treetext.specs.Text.{text_of, row_text, is_short}
-use Rattle.csn_treetext.specs.Numeral.{greatest_of, low_bits}
-use Rattle.csn_treetext.specs.Machine.{State, state, AreOctets, with_tree, after_tree, closed, closed_at, cut_octets}
+use Rattle.csn_treetext.specs.reader.Numeral.{greatest_of, low_bits}
+use Rattle.csn_treetext.specs.reader.Machine.{State, state, AreOctets, with_tree, after_tree, closed, closed_at, cut_octets}
 use Rattle.csn_treetext.proofs.LowBits.{length-low_bits, IsBits-low_bits, number_of-low_bits}
 use Rattle.csn_treetext.proofs.OctetLeaves.{IsBits-cut_bits, length-cut_bits}
 use Rattle.csn_treetext.proofs.Spelled.{before, behind, IsTree, IsStack, HasTree, StandsFor, row_is_tree, spaced-row, tree_stands}

@@ -3,6 +3,4 @@ pub mod Fits
 pub mod Place
 pub mod Laws
 pub mod Examples
-pub mod FrameCode
-pub mod Numeral
-pub mod Machine
+pub mod reader

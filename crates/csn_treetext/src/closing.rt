@@ -1,7 +1,7 @@
 //! What a whole tree ends.
 
 ghost use Rattle.std.specs.Prelude.{◌≡◌, ◌<◌, [], ◌∷◌, ◌++◌, length, IfOk, OnOk};
-ghost use Rattle.csn_treetext.specs.Machine.{HasRoom, HasRoomBelow, state, with_stack, with_tree, after_tree, closed, root_of};
+ghost use Rattle.csn_treetext.specs.reader.Machine.{HasRoom, HasRoomBelow, state, with_stack, with_tree, after_tree, closed, root_of};
 
 use crate::mode::Mode;
 use crate::stack::{Frame, Stack};

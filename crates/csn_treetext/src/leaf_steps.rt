@@ -3,8 +3,8 @@
 ghost use Rattle.std.specs.Prelude.{◌≡◌, ◌<◌, ◌≤◌, length, Some, IfOk};
 ghost use Rattle.csn_desc.specs.TreeV.{bits};
 ghost use Rattle.csn_treetext.specs.Text.{is_short};
-ghost use Rattle.csn_treetext.specs.Numeral.{grown, greatest_of};
-ghost use Rattle.csn_treetext.specs.Machine.{HasRoom, AreDigits, after_digits, ended_octets, with_stack, after_width, after_quote, after_number, after_octets, after_high, after_slash, after_bits, upper_value};
+ghost use Rattle.csn_treetext.specs.reader.Numeral.{grown, greatest_of};
+ghost use Rattle.csn_treetext.specs.reader.Machine.{HasRoom, AreDigits, after_digits, ended_octets, with_stack, after_width, after_quote, after_number, after_octets, after_high, after_slash, after_bits, upper_value};
 
 use crate::bytes::Bytes;
 use crate::closing::{close, root, with_tree};

@@ -1,5 +1,5 @@
 ghost use Rattle.std.specs.Prelude.{◌≡◌};
-ghost use Rattle.csn_treetext.specs.Machine.{may_end};
+ghost use Rattle.csn_treetext.specs.reader.Machine.{may_end};
 
 use crate::bytes::Bytes;
 use csn_bits::Bits;

@@ -28,7 +28,7 @@ pub struct Stack {
 impl Model for Stack {
     ghost use Rattle.std.specs.Prelude.{List, reverse};
     ghost use Rattle.csn_treetext.specs.declared.stack.Frame.{Frame};
-    ghost use Rattle.csn_treetext.specs.FrameCode.{frames_code};
+    ghost use Rattle.csn_treetext.specs.reader.FrameCode.{frames_code};
 
     ghost Value = { List Frame };
 

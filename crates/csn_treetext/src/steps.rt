@@ -1,7 +1,7 @@
 //! One byte more of a text, and its end.
 
 ghost use Rattle.std.specs.Prelude.{◌≡◌, IfOk};
-ghost use Rattle.csn_treetext.specs.Machine.{HasRoom, IsMode, with_stack, begun, name_after, after_name, after_hash, step, ended, after_bracket, after_alternative, after_name_end};
+ghost use Rattle.csn_treetext.specs.reader.Machine.{HasRoom, IsMode, with_stack, begun, name_after, after_name, after_hash, step, ended, after_bracket, after_alternative, after_name_end};
 
 use crate::bytes::Bytes;
 use crate::closing::{after_tree, root, with_tree};

@@ -2,7 +2,7 @@
 
 ghost use Rattle.std.specs.Prelude.{◌≡◌, IfOk};
 ghost use Rattle.csn_grammar.specs.Grammar.{components_of};
-ghost use Rattle.csn_grammar.specs.Building.{both_of, sends_of, power_of, seq_with, cut_with, choice_with};
+ghost use Rattle.csn_grammar.specs.reader.Building.{both_of, sends_of, power_of, seq_with, cut_with, choice_with};
 
 use crate::exponent::Exponent;
 use crate::expr::{Branch, Branches, Expr, Exprs, Form, Span};

@@ -4,9 +4,9 @@ ghost use Rattle.std.specs.Prelude.{◌≡◌, ◌≤◌, length, codes, IsTrue}
 ghost use Rattle.std.specs.List.{list_all};
 ghost use Rattle.std.specs.Char.{is_ascii_digit};
 ghost use Rattle.csn_grammar.specs.Writing.{decimal_after};
-ghost use Rattle.csn_grammar.specs.GivesForm.{GivesForm};
-ghost use Rattle.csn_grammar.specs.Gives.{Gives};
-ghost use Rattle.csn_grammar.specs.Spellings.{is_text, number_of, symbol_of, run_of, word_form};
+ghost use Rattle.csn_grammar.specs.reader.GivesForm.{GivesForm};
+ghost use Rattle.csn_grammar.specs.reader.Gives.{Gives};
+ghost use Rattle.csn_grammar.specs.reader.Spellings.{is_text, number_of, symbol_of, run_of, word_form};
 
 use crate::expr::Form;
 use crate::reader::stop::Stop;

@@ -1,9 +1,9 @@
 //! Where the reader stands in a text.
 
 ghost use Rattle.std.specs.Prelude.{◌≡◌, ◌≤◌, [], length};
-ghost use Rattle.csn_grammar.specs.Gives.{Gives, IsWordToken};
-ghost use Rattle.csn_grammar.specs.BodySteps.{body_step};
-ghost use Rattle.csn_grammar.specs.ReaderSteps.{after_body, name_step, named_step, reader_step};
+ghost use Rattle.csn_grammar.specs.reader.Gives.{Gives, IsWordToken};
+ghost use Rattle.csn_grammar.specs.reader.BodySteps.{body_step};
+ghost use Rattle.csn_grammar.specs.reader.RuleSteps.{after_body, name_step, named_step, reader_step};
 
 use crate::expr::Span;
 use crate::reader::body::{Body, Mode, Next};

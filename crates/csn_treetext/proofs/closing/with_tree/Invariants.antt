@@ -1,5 +1,5 @@
 use Rattle.std.proofs.Common.{◌≡◌, length}
-use Rattle.csn_treetext.specs.Machine.{HasRoom, with_tree}
+use Rattle.csn_treetext.specs.reader.Machine.{HasRoom, with_tree}
 use Rattle.csn_treetext.proofs.closing.with_tree.Given as goal
 
 abbrev pub invariant-loop-frame : goal.invariant-loop-frame

@@ -1,6 +1,6 @@
 use Rattle.std.proofs.Common.{◌≡◌, ◌-◌, length, slice_get, Some, unwrap_or, sym, ap, ◌∙◌}
 use Rattle.csn_treetext.proofs.OctetLeaves.{last_of-slice_get}
-use Rattle.csn_treetext.specs.Machine.{last_octet}
+use Rattle.csn_treetext.specs.reader.Machine.{last_octet}
 use Rattle.csn_treetext.proofs.leaf.last_octet.Goals as goal
 
 pub returns-in-Some : goal.returns-in-Some

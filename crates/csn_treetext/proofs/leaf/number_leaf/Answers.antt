@@ -1,5 +1,5 @@
 use Rattle.std.proofs.Common.{◌≡◌, ◌-◌, ◌%◌, ◌/◌, ◌^◌, ◌++◌, ◌∷◌, [], suc, ap, sym, ◌∙◌, length, arith}
-use Rattle.csn_treetext.specs.Numeral.{low_bits}
+use Rattle.csn_treetext.specs.reader.Numeral.{low_bits}
 use Rattle.csn_treetext.proofs.LowBits.{low_bits-next, length-low_bits}
 use Rattle.csn_treetext.proofs.leaf.number_leaf.Goals as goal
 

@@ -1,6 +1,6 @@
 use Rattle.std.proofs.Common.{◌∙◌, sym, ap, arith, take}
 use Rattle.std.proofs.lemmas.List.{take_all, length-take-le}
-use Rattle.csn_treetext.specs.Machine.{state, with_stack, steps}
+use Rattle.csn_treetext.specs.reader.Machine.{state, with_stack, steps}
 use Rattle.csn_treetext.proofs.Places.{start, reached, room_in, step_more, refused_place, ended_place, ended_tree}
 use Rattle.csn_treetext.proofs.read.read_text.Goals as goal
 

@@ -1,6 +1,6 @@
 use Rattle.std.proofs.Common.{◌≡◌, [], Some, take}
 use Rattle.csn_treetext.specs.declared.mode.Mode.TheVariants.{Start}
-use Rattle.csn_treetext.specs.Machine.{steps, state}
+use Rattle.csn_treetext.specs.reader.Machine.{steps, state}
 use Rattle.csn_treetext.proofs.read.read_text.Given as goal
 
 abbrev pub invariant-loop-at : goal.invariant-loop-at

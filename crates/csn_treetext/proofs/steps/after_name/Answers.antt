@@ -1,6 +1,6 @@
 use Rattle.std.proofs.Common.{◌≡◌, ◌∙◌, sym, ap, Err, subst, true}
 use Rattle.csn_desc.specs.Label.{IsLabel}
-use Rattle.csn_treetext.specs.Machine.{may_end}
+use Rattle.csn_treetext.specs.reader.Machine.{may_end}
 use Rattle.csn_treetext.proofs.Names.{label_of_run}
 use Rattle.csn_treetext.proofs.steps.after_name.Goals as goal
 

@@ -1,5 +1,5 @@
 use Rattle.std.proofs.Common.{◌≡◌, drop, length}
-use Rattle.csn_grammar.specs.Spellings.{run_of}
+use Rattle.csn_grammar.specs.reader.Spellings.{run_of}
 use Rattle.csn_grammar.proofs.Spelled.{with_run}
 use Rattle.csn_grammar.proofs.reader.spellings.run_of.Given as goal
 

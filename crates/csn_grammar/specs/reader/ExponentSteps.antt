@@ -11,7 +11,7 @@ use Rattle.csn_grammar.specs.declared.reader.progress.Progress.{Progress}
 use Rattle.csn_grammar.specs.declared.reader.progress.Progress.TheVariants.{Bracket, Star, StarBracket, Number, Summand, Factor, Before, Val, ValBracket, ValWords, Product, FactorBehind, SummandBehind, Whole}
 use Rattle.csn_grammar.specs.declared.reader.progress.ExponentNext.{ExponentNext}
 use Rattle.csn_grammar.specs.declared.reader.progress.ExponentNext.TheVariants.{Goes, Ends}
-use Rattle.csn_grammar.specs.Spellings.{is_text, number_of}
+use Rattle.csn_grammar.specs.reader.Spellings.{is_text, number_of}
 
 abbrev pub linear : Terms → List ℕ → Exponent
 linear t label = exponent.Linear (unwrap_or t.factor 1) label (unwrap_or t.summand 0)

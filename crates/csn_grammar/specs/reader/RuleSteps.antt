@@ -12,7 +12,7 @@ use Rattle.csn_grammar.specs.declared.reader.state.State.TheVariants.{Between, L
 use Rattle.csn_grammar.specs.declared.reader.state.Reader.{Reader}
 use Rattle.csn_grammar.specs.ExprV.{ExprV}
 use Rattle.csn_grammar.specs.RulesV.{RulesV}
-use Rattle.csn_grammar.specs.BodySteps.{fresh, body_step}
+use Rattle.csn_grammar.specs.reader.BodySteps.{fresh, body_step}
 
 abbrev pub reading : RulesV → State → Option Reader
 reading rules state = Some (record { rules = rules; state = state })

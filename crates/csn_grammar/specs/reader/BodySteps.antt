@@ -20,9 +20,9 @@ use Rattle.csn_grammar.specs.declared.reader.body.Mode.TheVariants.{Side, Less, 
 use Rattle.csn_grammar.specs.declared.reader.body.Next.{Next}
 use Rattle.csn_grammar.specs.declared.reader.body.Next.TheVariants.{Goes, Ends}
 use Rattle.csn_grammar.specs.ExprV.{ExprV, expr, FormV, bit, octet, name, labelled, group}
-use Rattle.csn_grammar.specs.Spellings.{word_form}
-use Rattle.csn_grammar.specs.ExponentSteps.{exponent_step}
-use Rattle.csn_grammar.specs.Building.{both_of, sends_of, power_of, seq_with, cut_with, choice_with, cut_group}
+use Rattle.csn_grammar.specs.reader.Spellings.{word_form}
+use Rattle.csn_grammar.specs.reader.ExponentSteps.{exponent_step}
+use Rattle.csn_grammar.specs.reader.Building.{both_of, sends_of, power_of, seq_with, cut_with, choice_with, cut_group}
 
 abbrev pub goes : List Frame → Level → Mode → Option Next
 goes frames level mode = Some (Goes (record { frames = frames; level = level; mode = mode }))
