@@ -1,6 +1,6 @@
 //! Laws over the definitions, each the contract of a function that does nothing.
 
-ghost use Rattle.csn_certify.specs.Laws.{FirstConflictIsOne, CertifiedHasNoConflict, LongerWordsCertify, NoContinuation};
+ghost use Rattle.csn_certify.specs.Laws.{FirstConflictIsOne, CertifiedHasNoConflict, LongerWordsCertify, NoContinuation, BlocksHaveOneTree};
 
 /// A description has at most one first conflict, and is not certified where it has one.
 pub fn first_conflict_is_one()
@@ -18,4 +18,9 @@ pub fn longer_words_certify()
 /// begins with these and that one.
 pub fn no_continuation()
     ensures { NoContinuation }
+{}
+
+/// Any bits, of any length, have at most one tree where the description is certified.
+pub fn blocks_have_one_tree()
+    ensures { BlocksHaveOneTree }
 {}

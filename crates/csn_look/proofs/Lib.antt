@@ -1,2 +1,9 @@
 pub mod OctetMarks
 pub mod EmptyKeys
+pub mod ShapeFacts
+pub mod NullableFacts
+pub mod EndsFacts
+pub mod StartFacts
+pub mod KeyFacts
+pub mod FollowFacts
+pub mod ReachFacts

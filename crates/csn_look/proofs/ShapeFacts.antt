@@ -1,0 +1,180 @@
+-- What each node of a well-formed description is, and what the values that it sees are.
+use Rattle.std.proofs.Common.{◌≡◌, ℕ, zero, suc, ◌+◌, ◌*◌, ◌^◌, ◌%◌, ◌<◌, ◌≤◌, ◌==◌, Bool, true, false, if◌then◌else◌, List, [], ◌∷◌, ◌++◌, length, refl, ◌∙◌, ap, subst, arith, length-append, inl, inr, Option, Some, None, option_map, slice_get, IsSomeAnd, eqb-true}
+use Rattle.std.specs.Prelude.{⊤}
+use Rattle.std.proofs.lemmas.Bool.Decides.{leb_tells}
+use Rattle.csn_desc.specs.declared.symbol.Symbol.{Symbol}
+use Rattle.csn_desc.specs.declared.node.Count.{Count}
+use Rattle.csn_desc.specs.declared.node.Count.TheVariants.{Fixed, Counted}
+use Rattle.csn_desc.specs.declared.node.Node.{Node}
+use Rattle.csn_desc.specs.declared.node.Node.TheVariants.{Lits, Spare, Pad, Null, Field, Rest, Seq, Choice, Times, Many, Trunc, Window, Named}
+use Rattle.csn_desc.specs.TreeV.{TreeV}
+use Rattle.csn_desc.specs.Nodes.{DescV, head_of, parts_of}
+use Rattle.csn_desc.specs.Spelled.{spelled}
+use Rattle.csn_desc.specs.Values.{Values, number_of, value_of, count_of, is_named, with_value}
+use Rattle.csn_desc.specs.Means.{NMeans}
+use Rattle.csn_desc.specs.Formed.{value_width, IsUnit, IsCount, IsHead, Spans, PartsSpan, spans, span_end, span_next, Formed, PartsFormed, formed, formed_end, formed_next, IsDescription}
+use Rattle.csn_desc.proofs.NumberFacts.{number_of-lt, value_has_width}
+use Rattle.csn_desc.proofs.MeantBits.{meant_bits}
+use Rattle.csn_look.specs.Ends.{MayCount, may_fixed, may_counted}
+
+-- ---- nodes
+
+-- a count is at least 1, or stands on a labelled field of constant width
+abbrev pub CountIs : List Node → Count → Type 0
+CountIs nodes (Fixed n) = 0 < n
+CountIs nodes (Counted m field c) = (width : ℕ) × (value_width nodes field ≡ Some width)
+
+-- literals have a bit, units are positive, and counts are as above
+abbrev pub NodeIs : List Node → Node → Type 0
+NodeIs nodes (Lits run) = 0 < length run
+NodeIs nodes (Field unit count) = (0 < unit) × CountIs nodes count
+NodeIs nodes (Times count part) = CountIs nodes count
+NodeIs nodes (Window unit count part) = (0 < unit) × CountIs nodes count
+NodeIs nodes (Spare symbol) = ⊤
+NodeIs nodes Pad = ⊤
+NodeIs nodes Null = ⊤
+NodeIs nodes Rest = ⊤
+NodeIs nodes (Seq parts) = ⊤
+NodeIs nodes (Choice parts) = ⊤
+NodeIs nodes (Many part) = ⊤
+NodeIs nodes (Trunc parts) = ⊤
+NodeIs nodes (Named label part) = ⊤
+
+-- each node of the description is so
+abbrev pub Shaped : DescV → Type 0
+Shaped d = (i : ℕ) (n : Node) → slice_get d.nodes i ≡ Some n → NodeIs d.nodes n
+
+unit_is : (unit : ℕ) → IsUnit unit → 0 < unit
+unit_is unit (inl one) = omega arith
+unit_is unit (inr eight) = omega arith
+
+width_is : (width : Option ℕ) → IsSomeAnd width (λ w. (1 ≤ w) × (w ≤ 16)) → (w : ℕ) × (width ≡ Some w)
+width_is None some = elim some [ ]
+width_is (Some w) some = (w, refl)
+
+count_is : (nodes : List Node) (seen : List ℕ) (count : Count) → IsCount nodes seen count → CountIs nodes count
+count_is nodes seen (Fixed n) is = omega (arith, is.0)
+count_is nodes seen (Counted m field c) is = width_is (value_width nodes field) is.3
+
+head_is : (nodes : List Node) (seen : List ℕ) (n : Node) → IsHead nodes seen (head_of n) → NodeIs nodes n
+head_is nodes seen (Lits run) is = omega (arith, is)
+head_is nodes seen (Field unit count) is = (unit_is unit is.0, count_is nodes seen count is.1)
+head_is nodes seen (Times count part) is = count_is nodes seen count is
+head_is nodes seen (Window unit count part) is = (unit_is unit is.0, count_is nodes seen count is.1)
+head_is nodes seen (Spare symbol) is = tt
+head_is nodes seen Pad is = tt
+head_is nodes seen Null is = tt
+head_is nodes seen Rest is = tt
+head_is nodes seen (Seq parts) is = tt
+head_is nodes seen (Choice parts) is = tt
+head_is nodes seen (Many part) is = tt
+head_is nodes seen (Trunc parts) is = tt
+head_is nodes seen (Named label part) is = tt
+
+module _ (nodes : List Node) where
+  -- node k is well formed, wherever it stands
+  pub record Placed (k : ℕ) : Type 0 where
+    pub seen : List ℕ
+    pub round : ℕ
+    pub is : Formed nodes seen round k
+
+  placed_here : {i k : ℕ} {seen : List ℕ} {round : ℕ} → i ≡ k → Formed nodes seen round i → Placed k
+  placed_here {seen = seen} {round = round} same h =
+      let P : ℕ → Type 0 = λ k. Formed nodes seen round k in record { seen = seen; round = round; is = subst P same h }
+
+  parts_along : {n m : Node} {at end : ℕ} → n ≡ m → PartsSpan nodes (parts_of n) at end → PartsSpan nodes (parts_of m) at end
+  parts_along {at = at} {end = end} same h = let P : Node → Type 0 = λ n. PartsSpan nodes (parts_of n) at end in subst P same h
+
+  mutual
+    -- each node inside a well-formed one is well formed
+    pub placed : {i end : ℕ} {seen : List ℕ} {round : ℕ} (k : ℕ) → Spans nodes i end → Formed nodes seen round i → i ≤ k → k < end → Placed k
+    placed {i = i} k (spans n at parts) (formed m is few head have room others) from within =
+        let same : n ≡ m = cc in
+        elim (leb_tells k i) [
+          | inl low ↦ placed_here (omega (arith, low.1)) (formed m is few head have room others)
+          | inr high ↦ parts_placed k (parts_along same parts) others (omega (arith, high.1)) within
+        ]
+
+    parts_placed : {shows : Bool} {seen : List ℕ} {round : ℕ} {parts : List ℕ} {at end : ℕ} (k : ℕ) → PartsSpan nodes parts at end → PartsFormed nodes shows seen round parts → at ≤ k → k < end → Placed k
+    parts_placed k (span_end e) formed_end from within = absurd (omega arith)
+    parts_placed k (span_next middle e h others) (formed_next first rest) from within =
+        elim (leb_tells middle k) [
+          | inl behind ↦ parts_placed k others rest behind.1 within
+          | inr inside ↦ placed k h first (omega arith) inside.1
+        ]
+
+within_nodes : (nodes : List Node) (i : ℕ) (n : Node) → slice_get nodes i ≡ Some n → i < length nodes
+within_nodes [] i n at = absurd (cc)
+within_nodes (x ∷ nodes) zero n at = omega arith
+within_nodes (x ∷ nodes) (suc i) n at = omega (arith, within_nodes nodes i n at)
+
+formed_is : {nodes : List Node} {seen : List ℕ} {round i : ℕ} (n : Node) → slice_get nodes i ≡ Some n → Formed nodes seen round i → NodeIs nodes n
+formed_is {nodes = nodes} {seen = seen} n at (formed m is few head have room others) =
+    let same : m ≡ n = cc in
+    let P : Node → Type 0 = λ k. NodeIs nodes k in
+    subst P same (head_is nodes seen m head)
+
+pub shaped : (d : DescV) → IsDescription d → Shaped d
+shaped d is i n at =
+    let here = placed d.nodes i is.numbered is.well_formed (omega arith) (within_nodes d.nodes i n at) in
+    formed_is n at here.is
+
+-- ---- values
+
+-- values are below the power of two that the width of their field has
+pub record Widths (d : DescV) (v : Values) : Type 0 where
+  pub fit : (field value width : ℕ) → value_of v field ≡ Some value → value_width d.nodes field ≡ Some width → value < 2 ^ width
+
+pub no_widths : (d : DescV) → Widths d []
+no_widths d = record { fit = λ field value width at is. absurd (cc) }
+
+module _ (d : DescV) where
+  fits_width : {i o : ℕ} {v : Values} {b : List ℕ} {t : TreeV} (width : ℕ) → value_width d.nodes i ≡ Some width → NMeans d i o v b t → number_of b < 2 ^ width
+  fits_width {b = b} width is h =
+      let wide = value_has_width d width is h in
+      let P : ℕ → Type 0 = λ w. number_of b < 2 ^ w in
+      subst P wide (number_of-lt b (meant_bits d h))
+
+  -- behind a labelled part too
+  pub widths_kept : {i o : ℕ} {v : Values} {b : List ℕ} {t : TreeV} → Widths d v → NMeans d i o v b t → Widths d (with_value d.nodes i b v)
+  widths_kept {i = i} {v = v} {b = b} widths h = record { fit = λ field value width. behind field value width (is_named d.nodes i) }
+    where
+      first : (field value width : ℕ) (same : Bool) → (i == field) ≡ same → (if same then Some (number_of b) else value_of v field) ≡ Some value → value_width d.nodes field ≡ Some width → value < 2 ^ width
+      first field value width true same at is =
+          let here : number_of b ≡ value = cc in
+          let field_is : i ≡ field = eqb-true i field same in
+          let wide : value_width d.nodes i ≡ Some width = ap (λ k. value_width d.nodes k) field_is ∙ is in
+          let small = fits_width width wide h in
+          rw (← here) small
+      first field value width false same at is = widths.fit field value width at is
+
+      behind : (field value width : ℕ) (labelled : Bool) → value_of (if labelled then (i, b) ∷ v else v) field ≡ Some value → value_width d.nodes field ≡ Some width → value < 2 ^ width
+      behind field value width true at is = first field value width (i == field) refl at is
+      behind field value width false at is = widths.fit field value width at is
+
+  counted_may : {m field c n : ℕ} (v : Values) (value : Option ℕ) → value_of v field ≡ value → Widths d v → (w : ℕ) × (value_width d.nodes field ≡ Some w) → option_map (λ x. m * x + c) value ≡ Some n → MayCount d (Counted m field c) n
+  counted_may {field = field} v None at widths is counts = absurd (cc)
+  counted_may {field = field} v (Some x) at widths is counts =
+      may_counted is.0 x is.1 (widths.fit field x is.0 at is.1) (cc)
+
+  -- a count may be what it is
+  pub may_count : (v : Values) (count : Count) {n : ℕ} → CountIs d.nodes count → Widths d v → count_of v count ≡ Some n → MayCount d count n
+  may_count v (Fixed k) is widths counts = may_fixed (cc)
+  may_count v (Counted m field c) is widths counts = counted_may v (value_of v field) refl widths is counts
+
+-- ---- places
+
+-- a place modulo 8, some bits on
+pub octet-on : (o p k m : ℕ) → p ≡ o + k → k ≡ m → p % 8 ≡ (o % 8 + m) % 8
+octet-on o p k m is same = omega arith
+
+pub octet-same : (o p k : ℕ) → p ≡ o + k → k ≡ 0 → p % 8 ≡ o % 8
+octet-same o p k is none = let same : p ≡ o = omega arith in ap (λ x. x % 8) same
+
+-- where bits end that are split
+pub place-split : (o : ℕ) (b1 b2 : List ℕ) {b : List ℕ} (p : ℕ) → p ≡ o + length b → b ≡ b1 ++ b2 → p ≡ o + length b1 + length b2
+place-split o b1 b2 p is cut = let sum = ap length cut in omega (arith, sum, length-append b1 b2)
+
+pub length-spelled : (run : List Symbol) (o : ℕ) → length (spelled run o) ≡ length run
+length-spelled [] o = refl
+length-spelled (s ∷ run) o = ap suc (length-spelled run (suc o))
