@@ -1,6 +1,6 @@
 -- In a certified description any bits have at most one tree, at the root and, whatever may stand behind, at
 -- each node.
-use Rattle.std.proofs.Common.{◌≡◌, ◌≢◌, ℕ, zero, suc, ◌+◌, ◌*◌, ◌%◌, ◌<◌, ◌≤◌, ◌⊎◌, inl, inr, List, [], ◌∷◌, ◌++◌, length, refl, sym, ◌∙◌, ap, subst, arith, append_assoc, append-nil, length-append, Option, Some, None, slice_get}
+use Rattle.std.proofs.Common.{◌≡◌, ◌≢◌, ℕ, ◌+◌, ◌*◌, ◌%◌, ◌<◌, ◌⊎◌, inl, inr, List, [], ◌∷◌, ◌++◌, length, refl, sym, ◌∙◌, ap, subst, arith, append_assoc, append-nil, length-append, Option, Some, slice_get}
 use Rattle.std.proofs.lemmas.Bool.Decides.{leb_tells}
 use Rattle.std.proofs.lemmas.List.{append_cancel_left}
 use Rattle.csn_desc.specs.declared.node.Count.{Count}
@@ -8,26 +8,23 @@ use Rattle.csn_desc.specs.declared.node.Node.{Node}
 use Rattle.csn_desc.specs.declared.node.Node.TheVariants.{Lits, Spare, Pad, Null, Field, Rest, Seq, Choice, Times, Many, Trunc, Window, Named}
 use Rattle.csn_desc.specs.TreeV.{TreeV, bits, row, alt, named, Trees, none, more}
 use Rattle.csn_desc.specs.Nodes.{DescV}
-use Rattle.csn_desc.specs.Values.{Values, count_of, with_value}
+use Rattle.csn_desc.specs.Values.{Values, with_value}
 use Rattle.csn_desc.specs.Means.{NMeans, NodeMeans, PartsMean, TimesMean, ManyMean, LeadMean, means_at, means_lits, means_spare, means_pad, means_null, means_field, means_rest, means_seq, means_choice, means_times, means_many, means_cut, means_trunc, means_window, means_named, parts_end, parts_next, times_end, times_next, many_end, many_next, lead_last, lead_next}
 use Rattle.csn_desc.specs.Formed.{IsDescription}
 use Rattle.csn_desc.proofs.Nodewise.{meaning_at}
 use Rattle.csn_desc.proofs.Splits.{splits, inside, behind}
 use Rattle.csn_look.specs.Ends.{InEnds, PartsEnd, ManyEnd}
 use Rattle.csn_look.specs.Ends as end
-use Rattle.csn_look.specs.Starts.{InStart}
-use Rattle.csn_look.specs.Keys.{InKeys}
 use Rattle.csn_look.specs.Reached.{Reached, InFollow, reached_root}
 use Rattle.csn_look.proofs.ShapeFacts.{Shaped, shaped, Widths, no_widths, widths_kept, place-split}
 use Rattle.csn_look.proofs.NullableFacts.{nullable}
 use Rattle.csn_look.proofs.EndsFacts.{ends}
 use Rattle.csn_look.proofs.StartFacts.{starts, many_start}
-use Rattle.csn_look.proofs.KeyFacts.{Begun, keys}
-use Rattle.csn_look.proofs.FollowFacts.{next_of, Stands, Cuts, cuts, root_stands, choice_stands, named_stands, window_stands, seq_stands, lead_stands, last_stands, times_stands, many_stands}
+use Rattle.csn_look.proofs.KeyFacts.{keys}
+use Rattle.csn_look.proofs.FollowFacts.{next_of, Stands, cuts, root_stands, choice_stands, named_stands, window_stands, seq_stands, lead_stands, last_stands, times_stands, many_stands}
 use Rattle.csn_look.proofs.ReachFacts.{Turn, turn_first, turn_next, turn_reached, parts_end_more, many_end_more, seq_reached, lead_reached, choice_reached, window_reached, named_reached, many_reached}
-use Rattle.csn_certify.specs.declared.conflict.Conflict.{Conflict}
 use Rattle.csn_certify.specs.declared.conflict.Conflict.TheVariants.{TwoEmpty, NotFirm, Overlap, EmptyClash, LoopClash, NotLast}
-use Rattle.csn_certify.specs.Conflicts.{IsNull, IsLast, IsBegunBy, IsConflict, two_empty, choice_not_firm, overlap, empty_clash, loop_clash, not_last, Certified}
+use Rattle.csn_certify.specs.Conflicts.{IsNull, IsLast, IsBegunBy, two_empty, choice_not_firm, overlap, empty_clash, loop_clash, not_last, Certified}
 
 -- the bits are the same, and so are the trees
 pub record Same {T : Type 0} (b c : List ℕ) (t u : T) : Type 0 where
@@ -209,10 +206,10 @@ module _ (d : DescV) (most : ℕ) (shaped : Shaped d) (certified : Certified d m
         | inr real_i ↦ elim (is_null d h2) [
           | inl null_j ↦ no_empty y x at at_j at_i (λ same. absurd (omega arith)) null_j real_i reached widths (null_bits d null_j h2) h1 (sym e) s2
           | inr real_j ↦
-            let left = keys d most h1 in
-            let right = keys d most h2 in
-            certified (Overlap k (o % 8) i j left.word right.word)
-            (overlap left.mark right.mark at reached less at_i at_j real_i real_j left.key right.key (begun_both left.word left.rest right.word right.rest x y left.begins right.begins e))
+              let left = keys d most h1 in
+              let right = keys d most h2 in
+              certified (Overlap k (o % 8) i j left.word right.word)
+              (overlap left.mark right.mark at reached less at_i at_j real_i real_j left.key right.key (begun_both left.word left.rest right.word right.rest x y left.begins right.begins e))
         ]
       ]
 
@@ -251,9 +248,9 @@ module _ (d : DescV) (most : ℕ) (shaped : Shaped d) (certified : Certified d m
     one_node (means_choice {parts = parts} {j = j} {i = p} at1 h1) at x y reached widths (means_choice {j = k} {i = q} at2 h2) e s1 s2 =
         elim (order j k) [
           | equal_numbers same ↦
-            let part : p ≡ q = cc in
-            let cut = cuts parts j p at1 in
-            alternative j k same (one_tree h1 x y (choice_reached d at cut reached) widths (meaning_along d part h2) e (choice_stands d at cut s1) (choice_stands d at cut s2))
+              let part : p ≡ q = cc in
+              let cut = cuts parts j p at1 in
+              alternative j k same (one_tree h1 x y (choice_reached d at cut reached) widths (meaning_along d part h2) e (choice_stands d at cut s1) (choice_stands d at cut s2))
           | first_less less ↦ absurd (no_two x y at less at1 at2 reached widths h1 h2 e s1 s2)
           | second_less less ↦ absurd (no_two y x at less at2 at1 reached widths h2 h1 (sym e) s2 s1)
         ]
