@@ -16,6 +16,8 @@ use std::collections::BTreeMap;
 mod catalogue;
 #[cfg(test)]
 mod tests;
+#[cfg(test)]
+mod texts;
 
 /// How a run over memory ended, and what it wrote.
 #[derive(Debug, Drop)]
