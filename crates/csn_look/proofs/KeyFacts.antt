@@ -26,7 +26,7 @@ pub record Begun (P : List ℕ → Bool → Type 0) (b : List ℕ) : Type 0 wher
   pub begins : b ≡ word ++ rest
   pub whole : mark ≡ true → rest ≡ []
 
-spelled-octet : (run : List Symbol) (o p : ℕ) → o % 8 ≡ p % 8 → spelled run o ≡ spelled run p
+pub spelled-octet : (run : List Symbol) (o p : ℕ) → o % 8 ≡ p % 8 → spelled run o ≡ spelled run p
 spelled-octet [] o p same = refl
 spelled-octet (s ∷ run) o p same =
     let first : symbol_bit s o ≡ symbol_bit s p = symbol_bit-octet s o ∙ ap (λ x. symbol_bit s x) same ∙ sym (symbol_bit-octet s p) in
@@ -56,7 +56,7 @@ shorter most w whole P rest {b = b} is none make =
     ]
 
 -- the empty word, cut
-unread : {P : List ℕ → Bool → Type 0} (b : List ℕ) → P [] false → Begun P b
+pub unread : {P : List ℕ → Bool → Type 0} (b : List ℕ) → P [] false → Begun P b
 unread b key = record { word = []; mark = false; rest = b; key = key; begins = refl; whole = λ yes. absurd (cc) }
 
 -- the empty word, whole
@@ -64,7 +64,7 @@ no_bits : {P : List ℕ → Bool → Type 0} {b : List ℕ} → b ≡ [] → P [
 no_bits none key = record { word = []; mark = true; rest = []; key = key; begins = none; whole = λ yes. refl }
 
 -- words that are words of another kind
-as_key : {P Q : List ℕ → Bool → Type 0} {b : List ℕ} → ((x : List ℕ) (mark : Bool) → P x mark → Q x mark) → Begun P b → Begun Q b
+pub as_key : {P Q : List ℕ → Bool → Type 0} {b : List ℕ} → ((x : List ℕ) (mark : Bool) → P x mark → Q x mark) → Begun P b → Begun Q b
 as_key make h = record { word = h.word; mark = h.mark; rest = h.rest; key = make h.word h.mark h.key; begins = h.begins; whole = h.whole }
 
 -- all of the bits as a word
@@ -72,7 +72,7 @@ all_of : (most : ℕ) (w : List ℕ) (P : List ℕ → Bool → Type 0) {b : Lis
 all_of most w P is make = shorter most w true P [] (is ∙ sym (append-nil w)) (λ yes. refl) make
 
 module _ (d : DescV) (most : ℕ) where
-  octet_word : (o : ℕ) {b1 w : List ℕ} → b1 ≡ w → (P : ℕ → Type 0) → P ((o + length b1) % 8) → P ((o % 8 + length w) % 8)
+  pub octet_word : (o : ℕ) {b1 w : List ℕ} → b1 ≡ w → (P : ℕ → Type 0) → P ((o + length b1) % 8) → P ((o % 8 + length w) % 8)
   octet_word o {b1 = b1} {w = w} same P h =
       let place : (o + length b1) % 8 ≡ (o % 8 + length w) % 8 = let size = ap length same in omega arith in
       subst P place h
@@ -91,13 +91,13 @@ module _ (d : DescV) (most : ℕ) where
   times_key (Counted m field c) v o b counts h = unread b (keys_counted_times refl refl)
 
   -- a key with the mark that it has
-  marked_key : {i o : ℕ} {b : List ℕ} {mark : Bool} (h : Begun (InKeys d most i o) b) → h.mark ≡ mark → InKeys d most i o h.word mark
+  pub marked_key : {i o : ℕ} {b : List ℕ} {mark : Bool} (h : Begun (InKeys d most i o) b) → h.mark ≡ mark → InKeys d most i o h.word mark
   marked_key {i = i} {o = o} h is = let P : Bool → Type 0 = λ mark. InKeys d most i o h.word mark in subst P is h.key
 
-  whole_word : {P : List ℕ → Bool → Type 0} {b : List ℕ} (h : Begun P b) → h.mark ≡ true → b ≡ h.word
+  pub whole_word : {P : List ℕ → Bool → Type 0} {b : List ℕ} (h : Begun P b) → h.mark ≡ true → b ≡ h.word
   whole_word h all = h.begins ∙ ap (λ l. h.word ++ l) (h.whole all) ∙ append-nil h.word
 
-  cut_first : {i o : ℕ} {Q : List ℕ → Bool → Type 0} {b1 b : List ℕ} → ((x : List ℕ) → InKeys d most i o x false → Q x false) → (b2 : List ℕ) → b ≡ b1 ++ b2 → (h : Begun (InKeys d most i o) b1) → h.mark ≡ false → Begun Q b
+  pub cut_first : {i o : ℕ} {Q : List ℕ → Bool → Type 0} {b1 b : List ℕ} → ((x : List ℕ) → InKeys d most i o x false → Q x false) → (b2 : List ℕ) → b ≡ b1 ++ b2 → (h : Begun (InKeys d most i o) b1) → h.mark ≡ false → Begun Q b
   cut_first make b2 is h cuts =
       record {
         word = h.word;
@@ -108,7 +108,7 @@ module _ (d : DescV) (most : ℕ) where
         whole = λ yes. absurd (cc);
       }
 
-  both_words : (o : ℕ) (P : ℕ → List ℕ → Bool → Type 0) (Q : List ℕ → Bool → Type 0) (b1 b2 : List ℕ) {b : List ℕ} → b ≡ b1 ++ b2 → (w1 : List ℕ) → b1 ≡ w1 → Begun (P ((o + length b1) % 8)) b2 → ((w2 : List ℕ) (rest : Bool) (x : List ℕ) (mark : Bool) → P ((o % 8 + length w1) % 8) w2 rest → Cut most (w1 ++ w2) rest x mark → Q x mark) → Begun Q b
+  pub both_words : (o : ℕ) (P : ℕ → List ℕ → Bool → Type 0) (Q : List ℕ → Bool → Type 0) (b1 b2 : List ℕ) {b : List ℕ} → b ≡ b1 ++ b2 → (w1 : List ℕ) → b1 ≡ w1 → Begun (P ((o + length b1) % 8)) b2 → ((w2 : List ℕ) (rest : Bool) (x : List ℕ) (mark : Bool) → P ((o % 8 + length w1) % 8) w2 rest → Cut most (w1 ++ w2) rest x mark → Q x mark) → Begun Q b
   both_words o P Q b1 b2 is w1 agree h make =
       let here = octet_word o agree (λ p. P p h.word h.mark) h.key in
       shorter most (w1 ++ h.word) h.mark Q h.rest
@@ -140,7 +140,7 @@ module _ (d : DescV) (most : ℕ) where
     pub keys : {i o : ℕ} {v : Values} {b : List ℕ} {t : TreeV} → NMeans d i o v b t → Begun (InKeys d most i (o % 8)) b
     keys (means_at n at h) = as_key (λ x mark key. keys_at n at key) (node_keys h)
 
-    node_keys : {n : Node} {o : ℕ} {v : Values} {b : List ℕ} {t : TreeV} → NodeMeans d n o v b t → Begun (NodeKeys d most n (o % 8)) b
+    pub node_keys : {n : Node} {o : ℕ} {v : Values} {b : List ℕ} {t : TreeV} → NodeMeans d n o v b t → Begun (NodeKeys d most n (o % 8)) b
     node_keys {n = n} {o = o} (means_lits {run = run} h) =
         all_of most (spelled run (o % 8)) (NodeKeys d most n (o % 8)) (h ∙ spelled-octet run o (o % 8) (omega arith)) (λ x mark c. keys_lits c)
     node_keys {n = n} {o = o} {b = b} (means_spare {s = s} one h) =

@@ -7,3 +7,5 @@ pub mod StartFacts
 pub mod KeyFacts
 pub mod FollowFacts
 pub mod ReachFacts
+pub mod KeyMeant
+pub mod NearFacts

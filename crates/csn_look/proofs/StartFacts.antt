@@ -35,7 +35,7 @@ first_spare Sent s o a r b is h =
     let first : a ≡ symbol_bit s o = cc in
     ap (λ x. x ∷ []) (first ∙ symbol_bit-octet s o)
 
-bit_is : (a : ℕ) (r b : List ℕ) → b ≡ a ∷ r → IsBits b → a ≤ 1
+pub bit_is : (a : ℕ) (r b : List ℕ) → b ≡ a ∷ r → IsBits b → a ≤ 1
 bit_is a r b is h = let both : IsBits (a ∷ r) = IsBits-along (sym is) h in both.0
 
 module _ (d : DescV) (shaped : Shaped d) where
