@@ -31,21 +31,21 @@ all_left full (kept short is same) = record { word = is; mark = sym same ∙ ful
 all_left full (cut long is same) = absurd (cc)
 
 -- what is left of a word is a first piece of it
-cut_rest : {most : ℕ} {w x : List ℕ} {whole mark : Bool} → Cut most w whole x mark → (rest : List ℕ) × (w ≡ x ++ rest)
+pub cut_rest : {most : ℕ} {w x : List ℕ} {whole mark : Bool} → Cut most w whole x mark → (rest : List ℕ) × (w ≡ x ++ rest)
 cut_rest {w = w} (kept short is same) = ([], sym (append-nil w) ∙ ap (λ l. l ++ []) (sym is))
 cut_rest {most = most} {w = w} (cut long is same) = (drop most w, sym (take-append-drop most w) ∙ ap (λ l. l ++ drop most w) (sym is))
 
 -- a spare bit at an octet position is one at each place there
-spare_at : (reading : Reading) (s : Symbol) (o p : ℕ) → p ≡ o % 8 → (w : List ℕ) → length w ≡ 1 → IsSpare reading s p w → IsSpare reading s o w
+pub spare_at : (reading : Reading) (s : Symbol) (o p : ℕ) → p ≡ o % 8 → (w : List ℕ) → length w ≡ 1 → IsSpare reading s p w → IsSpare reading s o w
 spare_at Received s o p oct w one h = h
 spare_at Sent s o p oct [] one h = absurd (omega arith)
 spare_at Sent s o p oct (a ∷ []) one h = h ∙ ap (λ x. x ∷ []) (ap (λ q. symbol_bit s q) oct ∙ sym (symbol_bit-octet s o))
 spare_at Sent s o p oct (a ∷ (x ∷ w)) one h = absurd (omega arith)
 
-octet_next : (o p k : ℕ) → p ≡ o % 8 → (p + k) % 8 ≡ (o + k) % 8
+pub octet_next : (o p k : ℕ) → p ≡ o % 8 → (p + k) % 8 ≡ (o + k) % 8
 octet_next o p k is = omega arith
 
-octet_again : (o p : ℕ) → p ≡ o % 8 → p % 8 ≡ o % 8
+pub octet_again : (o p : ℕ) → p ≡ o % 8 → p % 8 ≡ o % 8
 octet_again o p is = omega arith
 
 module _ (d : DescV) (most : ℕ) where

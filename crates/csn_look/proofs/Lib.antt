@@ -9,3 +9,4 @@ pub mod FollowFacts
 pub mod ReachFacts
 pub mod KeyMeant
 pub mod NearFacts
+pub mod KeyFollowed

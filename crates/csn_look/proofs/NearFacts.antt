@@ -202,7 +202,7 @@ module _ (d : DescV) (most : ℕ) where
       near_as (λ x mark key. keys_times key) (subst P (sym same) h)
   repeat_near (Counted m field c) v o b counts h = near_begun (unread b (keys_counted_times refl refl))
 
-  held_along : {seen : List ℕ} {round : ℕ} {n m : Node} → n ≡ m → PartsFormed d.nodes (shows_earlier n) seen round (parts_of n) → PartsFormed d.nodes (shows_earlier m) seen round (parts_of m)
+  pub held_along : {seen : List ℕ} {round : ℕ} {n m : Node} → n ≡ m → PartsFormed d.nodes (shows_earlier n) seen round (parts_of n) → PartsFormed d.nodes (shows_earlier m) seen round (parts_of m)
   held_along {seen} {round} same h = let P : Node → Type 0 = λ n. PartsFormed d.nodes (shows_earlier n) seen round (parts_of n) in subst P same h
 
   -- a part of a well-formed node
