@@ -5,7 +5,6 @@ pub mod ProgressLemmas
 pub mod ResultLemmas
 pub mod ShowLemmas
 pub mod StandingLemmas
-pub mod TreeLemmas
 pub mod Words
 pub mod SimpleSlotFacts
 pub mod SimpleLists
@@ -14,3 +13,8 @@ pub mod SimpleRows
 pub mod SimpleMeaning
 pub mod SimpleAnswers
 pub mod SimpleTexts
+pub mod LabelsRead
+pub mod EachAnswered
+pub mod Extends
+pub mod TextDecided
+pub mod TreeTextDecided

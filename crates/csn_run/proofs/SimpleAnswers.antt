@@ -32,10 +32,10 @@ given : {A B : Type 0} (f : A → Option B) (o : Option A) (y : B) → option_an
 given f None y h = cc
 given f (Some x) y h = (x, refl, h)
 
-abbrev HasBody : RulesV → List ℕ → List Thing → Type 0
+abbrev pub HasBody : RulesV → List ℕ → List Thing → Type 0
 HasBody rules name things = (rule : Rule) × (rule_of rules name ≡ Some rule) × BodyIs rule.body things
 
-has_body : (rules : RulesV) (name : List ℕ) (things : List Thing) → things_of rules name ≡ Some things → HasBody rules name things
+pub has_body : (rules : RulesV) (name : List ℕ) (things : List Thing) → things_of rules name ≡ Some things → HasBody rules name things
 has_body [] name things h = cc
 has_body (rule ∷ []) name things h =
     let g = given (λ r. body_things r.body) (rule_of (rule ∷ []) name) things h in
@@ -127,7 +127,7 @@ fit_all [] b = tt
 fit_all (Literal word ∷ ts) b = (lit< tt, fit_all ts (drop (length (thing_slots (Literal word))) b))
 fit_all (Field label n ∷ ts) b = (lit< tt, fit_all ts (drop (length (thing_slots (Field label n))) b))
 
-tree_fits : (ts : List Thing) (b : List ℕ) → Fits (tree_of ts b)
+pub tree_fits : (ts : List Thing) (b : List ℕ) → Fits (tree_of ts b)
 tree_fits [] b = (lit< tt, tt)
 tree_fits (Literal word ∷ []) b = lit< tt
 tree_fits (Field label n ∷ []) b = lit< tt

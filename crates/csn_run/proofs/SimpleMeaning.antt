@@ -184,7 +184,7 @@ fills_any n b h =
 begins_along : (p : Slots) {b c : List ℕ} → b ≡ c → Begins p c → Begins p b
 begins_along p e h = let P : List ℕ → Type 0 = λ l. Begins p l in subst P (sym e) h
 
-IsBits-drop : (n : ℕ) (b : List ℕ) → IsBits b → IsBits (drop n b)
+pub IsBits-drop : (n : ℕ) (b : List ℕ) → IsBits b → IsBits (drop n b)
 IsBits-drop zero b h = h
 IsBits-drop (suc n) [] h = tt
 IsBits-drop (suc n) (x ∷ b) h = IsBits-drop n b h.1
