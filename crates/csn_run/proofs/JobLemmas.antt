@@ -46,7 +46,7 @@ module _ (A B : List ℕ → List ℕ → Type 0) (w : (line answer : List ℕ) 
   within_weaker a = record { ended = a.ended; whole_text = a.whole_text; rest = a.rest; refused = a.refused; begins = a.begins; answers = answers_weaker a.answers; text_begins = a.text_begins }
 
   by_weaker : (fault : Fault) (given text : List ℕ) → StopsBy A fault given text → StopsBy B fault given text
-  by_weaker Read given text h = after_weaker h
+  by_weaker Read given text h = (h.0, after_weaker h.1)
   by_weaker Write given text h = within_weaker h
   by_weaker Memory given text h = within_weaker h
   by_weaker TooLong given text h = (h.0, after_weaker h.1)
@@ -56,7 +56,7 @@ module _ (A B : List ℕ → List ℕ → Type 0) (w : (line answer : List ℕ) 
 
 -- ---- ends of `show`
 
-is_simple : (rules : RulesV) (name : List ℕ) (things : List Thing) → things_of rules name ≡ Some things → IsSimple rules name
+pub is_simple : (rules : RulesV) (name : List ℕ) (things : List Thing) → things_of rules name ≡ Some things → IsSimple rules name
 is_simple rules name things e = subst IsSome (sym e) refl
 
 pub not_simple : (rules : RulesV) (name : List ℕ) → None ≡ things_of rules name → IsSimple rules name → ⊥

@@ -5,6 +5,7 @@ pub mod ProgressLemmas
 pub mod ResultLemmas
 pub mod ShowLemmas
 pub mod StandingLemmas
+pub mod Within
 pub mod Words
 pub mod SimpleSlotFacts
 pub mod SimpleLists
@@ -18,3 +19,4 @@ pub mod EachAnswered
 pub mod Extends
 pub mod TextDecided
 pub mod TreeTextDecided
+pub mod ResultExists

@@ -1,6 +1,6 @@
 -- What a run has written when it is over, over files, an input and an output that are told.
-use Rattle.std.proofs.Common.{◌≡◌, ℕ, ◌+◌, ◌<◌, ◌≤◌, Bool, true, false, ◌⊎◌, inl, inr, List, [], ◌∷◌, ◌++◌, length, take, drop, Option, Some, None, Result, Ok, Err, refl, sym, ◌∙◌, ap, subst, arith, append_assoc, length-append}
-use Rattle.std.proofs.lemmas.List.{append-nil, length-take, take_all, take-append-drop, take-append-le}
+use Rattle.std.proofs.Common.{◌≡◌, ℕ, ◌+◌, ◌<◌, ◌≤◌, Bool, true, false, ◌⊎◌, inl, inr, List, [], ◌∷◌, ◌++◌, length, take, Option, Some, None, Result, Ok, Err, refl, sym, ◌∙◌, ap, subst, arith, append_assoc, length-append}
+use Rattle.std.proofs.lemmas.List.{append-nil, length-take, take_all, take-append-le}
 use Rattle.std.specs.Option.{option_map}
 use Rattle.csn_desc.specs.declared.reading.Reading.{Reading}
 use Rattle.csn_io.specs.Got.{Gave, NothingLeft}
@@ -17,9 +17,13 @@ use Rattle.csn_run.specs.declared.top.TheConstants.{MOST_DESCRIPTION}
 use Rattle.csn_run.specs.Command.{IsShow}
 use Rattle.csn_run.specs.Lines.{between_feeds}
 use Rattle.csn_run.specs.OutLine.{ShowsLine}
-use Rattle.csn_run.specs.Progress.{Answers, EndsIn, StopsAfter, StopsWithin, StopsBy}
+use Rattle.csn_run.specs.Progress.{Answers, EndsIn, StopsBy}
 use Rattle.csn_run.specs.Job.{IsDescription, ShowEnds, unread, too_long, bad_description, all_lines, some_lines, IsEndOf, outcome_of}
 use Rattle.csn_run.specs.Result as whole
+use Rattle.csn_run.proofs.EachAnswered.{each_answered}
+use Rattle.csn_run.proofs.Extends.{extends}
+use Rattle.csn_run.proofs.ResultExists.{begins_from_empty}
+use Rattle.csn_run.proofs.Within.{within_input}
 
 -- ---- what is told
 
@@ -157,54 +161,12 @@ result_of words files file name reading input before left' taken' taken'' waits 
 
 -- ---- what stands written where a run was stopped
 
-within_from_after : (A : List ℕ → List ℕ → Type 0) (input text : List ℕ) → StopsAfter A input text → StopsWithin A input text
-within_from_after A input text a = record {
-  ended = a.ended;
-  whole_text = text;
-  rest = [];
-  refused = a.refused;
-  begins = λ more. (between_feeds (a.line ++ more), a.ends.whole more);
-  answers = a.answers;
-  text_begins = sym (append-nil text);
-}
-
--- of what begins the answers, so does the front
-within_shorter : (A : List ℕ → List ℕ → Type 0) (input text front rest : List ℕ) → text ≡ front ++ rest → StopsWithin A input text → StopsWithin A input front
-within_shorter A input text front rest split a = record {
-  ended = a.ended;
-  whole_text = a.whole_text;
-  rest = rest ++ a.rest;
-  refused = a.refused;
-  begins = a.begins;
-  answers = a.answers;
-  text_begins = a.text_begins ∙ ap (λ l. l ++ a.rest) split ∙ append_assoc front rest a.rest;
-}
-
--- what begins the answers to the front of an input begins those to all of it
-within_longer : (A : List ℕ → List ℕ → Type 0) (input given past text : List ℕ) → input ≡ given ++ past → StopsWithin A given text → StopsWithin A input text
-within_longer A input given past text split a = record {
-  ended = a.ended;
-  whole_text = a.whole_text;
-  rest = a.rest;
-  refused = a.refused;
-  begins = λ more. let b = a.begins (past ++ more) in (b.0, ap between_feeds (ap (λ l. l ++ more) split ∙ append_assoc given past more) ∙ b.1);
-  answers = a.answers;
-  text_begins = a.text_begins;
-}
-
-within_from_by : (A : List ℕ → List ℕ → Type 0) (fault : Fault) (given text : List ℕ) → StopsBy A fault given text → StopsWithin A given text
-within_from_by A Read given text h = within_from_after A given text h
-within_from_by A Write given text h = h
-within_from_by A Memory given text h = h
-within_from_by A TooLong given text h =
-    within_longer A given (take MOST_INPUT given) (drop MOST_INPUT given) text (sym (take-append-drop MOST_INPUT given)) (within_from_after A (take MOST_INPUT given) text h.1)
-
 -- what a run has written, of which the sink took the front of what waited
 pub begun_of : (words : List (List ℕ)) (files : List ℕ → Option (List ℕ)) (file name : List ℕ) (reading : Reading) (input before : List ℕ) (left' taken' taken'' : Option (List ℕ)) (waits front rest : List ℕ) (end : Result Outcome Fault) → IsShow words file name reading → ShowEnds (Some files) file name reading (Some input) left' (Some before) taken' waits end → waits ≡ front ++ rest → Appended taken' taken'' front → (written : List ℕ) × (taken'' ≡ Some (before ++ written)) × whole.BeginsResult words files input written
 begun_of words files file name reading input before left' taken' taken'' waits front rest end row (unread same_left same_taken none cause) split handed =
-    (front, handed ∙ ap (option_map (λ taken. taken ++ front)) same_taken, whole.begins_empty (no_front front rest (sym split ∙ none)))
+    (front, handed ∙ ap (option_map (λ taken. taken ++ front)) same_taken, begins_from_empty words files file input front (name, reading, row) (no_front front rest (sym split ∙ none)))
 begun_of words files file name reading input before left' taken' taken'' waits front rest end row (too_long begin begins long same_left same_taken none e) split handed =
-    (front, handed ∙ ap (option_map (λ taken. taken ++ front)) same_taken, whole.begins_empty (no_front front rest (sym split ∙ none)))
+    (front, handed ∙ ap (option_map (λ taken. taken ++ front)) same_taken, begins_from_empty words files file input front (name, reading, row) (no_front front rest (sym split ∙ none)))
 begun_of words files file name reading input before left' taken' taken'' waits front rest end row (bad_description text desc shows same_left same_taken e) split handed = (
   front,
   handed ∙ ap (option_map (λ taken. taken ++ front)) same_taken,
@@ -219,10 +181,12 @@ begun_of words files file name reading input before left' taken' taken'' waits f
     )
 begun_of words files file name reading input before left' taken' taken'' waits front rest end row (some_lines text rules fault desc has simple s e) split handed =
     let given = given_front input s.given left' s.source in
-    let text_is : s.took ++ waits ≡ (s.took ++ front) ++ rest = ap (λ l. s.took ++ l) split ∙ sym (append_assoc s.took front rest) in (
+    let text_is : s.took ++ waits ≡ (s.took ++ front) ++ rest = ap (λ l. s.took ++ l) split ∙ sym (append_assoc s.took front rest) in
+    let within = within_input (ShowsLine rules name reading) fault input s.given given.0 (s.took ++ waits) (s.took ++ front) rest given.1 text_is s.by in
+    let all = extends (ShowsLine rules name reading) (λ line some. each_answered text rules name reading has simple line) input (s.took ++ front) within in (
       s.took ++ front,
       taken_then before taken' taken'' s.took front s.sink handed,
-      whole.begins_lines file name text reading rules row (whole_file files file text desc) desc.fits has simple (within_longer (ShowsLine rules name reading) input s.given given.0 (s.took ++ front) given.1 (within_shorter (ShowsLine rules name reading) s.given (s.took ++ waits) (s.took ++ front) rest text_is (within_from_by (ShowsLine rules name reading) fault s.given (s.took ++ waits) s.by))),
+      whole.begins_whole all.0 all.1 (file, name, reading, text, row, whole_file files file text desc, whole.shown rules desc.fits has simple all.2),
     )
 
 -- ---- a fault of the outside while it is read
@@ -269,7 +233,7 @@ read_of words files file name reading input before left' taken' taken'' waits en
         fits = desc.fits;
         are = has;
         simple = simple;
-        stopped = subst (λ (f : Fault). StopsBy (ShowsLine rules name reading) f s.given (s.took ++ waits)) is_read s.by;
+        stopped = (subst (λ (f : Fault). StopsBy (ShowsLine rules name reading) f s.given (s.took ++ waits)) is_read s.by).1;
       }),
     )
 

@@ -1,54 +1,83 @@
 -- What a job over the lines of an input has done when it goes on, ends or stops.
 use Rattle.std.proofs.Common.{◌≡◌, ℕ, ◌+◌, ◌-◌, ◌<◌, ◌≤◌, ◌⊎◌, inl, inr, Bool, ◌||◌, Option, List, [], ◌∷◌, ◌++◌, length, take, sym, ◌∙◌, ap, subst, arith, append_assoc, length-append}
-use Rattle.std.proofs.lemmas.List.{append-nil}
+use Rattle.std.proofs.lemmas.List.{append-nil, take_all}
 use Rattle.std.proofs.Math.Seq.{take-append-add}
 use Rattle.csn_io.specs.Got.{Gave, NothingLeft}
 use Rattle.csn_run.specs.declared.fault.Fault.{Fault}
-use Rattle.csn_run.specs.declared.fault.Fault.TheVariants.{Write, Memory, TooLong}
+use Rattle.csn_run.specs.declared.fault.Fault.TheVariants.{Read, Write, Memory, TooLong}
 use Rattle.csn_run.specs.declared.lines.TheConstants.{MOST_INPUT}
 use Rattle.csn_run.specs.Lines.{between_feeds}
 use Rattle.csn_run.specs.Progress.{Answers, AddsAnswers, EndsIn, Advances, PassesOn, HaltsAt, AnswersAll, StopsWithin, StopsBy, Stops}
 use Rattle.csn_run.proofs.LinesLemmas.{between_feeds-one}
 use Rattle.csn_io.proofs.Told.{appended_more, gave_more}
 use Rattle.csn_run.proofs.ProgressLemmas.{adds_more, advances_more, Standing}
+use Rattle.csn_run.proofs.Within.{within_longer, take_longer}
 
 -- the answers, where they are all that is written
 pub answers_of : (Answer : List ℕ → List ℕ → Type 0) (pieces : List (List ℕ)) (new : List ℕ) (r : Bool) → AddsAnswers Answer pieces [] new r → Answers Answer pieces new r
 answers_of Answer pieces new r a = subst (λ (t : List ℕ). Answers Answer pieces t r) (sym a.new_is) a.answers
 
 -- a fault of the sink, or want of memory, stops a job within the input
-pub stops_by_within : (Answer : List ℕ → List ℕ → Type 0) (fault : Fault) (given text : List ℕ) → (fault ≡ Write) ⊎ (fault ≡ Memory) → StopsWithin Answer given text → StopsBy Answer fault given text
+pub stops_by_within : (Answer : List ℕ → List ℕ → Type 0) (fault : Fault) (given text : List ℕ) → (fault ≡ Write) ⊎ (fault ≡ Memory) → StopsWithin Answer (take MOST_INPUT given) text → StopsBy Answer fault given text
 stops_by_within Answer fault given text cause h =
     elim cause [ inl e ↦ subst (λ f. StopsBy Answer f given text) (sym e) h | inr e ↦ subst (λ f. StopsBy Answer f given text) (sym e) h ]
 
 -- a job stops in a piece of which it went through `fed`
-pub stops_halted : (Answer : List ℕ → List ℕ → Type 0) (fault : Fault) (left left' left'' taken taken' taken'' : Option (List ℕ)) (line waits waits' piece fed past : List ℕ) (r : Bool) (room : ℕ) → Standing Answer left left' taken taken' line waits r room → Gave left' left'' piece → piece ≡ fed ++ past → HaltsAt Answer (line ++ fed) taken' taken'' waits' → (fault ≡ Write) ⊎ (fault ≡ Memory) → Stops Answer fault left left'' taken taken'' waits'
-stops_halted Answer fault left left' left'' taken taken' taken'' line waits waits' piece fed past r room st gave is h cause = record {
-  given = st.given ++ piece;
-  took = st.took ++ h.took;
-  source = gave_more _ _ _ _ _ st.source gave;
-  sink = appended_more _ _ _ _ _ st.sink h.sink;
-  by = stops_by_within Answer fault _ _ cause (record {
-    ended = st.advances.ended ++ h.halts.ended;
-    whole_text = st.took ++ h.text;
-    rest = h.rest;
-    refused = r || h.halts.refused;
-    begins = λ more. (
-      (h.halts.begins (past ++ more)).0,
-      ap (λ l. between_feeds ((st.given ++ l) ++ more)) is
-          ∙ ap between_feeds (regroup st.given fed past more)
-          ∙ st.advances.ends.whole (fed ++ (past ++ more))
-          ∙ ap (λ l. st.advances.ended ++ between_feeds l) (sym (append_assoc line fed (past ++ more)))
-          ∙ ap (λ l. st.advances.ended ++ l) (h.halts.begins (past ++ more)).1
-          ∙ sym (append_assoc st.advances.ended h.halts.ended _),
-    );
-    answers = answers_of Answer _ _ _ (adds_more Answer st.advances.ended h.halts.ended [] st.took (st.took ++ h.text) r h.halts.refused st.advances.adds (record { text = h.halts.adds.text; answers = h.halts.adds.answers; new_is = ap (λ l. st.took ++ l) h.halts.adds.new_is }));
-    text_begins = ap (λ l. st.took ++ l) h.text_begins ∙ simp append_assoc;
-  });
+pub stops_halted : (Answer : List ℕ → List ℕ → Type 0) (fault : Fault) (left left' left'' taken taken' taken'' : Option (List ℕ)) (line waits waits' piece fed past : List ℕ) (r : Bool) (room : ℕ) → Standing Answer left left' taken taken' line waits r room → Gave left' left'' piece → piece ≡ fed ++ past → length fed < room → HaltsAt Answer (line ++ fed) taken' taken'' waits' → (fault ≡ Write) ⊎ (fault ≡ Memory) → Stops Answer fault left left'' taken taken'' waits'
+stops_halted Answer fault left left' left'' taken taken' taken'' line waits waits' piece fed past r room st gave is few h cause =
+    let front : List ℕ = st.given ++ fed in
+    let fits : length front ≤ MOST_INPUT = omega (arith, st.room_is, length-append st.given fed) in
+    let longer = take_longer MOST_INPUT front past fits in
+    let whole : take MOST_INPUT (st.given ++ piece) ≡ front ++ longer.0 = ap (take MOST_INPUT) (ap (λ l. st.given ++ l) is ∙ sym (append_assoc st.given fed past)) ∙ longer.1 in
+    record {
+      given = st.given ++ piece;
+      took = st.took ++ h.took;
+      source = gave_more _ _ _ _ _ st.source gave;
+      sink = appended_more _ _ _ _ _ st.sink h.sink;
+      by = stops_by_within Answer fault _ _ cause (within_longer Answer (take MOST_INPUT (st.given ++ piece)) front longer.0 _ whole (record {
+        ended = st.advances.ended ++ h.halts.ended;
+        whole_text = st.took ++ h.text;
+        rest = h.rest;
+        refused = r || h.halts.refused;
+        begins = λ more. (
+          (h.halts.begins more).0,
+          ap between_feeds (append_assoc st.given fed more)
+              ∙ st.advances.ends.whole (fed ++ more)
+              ∙ ap (λ l. st.advances.ended ++ between_feeds l) (sym (append_assoc line fed more))
+              ∙ ap (λ l. st.advances.ended ++ l) (h.halts.begins more).1
+              ∙ sym (append_assoc st.advances.ended h.halts.ended _),
+        );
+        answers = answers_of Answer _ _ _ (adds_more Answer st.advances.ended h.halts.ended [] st.took (st.took ++ h.text) r h.halts.refused st.advances.adds (record { text = h.halts.adds.text; answers = h.halts.adds.answers; new_is = ap (λ l. st.took ++ l) h.halts.adds.new_is }));
+        text_begins = ap (λ l. st.took ++ l) h.text_begins ∙ simp append_assoc;
+      }));
+    }
+
+-- what a job has taken from the source where it stands is within the limit of an input
+standing_fits : {Answer : List ℕ → List ℕ → Type 0} {left left' taken taken' : Option (List ℕ)} {line waits : List ℕ} {r : Bool} {room : ℕ} (st : Standing Answer left left' taken taken' line waits r room) → length st.given ≤ MOST_INPUT
+standing_fits st = omega (arith, st.room_is, st.some_room)
+
+-- all that a job has written where it stands
+standing_text : {Answer : List ℕ → List ℕ → Type 0} {left left' taken taken' : Option (List ℕ)} {line waits : List ℕ} {r : Bool} {room : ℕ} (st : Standing Answer left left' taken taken' line waits r room) → st.took ≡ st.took ++ waits
+standing_text st = sym (append-nil st.took) ∙ ap (λ l. st.took ++ l) (sym st.none_waits)
+
+-- a job stops where a fault of the source gives it no more
+pub stops_read : (Answer : List ℕ → List ℕ → Type 0) (left left' left'' taken taken' : Option (List ℕ)) (line waits : List ℕ) (r : Bool) (room : ℕ) → Standing Answer left left' taken taken' line waits r room → left'' ≡ left' → Stops Answer Read left left'' taken taken' waits
+stops_read Answer left left' left'' taken taken' line waits r room st stays = record {
+  given = st.given;
+  took = st.took;
+  source = subst (λ (o : Option (List ℕ)). Gave left o st.given) (sym stays) st.source;
+  sink = st.sink;
+  by = (
+    standing_fits st,
+    record {
+      ended = st.advances.ended;
+      line = line;
+      refused = r;
+      ends = st.advances.ends;
+      answers = subst (λ (t : List ℕ). Answers Answer st.advances.ended t r) (standing_text st) (answers_of Answer _ _ _ st.advances.adds);
+    },
+  );
 }
-  where
-    regroup : (a b c d : List ℕ) → (a ++ (b ++ c)) ++ d ≡ a ++ (b ++ (c ++ d))
-    regroup a b c d = simp append_assoc
 
 -- a job stops where no memory answers its last line
 pub stops_last : (Answer : List ℕ → List ℕ → Type 0) (left left' left'' taken taken' : Option (List ℕ)) (line waits waits' : List ℕ) (r : Bool) (room : ℕ) → Standing Answer left left' taken taken' line waits r room → left'' ≡ left' → waits' ≡ waits → Stops Answer Memory left left'' taken taken' waits'
@@ -57,7 +86,7 @@ stops_last Answer left left' left'' taken taken' line waits waits' r room st sta
   took = st.took;
   source = subst (λ (o : Option (List ℕ)). Gave left o st.given) (sym stays) st.source;
   sink = st.sink;
-  by = record {
+  by = subst (λ (l : List ℕ). StopsWithin Answer l (st.took ++ waits')) (sym (take_all MOST_INPUT st.given (standing_fits st))) (record {
     ended = st.advances.ended;
     whole_text = st.took;
     rest = [];
@@ -65,7 +94,7 @@ stops_last Answer left left' left'' taken taken' line waits waits' r room st sta
     begins = λ more. (between_feeds (line ++ more), st.advances.ends.whole more);
     answers = answers_of Answer _ _ _ st.advances.adds;
     text_begins = sym (append-nil st.took) ∙ ap (λ l. st.took ++ l) (sym (same ∙ st.none_waits)) ∙ sym (append-nil (st.took ++ waits'));
-  };
+  });
 }
 
 -- the last line is answered too

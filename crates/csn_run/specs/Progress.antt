@@ -89,11 +89,12 @@ pub record StopsWithin (Answer : List ℕ → List ℕ → Type 0) (input : List
   pub answers : Answers Answer ended whole_text refused
   pub text_begins : whole_text ≡ text ++ rest
 
--- where a job stopped that met a fault, by what the source had given and what was written
+-- where a job stopped that met a fault, by what the source had given and what was written. No line is
+-- answered that does not end within the limit of an input
 abbrev pub StopsBy : (List ℕ → List ℕ → Type 0) → Fault → List ℕ → List ℕ → Type 0
-StopsBy Answer Read given text = StopsAfter Answer given text
-StopsBy Answer Write given text = StopsWithin Answer given text
-StopsBy Answer Memory given text = StopsWithin Answer given text
+StopsBy Answer Read given text = (length given ≤ MOST_INPUT) × StopsAfter Answer given text
+StopsBy Answer Write given text = StopsWithin Answer (take MOST_INPUT given) text
+StopsBy Answer Memory given text = StopsWithin Answer (take MOST_INPUT given) text
 StopsBy Answer TooLong given text = (length given ≡ MOST_INPUT + 1) × StopsAfter Answer (take MOST_INPUT given) text
 
 -- a fault stopped a job over the lines of an input

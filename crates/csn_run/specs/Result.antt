@@ -1,7 +1,7 @@
 -- What a run writes, and how it ends: for the words, the files that they name and the whole input. The
 -- order of the ends is this project's own choice: first the length of the description, then what it is,
 -- then the lines.
-use Rattle.std.specs.Prelude.{◌≡◌, ℕ, ◌<◌, ◌≤◌, Bool, if◌then◌else◌, List, [], ◌∷◌, ◌++◌, length, take, codes, Option, Some}
+use Rattle.std.specs.Prelude.{◌≡◌, ℕ, ◌<◌, ◌≤◌, Bool, if◌then◌else◌, List, [], ◌∷◌, ◌++◌, length, take, codes, Option, Some, None}
 use Rattle.std.specs.Fmt.{decimal}
 use Rattle.csn_desc.specs.declared.reading.Reading.{Reading}
 use Rattle.csn_grammar.specs.RulesV.{RulesV}
@@ -10,10 +10,10 @@ use Rattle.csn_run.specs.declared.ended.Ended.{Ended}
 use Rattle.csn_run.specs.declared.ended.Ended.TheVariants.{Done, SomeRefused, Usage, BadDescription, NotCertified, ReadFault, WriteFault, NoMemory, TooLong}
 use Rattle.csn_run.specs.declared.lines.TheConstants.{MOST_INPUT}
 use Rattle.csn_run.specs.declared.top.TheConstants.{MOST_DESCRIPTION}
-use Rattle.csn_run.specs.Command.{IsShow}
+use Rattle.csn_run.specs.Command.{IsShow, NamesFile}
 use Rattle.csn_run.specs.Lines.{between_feeds}
 use Rattle.csn_run.specs.OutLine.{ShowsLine}
-use Rattle.csn_run.specs.Progress.{Answers, EndsIn, StopsAfter, StopsWithin}
+use Rattle.csn_run.specs.Progress.{Answers, EndsIn, StopsAfter}
 use Rattle.csn_run.specs.Simple.{IsSimple}
 
 -- the end of a command that answered all lines, by whether it refused one
@@ -61,15 +61,13 @@ IsFinished WriteFault = ⊥
 IsFinished NoMemory = ⊥
 IsFinished TooLong = Unit {0}
 
--- what stands written where a run was stopped: nothing, the front of what a whole run writes, or the front
--- of the answers to some of the first lines of the input
+-- what stands written however a run ended: nothing where the file that the words name is not there, and else
+-- the front of what a whole run writes
 pub data BeginsResult (words : List (List ℕ)) (files : List ℕ → Option (List ℕ)) (input written : List ℕ) : Type 0 where
-  begins_empty : written ≡ [] → BeginsResult words files input written
+  begins_none : (file : List ℕ) → NamesFile words file → files file ≡ None → written ≡ []
+      → BeginsResult words files input written
   begins_whole : (rest : List ℕ) (ended : Ended) → Result words files input (written ++ rest) ended
       → BeginsResult words files input written
-  begins_lines : (file name text : List ℕ) (reading : Reading) (rules : RulesV) → IsShow words file name reading
-      → files file ≡ Some text → length text ≤ MOST_DESCRIPTION → HasRules text rules → IsSimple rules name
-      → StopsWithin (ShowsLine rules name reading) input written → BeginsResult words files input written
 
 -- what stands written after a fault of the source, which had given these bytes: the answers to the lines
 -- that had ended in them, and nothing else

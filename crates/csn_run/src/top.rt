@@ -264,7 +264,7 @@ pub fn run<B: Shelf, S: Source, K: Sink>(
         → (written : List ℕ) × (K.taken out.new ≡ Some (before ++ written))
         × Result (map string_bytes words.now) files whole written result }
 
-    // However it ends, what is written begins that.
+    // However it ends, what is written begins the result. Nothing is written where the file is not there.
     ensures begins { result ≢ Ended.Usage → (files : List ℕ → Option (List ℕ)) (whole before : List ℕ)
         → B.files shelf.old ≡ Some files → S.left input.old ≡ Some whole → K.taken out.old ≡ Some before
         → (written : List ℕ) × (K.taken out.new ≡ Some (before ++ written))

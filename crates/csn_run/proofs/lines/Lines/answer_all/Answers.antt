@@ -4,14 +4,14 @@ use Rattle.std.proofs.lemmas.Result.{err_from_is_err_and}
 use Rattle.csn_run.specs.declared.fault.Fault.TheVariants.{Write, Memory}
 use Rattle.csn_run.specs.Progress.{Stops}
 use Rattle.csn_run.proofs.OutsideLemmas.{last_byte}
-use Rattle.csn_run.proofs.StandingLemmas.{stops_halted, stops_last, answers_last, standing_more, stops_too_long}
+use Rattle.csn_run.proofs.StandingLemmas.{stops_halted, stops_read, stops_last, answers_last, standing_more, stops_too_long}
 use Rattle.csn_run.proofs.lines.Lines.answer_all.Goals as goal
 
 pub returns-in_err-pass_piece-in-Bytes-clause-err : goal.returns-in_err-pass_piece-in-Bytes-clause-err
 returns-in_err-pass_piece-in-Bytes-clause-err g c =
     let p = err_from_is_err_and c.from_residual.result c.from_residual.ensures.1 in
     let past = last_byte c.in-Bytes.n c.take_piece.new.buffer c.in-Bytes.ensures.at_least_one c.in-Bytes.ensures.within in
-    rw p.1 (stops_halted _ _ _ _ _ _ _ _ _ _ _ _ _ _ _ _ c.pieces.invariant.standing c.in-Bytes.ensures.gave past.1 c.in_err-pass_piece-in-Bytes.ensures.err (subst (λ f. (f ≡ Write) ⊎ (f ≡ Memory)) (sym p.2) c.in_err-pass_piece-in-Bytes.ensures.causes))
+    rw p.1 (stops_halted _ _ _ _ _ _ _ _ _ _ _ _ _ _ _ _ c.pieces.invariant.standing c.in-Bytes.ensures.gave past.1 (omega (arith, length-take (c.in-Bytes.n - 1) c.take_piece.new.buffer, c.in-Bytes.ensures.within, c.in-Bytes.ensures.at_least_one, c.if-n-room.true)) c.in_err-pass_piece-in-Bytes.ensures.err (subst (λ f. (f ≡ Write) ⊎ (f ≡ Memory)) (sym p.2) c.in_err-pass_piece-in-Bytes.ensures.causes))
 
 pub returns-in-Bytes-clause-err : goal.returns-in-Bytes-clause-err
 returns-in-Bytes-clause-err g c =
@@ -21,7 +21,7 @@ returns-in-Bytes-clause-err g c =
 pub returns-in_err-pass_piece-in-Bytes-2-clause-err : goal.returns-in_err-pass_piece-in-Bytes-2-clause-err
 returns-in_err-pass_piece-in-Bytes-2-clause-err g c =
     let p = err_from_is_err_and c.from_residual-in_err-pass_piece-in-Bytes-2.result c.from_residual-in_err-pass_piece-in-Bytes-2.ensures.1 in
-    rw p.1 (stops_halted _ _ _ _ _ _ _ _ _ _ _ _ _ [] _ _ c.pieces.invariant.standing c.in-Bytes.ensures.gave (sym (append-nil _)) c.in_err-pass_piece-in-Bytes-2.ensures.err (subst (λ f. (f ≡ Write) ⊎ (f ≡ Memory)) (sym p.2) c.in_err-pass_piece-in-Bytes-2.ensures.causes))
+    rw p.1 (stops_halted _ _ _ _ _ _ _ _ _ _ _ _ _ [] _ _ c.pieces.invariant.standing c.in-Bytes.ensures.gave (sym (append-nil _)) (omega (arith, length-take c.in-Bytes.n c.take_piece.new.buffer, c.in-Bytes.ensures.room, c.if-n-room.false)) c.in_err-pass_piece-in-Bytes-2.ensures.err (subst (λ f. (f ≡ Write) ⊎ (f ≡ Memory)) (sym p.2) c.in_err-pass_piece-in-Bytes-2.ensures.causes))
 
 pub pieces-preserved : goal.pieces-preserved
 pieces-preserved g c = record {
@@ -41,3 +41,6 @@ pub returns-in-End-clause-ok : goal.returns-in-End-clause-ok
 returns-in-End-clause-ok g c =
     let a = c.in_ok-end_line-in-End.ensures.ok in
     answers_last _ _ _ _ _ _ _ _ _ _ _ _ _ c.pieces.invariant.standing c.in-End.ensures.end c.in-End.ensures.left_stays a.1 a.2
+
+pub returns-in-Failed-clause-err : goal.returns-in-Failed-clause-err
+returns-in-Failed-clause-err g c = stops_read _ _ _ _ _ _ _ _ _ _ c.pieces.invariant.standing c.in-Failed.ensures.left_stays
