@@ -20,3 +20,6 @@ pub mod Extends
 pub mod TextDecided
 pub mod TreeTextDecided
 pub mod ResultExists
+pub mod OnePlace
+pub mod OneAnswer
+pub mod OneResult

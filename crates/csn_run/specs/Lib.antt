@@ -8,3 +8,4 @@ pub mod Simple
 pub mod SimpleSlots
 pub mod Result
 pub mod Job
+pub mod Laws

@@ -4,6 +4,7 @@
 mod command;
 mod ended;
 mod fault;
+pub mod laws;
 mod lines;
 mod output;
 mod show;
