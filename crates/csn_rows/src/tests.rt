@@ -8,6 +8,13 @@ use std::test::Fail;
 /// The description of most examples.
 const FIELDS: &[u8] = b"<M> ::= <A : bit (3)> 0 <B : bit (4)> ;";
 
+/// The words of most examples.
+const SHOW: &[&str] = &["show", "F", "M", "received"];
+
+/// An old text of every form: nothing, a number, no bits, alternatives, rows, labels and digits.
+const OLD: &[u8] =
+    b"[. <A>=3'5 b #16383:[] <GPRS Cell/2 o'k>=b11111111111111111111111111111111111111111111111111111111111111111 [64'18446744073709551615]]";
+
 fn words_of(alloc: Global, words: &[&str]) -> Result<Vec<String>, AllocError> {
     let mut owned = Vec::new(alloc);
     for word in words {
@@ -26,14 +33,22 @@ fn file(alloc: Global, text: &[u8]) -> Result<BTreeMap<String, Vec<u8>>, AllocEr
 
 /// `show F M received` over the file and the input.
 fn shown(alloc: Global, text: &[u8], input: &[u8]) -> Result<Ran, AllocError> {
-    let words = words_of(alloc, &["show", "F", "M", "received"])?;
+    let words = words_of(alloc, SHOW)?;
     let input = Vec::from_slice(alloc, input)?;
     run_in_memory(alloc, &words, file(alloc, text)?, input)
 }
 
-/// The same over a source and a sink that move so many bytes in a call, and of which some calls fail.
-fn shown_in_pieces(
+/// `migrate` over the input.
+fn migrated(alloc: Global, input: &[u8]) -> Result<Ran, AllocError> {
+    let words = words_of(alloc, &["migrate"])?;
+    let input = Vec::from_slice(alloc, input)?;
+    run_in_memory(alloc, &words, BTreeMap::new(alloc), input)
+}
+
+/// A run over a source and a sink that move so many bytes in a call, and of which some calls fail.
+fn ran_in_pieces(
     alloc: Global,
+    words: &[&str],
     input: &[u8],
     most: u32,
     failing_takes: Vec<u32>,
@@ -41,7 +56,7 @@ fn shown_in_pieces(
 ) -> Result<Ran, AllocError>
     requires { 1 ≤ most }
 {
-    let words = words_of(alloc, &["show", "F", "M", "received"])?;
+    let words = words_of(alloc, words)?;
     let mut shelf = MemShelf::new(file(alloc, FIELDS)?, Vec::new(alloc));
     let mut source = MemSource::new(Vec::from_slice(alloc, input)?, most, failing_takes);
     let mut sink = MemSink::new(alloc, most, failing_puts);
@@ -92,6 +107,58 @@ fn blocks_are_shown(rt: HostRuntime) -> Result<(), Fail> {
 }
 
 #[test]
+fn old_texts_are_migrated(rt: HostRuntime) -> Result<(), Fail> {
+    let cases = [
+        (b".\n".as_slice(), b"ok .\n".as_slice(), 0),
+        (b"3'5\n", b"ok 3'5\n", 0),
+        (
+            b"64'18446744073709551615\n",
+            b"ok 64'18446744073709551615\n",
+            0,
+        ),
+        (b"64'18446744073709551616\n", b"bad 22\n", 1),
+        (b"b\n", b"ok b\n", 0),
+        (b"b1\n", b"bad 2\n", 1),
+        (
+            b"b11111111111111111111111111111111111111111111111111111111111111111\n",
+            b"ok xFFFFFFFFFFFFFFFF80/1\n",
+            0,
+        ),
+        (b"xFF\n", b"bad 0\n", 1),
+        (b"xFFFFFFFFFFFFFFFF80/1\n", b"bad 0\n", 1),
+        (b"[]\n[. .]\n[. ]\n", b"ok []\nok [. .]\nbad 3\n", 1),
+        (b"#16383:.\n#16384:.\n", b"ok #16383:.\nbad 5\n", 1),
+        (b"<A b>=1'0\n<A>=3'9\n", b"ok <A b>=1'0\nbad 6\n", 1),
+        (b".\r\n\n\r\n. \n.", b"ok .\nbad 1\nok .\n", 1),
+        (
+            OLD,
+            b"ok [. <A>=3'5 b #16383:[] <GPRS Cell/2 o'k>=xFFFFFFFFFFFFFFFF80/1 [64'18446744073709551615]]\n",
+            0,
+        ),
+    ];
+    for (input, text, status) in cases {
+        let ran = migrated(rt.alloc(), input)?;
+        expect(&rt, &ran, text, status, "an old text");
+    }
+    Ok(())
+}
+
+#[test]
+fn every_front_of_an_old_text_is_refused_at_its_end(rt: HostRuntime) -> Result<(), Fail> {
+    let alloc = rt.alloc();
+    let mut input = Vec::new(alloc);
+    let mut text = String::new(alloc);
+    for place in 1..OLD.len() {
+        input.extend_from_slice(&OLD[..place])?;
+        input.push(b'\n')?;
+        text.push_str(&format!(in alloc; "bad {place}\n")?)?;
+    }
+    let ran = migrated(alloc, &input)?;
+    expect(&rt, &ran, text.as_bytes(), 1, "a front of an old text");
+    Ok(())
+}
+
+#[test]
 fn texts_without_rules_are_refused(rt: HostRuntime) -> Result<(), Fail> {
     let alloc = rt.alloc();
     let mut deep = Vec::from_slice(alloc, b"<M> ::= ")?;
@@ -129,6 +196,8 @@ fn words_are_held_against_the_table(rt: HostRuntime) -> Result<(), Fail> {
         &["show", "F", "-M", "sent"],
         &["show", "F", "", "received"],
         &["show", "F", "M", "received", "more"],
+        &["migrate", "F"],
+        &["migrates"],
         &["soak", "uplink", "0"],
     ];
     for case in cases {
@@ -173,13 +242,53 @@ fn limits_are_kept(rt: HostRuntime) -> Result<(), Fail> {
 }
 
 #[test]
+fn limits_of_old_texts_are_kept(rt: HostRuntime) -> Result<(), Fail> {
+    let alloc = rt.alloc();
+    let mut leaf = vec![in alloc; b'0'; 524_290]?;
+    leaf[0] = b'b';
+    let ran = migrated(alloc, &leaf)?;
+    expect(&rt, &ran, b"bad 524289\n", 1, "a leaf that is too long");
+    leaf.truncate(524_289);
+    let ran = migrated(alloc, &leaf)?;
+    assert_eq!(rt; ran.text.len(), 131_077);
+    assert_eq!(rt; ran.ended.status(), 0);
+    let mut row = vec![in alloc; b'['; 64]?;
+    row.extend_from_slice(&vec![in alloc; b']'; 64]?)?;
+    let ran = migrated(alloc, &row)?;
+    assert_eq!(rt; ran.ended.status(), 0);
+    row.insert(0, b'[')?;
+    let ran = migrated(alloc, &row)?;
+    expect(&rt, &ran, b"bad 64\n", 1, "a tree that is too deep");
+    let mut input = vec![in alloc; b'\n'; 16_777_216]?;
+    input[0] = b'b';
+    input[16_777_215] = b'b';
+    let ran = migrated(alloc, &input)?;
+    expect(
+        &rt,
+        &ran,
+        b"ok b\nok b\n",
+        0,
+        "an input of the greatest length",
+    );
+    input.push(b'b')?;
+    let ran = migrated(alloc, &input)?;
+    expect(&rt, &ran, b"ok b\n", 8, "an input that is too long");
+    Ok(())
+}
+
+#[test]
 fn pieces_do_not_matter(rt: HostRuntime) -> Result<(), Fail> {
     let alloc = rt.alloc();
     let input = b"A5\r\nB5\n\nA0/6\nA0GG\nA5";
     let text = b"ok [<A>=3'5 . <B>=4'5]\nno 3 bit\nno 6 ended\nbad 1 2\nok [<A>=3'5 . <B>=4'5]\n";
+    let old = b"b\n<A>=3'9\n[3'5 .]";
+    let new = b"ok b\nbad 6\nok [3'5 .]\n";
     for most in [1, 2, 7, 4096] {
-        let ran = shown_in_pieces(alloc, input, most, Vec::new(alloc), Vec::new(alloc))?;
-        expect(&rt, &ran, text, 1, "pieces");
+        let ran = ran_in_pieces(alloc, SHOW, input, most, Vec::new(alloc), Vec::new(alloc))?;
+        expect(&rt, &ran, text, 1, "pieces of blocks");
+        let words = &["migrate"];
+        let ran = ran_in_pieces(alloc, words, old, most, Vec::new(alloc), Vec::new(alloc))?;
+        expect(&rt, &ran, new, 1, "pieces of old texts");
     }
     Ok(())
 }
@@ -190,13 +299,16 @@ fn faults_keep_what_was_answered(rt: HostRuntime) -> Result<(), Fail> {
     let input = b"B5\nA0/6\nA500\n";
     // Seven bytes in a call: the third call comes after 14 bytes, so after all three lines but the
     // second call's answers, which end in the middle of the second line.
-    let ran = shown_in_pieces(alloc, input, 7, vec![in alloc; 1]?, Vec::new(alloc))?;
+    let second = vec![in alloc; 1]?;
+    let ran = ran_in_pieces(alloc, SHOW, input, 7, second, Vec::new(alloc))?;
     expect(&rt, &ran, b"no 3 bit\n", 5, "the second take fails");
-    let ran = shown_in_pieces(alloc, input, 4096, Vec::new(alloc), vec![in alloc; 0]?)?;
+    let first = vec![in alloc; 0]?;
+    let ran = ran_in_pieces(alloc, SHOW, input, 4096, Vec::new(alloc), first)?;
     expect(&rt, &ran, b"", 6, "the first put fails");
-    let ran = shown_in_pieces(alloc, b"", 4096, Vec::new(alloc), vec![in alloc; 0]?)?;
+    let first = vec![in alloc; 0]?;
+    let ran = ran_in_pieces(alloc, SHOW, b"", 4096, Vec::new(alloc), first)?;
     expect(&rt, &ran, b"", 6, "the flush fails");
-    let words = words_of(alloc, &["show", "F", "M", "received"])?;
+    let words = words_of(alloc, SHOW)?;
     let ran = run_in_memory(
         alloc,
         &words,
@@ -204,5 +316,24 @@ fn faults_keep_what_was_answered(rt: HostRuntime) -> Result<(), Fail> {
         Vec::from_slice(alloc, b"A5\n")?,
     )?;
     expect(&rt, &ran, b"", 5, "no file");
+    Ok(())
+}
+
+#[test]
+fn faults_keep_what_was_migrated(rt: HostRuntime) -> Result<(), Fail> {
+    let alloc = rt.alloc();
+    let words = &["migrate"];
+    let input = b"b\n<A>=3'9\n.\n";
+    // The first seven bytes end in the second line, the next seven after the third.
+    let second = vec![in alloc; 1]?;
+    let ran = ran_in_pieces(alloc, words, input, 7, second, Vec::new(alloc))?;
+    expect(&rt, &ran, b"ok b\n", 5, "the second take fails");
+    // The first put takes the first line's answer, the second one is refused.
+    let second = vec![in alloc; 1]?;
+    let ran = ran_in_pieces(alloc, words, input, 7, Vec::new(alloc), second)?;
+    expect(&rt, &ran, b"ok b\n", 6, "the second put fails");
+    let first = vec![in alloc; 0]?;
+    let ran = ran_in_pieces(alloc, words, b"", 4096, Vec::new(alloc), first)?;
+    expect(&rt, &ran, b"", 6, "the flush fails");
     Ok(())
 }

@@ -1,3 +1,4 @@
+pub mod CommandLemmas
 pub mod JobLemmas
 pub mod LinesLemmas
 pub mod OutsideLemmas
@@ -19,7 +20,8 @@ pub mod EachAnswered
 pub mod Extends
 pub mod TextDecided
 pub mod TreeTextDecided
-pub mod ResultExists
 pub mod OnePlace
 pub mod OneAnswer
+pub mod JobAnswers
+pub mod ResultExists
 pub mod OneResult

@@ -1,5 +1,5 @@
 -- A run has one result.
-use Rattle.std.proofs.Common.{◌≡◌, ℕ, Bool, List, [], ◌∷◌, ◌++◌, take, codes, Option, Some, None, refl, sym, ◌∙◌, ap, subst, arith}
+use Rattle.std.proofs.Common.{◌≡◌, ℕ, ◌≤◌, Bool, List, [], ◌∷◌, ◌++◌, length, take, codes, Option, Some, None, refl, sym, ◌∙◌, ap, subst, arith}
 use Rattle.std.proofs.lemmas.List.{append-nil}
 use Rattle.std.specs.List.{AllZip, list_any}
 use Rattle.std.specs.Fmt.{decimal}
@@ -15,15 +15,15 @@ use Rattle.csn_grammar.proofs.CompleteRules.{one_list_of_rules}
 use Rattle.csn_grammar.proofs.Reading.{no_fault}
 use Rattle.csn_run.specs.declared.ended.Ended.{Ended}
 use Rattle.csn_run.specs.declared.lines.TheConstants.{MOST_INPUT}
-use Rattle.csn_run.specs.Command.{word_of}
+use Rattle.csn_run.specs.declared.top.TheConstants.{MOST_DESCRIPTION}
+use Rattle.csn_run.specs.Command.{word_of, IsShow, IsMigrate}
 use Rattle.csn_run.specs.Lines.{between_feeds, answered, text_of, is_refusal}
-use Rattle.csn_run.specs.OutLine.{ShowsLine}
 use Rattle.csn_run.specs.Progress.{Answers, EndsIn}
 use Rattle.csn_run.specs.Simple.{IsSimple}
-use Rattle.csn_run.specs.Result.{end_of, AnswersInput, answers_all, answers_front, Shows, long_text, no_rules, not_built, shown, Result}
+use Rattle.csn_run.specs.Result.{LineJob, showing, AnswersLine, AsksFor, asks_show, asks_migrate, end_of, AnswersInput, answers_all, answers_front, ShowsNone, long_text, no_rules, not_built, Result, no_line, lines}
 use Rattle.csn_run.proofs.LinesLemmas.{between_feeds-one}
 use Rattle.csn_run.proofs.OnePlace.{one_place}
-use Rattle.csn_run.proofs.OneAnswer.{one_answer}
+use Rattle.csn_run.proofs.JobAnswers.{one_in_job}
 
 -- ---- answers to lines
 
@@ -49,14 +49,14 @@ abbrev Written : List ℕ → Ended → List ℕ → Ended → Type 0
 Written w e v f = (w ≡ v) × (e ≡ f)
 
 module _ (Answer : List ℕ → List ℕ → Type 0) (one : (line a b : List ℕ) → Answer line a → Answer line b → a ≡ b) where
-  one_each : (lines answers others : List (List ℕ)) → AllZip Answer lines answers → AllZip Answer lines others → answers ≡ others
+  one_each : (found answers others : List (List ℕ)) → AllZip Answer found answers → AllZip Answer found others → answers ≡ others
   one_each [] [] [] h k = refl
   one_each [] [] (b ∷ others) h k = absurd k
   one_each [] (a ∷ answers) others h k = absurd h
-  one_each (line ∷ lines) [] others h k = absurd h
-  one_each (line ∷ lines) (a ∷ answers) [] h k = absurd k
-  one_each (line ∷ lines) (a ∷ answers) (b ∷ others) h k =
-      ap (λ x. x ∷ answers) (one line a b h.0 k.0) ∙ ap (λ l. b ∷ l) (one_each lines answers others h.1 k.1)
+  one_each (line ∷ found) [] others h k = absurd h
+  one_each (line ∷ found) (a ∷ answers) [] h k = absurd k
+  one_each (line ∷ found) (a ∷ answers) (b ∷ others) h k =
+      ap (λ x. x ∷ answers) (one line a b h.0 k.0) ∙ ap (λ l. b ∷ l) (one_each found answers others h.1 k.1)
 
   one_text : (pieces : List (List ℕ)) (text other : List ℕ) (refused refused' : Bool) → Answers Answer pieces text refused → Answers Answer pieces other refused' → (text ≡ other) × (refused ≡ refused')
   one_text pieces text other refused refused' a b =
@@ -67,12 +67,35 @@ module _ (Answer : List ℕ → List ℕ → Type 0) (one : (line a b : List ℕ
   one_input input w v e f (answers_all refused fits a is) (answers_all refused' fits' b is') =
       let same = one_text (between_feeds input) w v refused refused' a b in
       (same.0, is ∙ ap end_of same.1 ∙ sym is')
-  one_input input w v e f (answers_all refused fits a is) (answers_front lines line refused' long ends b is') = absurd (omega arith)
-  one_input input w v e f (answers_front lines line refused long ends a is) (answers_all refused' fits' b is') = absurd (omega arith)
-  one_input input w v e f (answers_front lines line refused long ends a is) (answers_front lines' line' refused' long' ends' b is') =
-      let pieces : lines ≡ lines' = one_end (take MOST_INPUT input) line line' lines lines' ends ends' in
-      let same = one_text lines' w v refused refused' (subst (λ (p : List (List ℕ)). Answers Answer p w refused) pieces a) b in
+  one_input input w v e f (answers_all refused fits a is) (answers_front found line refused' long ends b is') = absurd (omega arith)
+  one_input input w v e f (answers_front found line refused long ends a is) (answers_all refused' fits' b is') = absurd (omega arith)
+  one_input input w v e f (answers_front found line refused long ends a is) (answers_front found' line' refused' long' ends' b is') =
+      let pieces : found ≡ found' = one_end (take MOST_INPUT input) line line' found found' ends ends' in
+      let same = one_text found' w v refused refused' (subst (λ (p : List (List ℕ)). Answers Answer p w refused) pieces a) b in
       (same.0, is ∙ sym is')
+
+-- ---- what the words name
+
+one_reading_word : (r s : Reading) → word_of r ≡ word_of s → r ≡ s
+one_reading_word Received Received e = refl
+one_reading_word Received Sent e = cc
+one_reading_word Sent Received e = cc
+one_reading_word Sent Sent e = refl
+
+-- words of `show` name one file, one rule and one reading
+one_row : (words : List (List ℕ)) (file other name name' : List ℕ) (reading reading' : Reading) → IsShow words file name reading → IsShow words other name' reading' → (file ≡ other) × (name ≡ name') × (reading ≡ reading')
+one_row words file other name name' reading reading' row row' =
+    let all = sym row.words_are ∙ row'.words_are in
+    let read : word_of reading ≡ word_of reading' = cc in
+    (cc, cc, one_reading_word reading reading' read)
+
+not_both : (words : List (List ℕ)) (file name : List ℕ) (reading : Reading) → IsShow words file name reading → IsMigrate words → ⊥
+not_both words file name reading row is =
+    let all : codes "show" ∷ file ∷ name ∷ word_of reading ∷ [] ≡ codes "migrate" ∷ [] = sym row.words_are ∙ is in cc
+
+one_text_held : (files : List ℕ → Option (List ℕ)) (file other text text' : List ℕ) → file ≡ other → files file ≡ Some text → files other ≡ Some text' → text ≡ text'
+one_text_held files file other text text' same held held' =
+    let there : Some text ≡ Some text' = sym held ∙ ap files same ∙ held' in cc
 
 -- ---- `show`
 
@@ -81,44 +104,54 @@ one_rules text rules others a b =
     let same = one_reading text a.tokens b.tokens None None a.read b.read in
     one_list_of_rules (subst (λ (ts : List Token). AreRules (tokens_in text ts) rules) same.0 a.are) b.are
 
-one_shown : (name : List ℕ) (reading : Reading) (text input w v : List ℕ) (e f : Ended) → Shows name reading text input w e → Shows name reading text input v f → Written w e v f
-one_shown name reading text input w v e f (long_text long is end) (long_text long' is' end') = (is ∙ sym is', end ∙ sym end')
-one_shown name reading text input w v e f (long_text long is end) (no_rules place fits at is' end') = absurd (omega arith)
-one_shown name reading text input w v e f (long_text long is end) (not_built rules fits has not is' end') = absurd (omega arith)
-one_shown name reading text input w v e f (long_text long is end) (shown rules fits has simple a) = absurd (omega arith)
-one_shown name reading text input w v e f (no_rules place fits at is end) (long_text long is' end') = absurd (omega arith)
-one_shown name reading text input w v e f (no_rules place fits at is end) (no_rules place' fits' at' is' end') =
+one_none : (name text w v : List ℕ) (e f : Ended) → ShowsNone name text w e → ShowsNone name text v f → Written w e v f
+one_none name text w v e f (long_text long is end) (long_text long' is' end') = (is ∙ sym is', end ∙ sym end')
+one_none name text w v e f (long_text long is end) (no_rules place fits at is' end') = absurd (omega arith)
+one_none name text w v e f (long_text long is end) (not_built rules fits has not is' end') = absurd (omega arith)
+one_none name text w v e f (no_rules place fits at is end) (long_text long is' end') = absurd (omega arith)
+one_none name text w v e f (no_rules place fits at is end) (no_rules place' fits' at' is' end') =
     let same : place ≡ place' = one_place text place place' at at' in
     (is ∙ ap (λ p. codes "syntax " ++ (decimal p ++ 10 ∷ [])) same ∙ sym is', end ∙ sym end')
-one_shown name reading text input w v e f (no_rules place fits at is end) (not_built rules fits' has not is' end') = absurd (no_fault has at)
-one_shown name reading text input w v e f (no_rules place fits at is end) (shown rules fits' has simple a) = absurd (no_fault has at)
-one_shown name reading text input w v e f (not_built rules fits has not is end) (long_text long is' end') = absurd (omega arith)
-one_shown name reading text input w v e f (not_built rules fits has not is end) (no_rules place fits' at is' end') = absurd (no_fault has at)
-one_shown name reading text input w v e f (not_built rules fits has not is end) (not_built rules' fits' has' not' is' end') = (is ∙ sym is', end ∙ sym end')
-one_shown name reading text input w v e f (not_built rules fits has not is end) (shown rules' fits' has' simple a) =
-    absurd (not (subst (λ r. IsSimple r name) (one_rules text rules' rules has' has) simple))
-one_shown name reading text input w v e f (shown rules fits has simple a) (long_text long is end) = absurd (omega arith)
-one_shown name reading text input w v e f (shown rules fits has simple a) (no_rules place fits' at is end) = absurd (no_fault has at)
-one_shown name reading text input w v e f (shown rules fits has simple a) (not_built rules' fits' has' not is end) =
-    absurd (not (subst (λ r. IsSimple r name) (one_rules text rules rules' has has') simple))
-one_shown name reading text input w v e f (shown rules fits has simple a) (shown rules' fits' has' simple' b) =
-    let same : rules ≡ rules' = one_rules text rules rules' has has' in
-    one_input (ShowsLine rules' name reading) (one_answer rules' name reading simple') input w v e f (subst (λ (r : RulesV). AnswersInput (ShowsLine r name reading) input w e) same a) b
+one_none name text w v e f (no_rules place fits at is end) (not_built rules fits' has not is' end') = absurd (no_fault has at)
+one_none name text w v e f (not_built rules fits has not is end) (long_text long is' end') = absurd (omega arith)
+one_none name text w v e f (not_built rules fits has not is end) (no_rules place fits' at is' end') = absurd (no_fault has at)
+one_none name text w v e f (not_built rules fits has not is end) (not_built rules' fits' has' not' is' end') = (is ∙ sym is', end ∙ sym end')
 
-one_reading_word : (r s : Reading) → word_of r ≡ word_of s → r ≡ s
-one_reading_word Received Received e = refl
-one_reading_word Received Sent e = cc
-one_reading_word Sent Received e = cc
-one_reading_word Sent Sent e = refl
+-- no line is come to, or the lines are answered by the rules
+none_or_lines : (name text w : List ℕ) (e : Ended) → ShowsNone name text w e → (rules : RulesV) → length text ≤ MOST_DESCRIPTION → HasRules text rules → IsSimple rules name → ⊥
+none_or_lines name text w e (long_text long is end) rules fits has simple = omega arith
+none_or_lines name text w e (no_rules place fits' at is end) rules fits has simple = no_fault has at
+none_or_lines name text w e (not_built rules' fits' has' not is end) rules fits has simple =
+    not (subst (λ (r : RulesV). IsSimple r name) (one_rules text rules rules' has has') simple)
+
+-- ---- which job the words ask for
+
+one_job : (words : List (List ℕ)) (files : List ℕ → Option (List ℕ)) (job other : LineJob) → AsksFor words files job → AsksFor words files other → job ≡ other
+one_job words files job other (asks_show file name text reading rules row held fits has simple is) (asks_show file' name' text' reading' rules' row' held' fits' has' simple' is') =
+    let same = one_row words file file' name name' reading reading' row row' in
+    let texts : text ≡ text' = one_text_held files file file' text text' same.0 held held' in
+    let all : rules ≡ rules' = one_rules text' rules rules' (subst (λ (t : List ℕ). HasRules t rules) texts has) has' in
+    is ∙ ap (λ r. showing r name reading) all ∙ ap (λ n. showing rules' n reading) same.1 ∙ ap (λ r. showing rules' name' r) same.2 ∙ sym is'
+one_job words files job other (asks_show file name text reading rules row held fits has simple is) (asks_migrate row' is') = absurd (not_both words file name reading row row')
+one_job words files job other (asks_migrate row' is') (asks_show file name text reading rules row held fits has simple is) = absurd (not_both words file name reading row row')
+one_job words files job other (asks_migrate row is) (asks_migrate row' is') = is ∙ sym is'
+
+no_job : (words : List (List ℕ)) (files : List ℕ → Option (List ℕ)) (file name text w : List ℕ) (reading : Reading) (e : Ended) (job : LineJob) → IsShow words file name reading → files file ≡ Some text → ShowsNone name text w e → AsksFor words files job → ⊥
+no_job words files file name text w reading e job row held shows (asks_show file' name' text' reading' rules row' held' fits has simple is) =
+    let same = one_row words file file' name name' reading reading' row row' in
+    let texts : text ≡ text' = one_text_held files file file' text text' same.0 held held' in
+    let moved = subst (λ (n : List ℕ). ShowsNone n text w e) same.1 shows in
+    none_or_lines name' text' w e (subst (λ (t : List ℕ). ShowsNone name' t w e) texts moved) rules fits has simple
+no_job words files file name text w reading e job row held shows (asks_migrate row' is) = not_both words file name reading row row'
 
 pub one_result : (words : List (List ℕ)) (files : List ℕ → Option (List ℕ)) (input w v : List ℕ) (e f : Ended) → Result words files input w e → Result words files input v f → (w ≡ v) × (e ≡ f)
-one_result words files input w v e f (file, name, reading, text, row, held, a) (file', name', reading', text', row', held', b) =
-    let lists = sym row.words_are ∙ row'.words_are in
-    let files_same : file ≡ file' = cc in
-    let names : name ≡ name' = cc in
-    let read : word_of reading ≡ word_of reading' = cc in
-    let readings : reading ≡ reading' = one_reading_word reading reading' read in
-    let texts : text ≡ text' = (let there : Some text ≡ Some text' = sym held ∙ ap files files_same ∙ held' in cc) in
-    let moved = subst (λ (n : List ℕ). Shows n reading text input w e) names a in
-    let moved' = subst (λ (r : Reading). Shows name' r text input w e) readings moved in
-    one_shown name' reading' text' input w v e f (subst (λ (t : List ℕ). Shows name' reading' t input w e) texts moved') b
+one_result words files input w v e f (no_line file name text reading row held shows) (no_line file' name' text' reading' row' held' shows') =
+    let same = one_row words file file' name name' reading reading' row row' in
+    let texts : text ≡ text' = one_text_held files file file' text text' same.0 held held' in
+    let moved = subst (λ (n : List ℕ). ShowsNone n text w e) same.1 shows in
+    one_none name' text' w v e f (subst (λ (t : List ℕ). ShowsNone name' t w e) texts moved) shows'
+one_result words files input w v e f (no_line file name text reading row held shows) (lines job asked a) = absurd (no_job words files file name text w reading e job row held shows asked)
+one_result words files input w v e f (lines job asked a) (no_line file name text reading row held shows) = absurd (no_job words files file name text v reading f job row held shows asked)
+one_result words files input w v e f (lines job asked a) (lines job' asked' b) =
+    let same : job ≡ job' = one_job words files job job' asked asked' in
+    one_input (AnswersLine job') (one_in_job words files job' asked') input w v e f (subst (λ (j : LineJob). AnswersInput (AnswersLine j) input w e) same a) b

@@ -1,11 +1,9 @@
 -- What a run has written when it is over, over files, an input and an output that are told.
-use Rattle.std.proofs.Common.{◌≡◌, ℕ, ◌+◌, ◌<◌, ◌≤◌, Bool, true, false, ◌⊎◌, inl, inr, List, [], ◌∷◌, ◌++◌, length, take, Option, Some, None, Result, Ok, Err, refl, sym, ◌∙◌, ap, subst, arith, append_assoc, length-append}
-use Rattle.std.proofs.lemmas.List.{append-nil, length-take, take_all, take-append-le}
+use Rattle.std.proofs.Common.{◌≡◌, ℕ, ◌≤◌, Bool, true, false, ◌⊎◌, inl, inr, List, [], ◌∷◌, ◌++◌, length, take, Option, Some, None, Result, Ok, Err, refl, sym, ◌∙◌, ap, subst, arith, append_assoc, length-append}
+use Rattle.std.proofs.lemmas.List.{append-nil, take-append-le}
 use Rattle.std.specs.Option.{option_map}
-use Rattle.csn_desc.specs.declared.reading.Reading.{Reading}
 use Rattle.csn_io.specs.Got.{Gave, NothingLeft}
 use Rattle.csn_io.specs.Put.{Appended}
-use Rattle.csn_io.specs.ShelfFault.{BeginsFile}
 use Rattle.csn_run.specs.declared.ended.Ended.{Ended}
 use Rattle.csn_run.specs.declared.ended.Ended.TheVariants.{Done, SomeRefused, Usage, BadDescription, NotCertified, ReadFault, WriteFault, NoMemory, TooLong as Long}
 use Rattle.csn_run.specs.declared.fault.Fault.{Fault}
@@ -13,40 +11,17 @@ use Rattle.csn_run.specs.declared.fault.Fault.TheVariants.{Read, Write, Memory, 
 use Rattle.csn_run.specs.declared.top.Outcome.{Outcome}
 use Rattle.csn_run.specs.declared.top.Outcome.TheVariants as outcome
 use Rattle.csn_run.specs.declared.lines.TheConstants.{MOST_INPUT}
-use Rattle.csn_run.specs.declared.top.TheConstants.{MOST_DESCRIPTION}
-use Rattle.csn_run.specs.Command.{IsShow}
 use Rattle.csn_run.specs.Lines.{between_feeds}
-use Rattle.csn_run.specs.OutLine.{ShowsLine}
 use Rattle.csn_run.specs.Progress.{Answers, EndsIn, StopsBy}
-use Rattle.csn_run.specs.Job.{IsDescription, ShowEnds, unread, too_long, bad_description, all_lines, some_lines, IsEndOf, outcome_of}
+use Rattle.csn_run.specs.Command.{IsCommand}
+use Rattle.csn_run.specs.Job.{JobEnds, unread, too_long, bad_description, all_lines, some_lines, IsEndOf, outcome_of}
 use Rattle.csn_run.specs.Result as whole
-use Rattle.csn_run.proofs.EachAnswered.{each_answered}
+use Rattle.csn_run.proofs.JobAnswers.{each_in_job}
 use Rattle.csn_run.proofs.Extends.{extends}
 use Rattle.csn_run.proofs.ResultExists.{begins_from_empty}
 use Rattle.csn_run.proofs.Within.{within_input}
 
 -- ---- what is told
-
--- a file of which so few bytes were asked for that more were left is longer
-pub long_file : (files : List ℕ → Option (List ℕ)) (file front : List ℕ) → BeginsFile (Some files) file (MOST_DESCRIPTION + 1) front → MOST_DESCRIPTION < length front → (text : List ℕ) × (files file ≡ Some text) × (MOST_DESCRIPTION < length text)
-long_file files file front begins long = go (files file) refl begins
-  where
-    go : (o : Option (List ℕ)) → files file ≡ o → option_map (take (MOST_DESCRIPTION + 1)) o ≡ Some front → (text : List ℕ) × (files file ≡ Some text) × (MOST_DESCRIPTION < length text)
-    go None is e = absurd (cc)
-    go (Some text) is e =
-        let same : take (MOST_DESCRIPTION + 1) text ≡ front = cc in
-        (text, is, omega (arith, ap length same, length-take (MOST_DESCRIPTION + 1) text))
-
--- the whole description in a file is what the file has
-pub whole_file : (files : List ℕ → Option (List ℕ)) (file text : List ℕ) → IsDescription (Some files) file text → files file ≡ Some text
-whole_file files file text is = go (files file) refl is.front
-  where
-    go : (o : Option (List ℕ)) → files file ≡ o → option_map (take (MOST_DESCRIPTION + 1)) o ≡ Some text → files file ≡ Some text
-    go None held e = absurd (cc)
-    go (Some t) held e =
-        let same : take (MOST_DESCRIPTION + 1) t ≡ text = cc in
-        let few : length t ≤ MOST_DESCRIPTION + 1 = omega (arith, is.fits, ap length same, length-take (MOST_DESCRIPTION + 1) t) in
-        held ∙ ap Some (sym (take_all (MOST_DESCRIPTION + 1) t few) ∙ same)
 
 -- nothing in front of nothing
 no_front : (front rest : List ℕ) → front ++ rest ≡ [] → front ≡ []
@@ -88,105 +63,75 @@ end_after_lines true ended is = is
 end_after_lines false ended is = is
 
 -- what a run has written whose job is over, where all that waited was handed on
-pub result_of : (words : List (List ℕ)) (files : List ℕ → Option (List ℕ)) (file name : List ℕ) (reading : Reading) (input before : List ℕ) (left' taken' taken'' : Option (List ℕ)) (waits : List ℕ) (end : Result Outcome Fault) (ended : Ended) → IsShow words file name reading → ShowEnds (Some files) file name reading (Some input) left' (Some before) taken' waits end → Appended taken' taken'' waits → IsEndOf end ended → whole.IsFinished ended → (written : List ℕ) × (taken'' ≡ Some (before ++ written)) × whole.Result words files input written ended
-result_of words files file name reading input before left' taken' taken'' waits end ended row (unread same_left same_taken none cause) handed is finished =
+pub result_of : (words : List (List ℕ)) (files : List ℕ → Option (List ℕ)) (input before : List ℕ) (left' taken' taken'' : Option (List ℕ)) (waits : List ℕ) (end : Result Outcome Fault) (ended : Ended) → JobEnds words (Some files) (Some input) left' (Some before) taken' waits end → Appended taken' taken'' waits → IsEndOf end ended → whole.IsFinished ended → (written : List ℕ) × (taken'' ≡ Some (before ++ written)) × whole.Result words files input written ended
+result_of words files input before left' taken' taken'' waits end ended (unread same_left same_taken none cause) handed is finished =
     elim cause [
       | inl e ↦ absurd (unfinished_read ended (subst (λ (r : Result Outcome Fault). IsEndOf r ended) e is) finished)
       | inr e ↦ absurd (unfinished_memory ended (subst (λ (r : Result Outcome Fault). IsEndOf r ended) e is) finished)
     ]
-result_of words files file name reading input before left' taken' taken'' waits end ended row (too_long front begins long same_left same_taken none e) handed is finished =
-    let text = long_file files file front begins long in (
-      waits,
-      handed ∙ ap (option_map (λ taken. taken ++ waits)) same_taken,
-      (
-        file,
-        name,
-        reading,
-        text.0,
-        row,
-        text.1,
-        whole.long_text text.2 none (subst (λ (r : Result Outcome Fault). IsEndOf r ended) e is),
-      ),
-    )
-result_of words files file name reading input before left' taken' taken'' waits end ended row (bad_description text desc shows same_left same_taken e) handed is finished = (
+result_of words files input before left' taken' taken'' waits end ended (too_long gives same_left same_taken none e) handed is finished = (
   waits,
   handed ∙ ap (option_map (λ taken. taken ++ waits)) same_taken,
-  (
-    file,
-    name,
-    reading,
-    text,
-    row,
-    whole_file files file text desc,
-    subst (λ (d : Ended). whole.Shows name reading text input waits d) (sym (subst (λ (r : Result Outcome Fault). IsEndOf r ended) e is)) (shows input),
-  ),
+  subst (λ (w : List ℕ). whole.Result words files input w ended) (sym none) (subst (λ (d : Ended). whole.Result words files input [] d) (sym (subst (λ (r : Result Outcome Fault). IsEndOf r ended) e is)) (gives input)),
 )
-result_of words files file name reading input before left' taken' taken'' waits end ended row (all_lines text rules refused desc has simple a e) handed is finished =
+result_of words files input before left' taken' taken'' waits end ended (bad_description gives same_left same_taken e) handed is finished = (
+  waits,
+  handed ∙ ap (option_map (λ taken. taken ++ waits)) same_taken,
+  subst (λ (d : Ended). whole.Result words files input waits d) (sym (subst (λ (r : Result Outcome Fault). IsEndOf r ended) e is)) (gives input),
+)
+result_of words files input before left' taken' taken'' waits end ended (all_lines job refused asked a e) handed is finished =
     let all = given_all input a.given left' a.source a.nothing_left in (
       a.took ++ waits,
       taken_then before taken' taken'' a.took waits a.sink handed,
-      (
-        file,
-        name,
-        reading,
-        text,
-        row,
-        whole_file files file text desc,
-        whole.shown rules desc.fits has simple (subst (λ (i : List ℕ). whole.AnswersInput (ShowsLine rules name reading) i (a.took ++ waits) ended) (sym all) (whole.answers_all refused a.fits a.answers (end_after_lines refused ended (subst (λ (r : Result Outcome Fault). IsEndOf r ended) e is)))),
-      ),
+      whole.lines job asked (subst (λ (i : List ℕ). whole.AnswersInput (whole.AnswersLine job) i (a.took ++ waits) ended) (sym all) (whole.answers_all refused a.fits a.answers (end_after_lines refused ended (subst (λ (r : Result Outcome Fault). IsEndOf r ended) e is)))),
     )
-result_of words files file name reading input before left' taken' taken'' waits end ended row (some_lines text rules Read desc has simple s e) handed is finished =
+result_of words files input before left' taken' taken'' waits end ended (some_lines job Read asked s e) handed is finished =
     absurd (unfinished_read ended (subst (λ (r : Result Outcome Fault). IsEndOf r ended) e is) finished)
-result_of words files file name reading input before left' taken' taken'' waits end ended row (some_lines text rules Write desc has simple s e) handed is finished =
+result_of words files input before left' taken' taken'' waits end ended (some_lines job Write asked s e) handed is finished =
     absurd (unfinished_write ended (subst (λ (r : Result Outcome Fault). IsEndOf r ended) e is) finished)
-result_of words files file name reading input before left' taken' taken'' waits end ended row (some_lines text rules Memory desc has simple s e) handed is finished =
+result_of words files input before left' taken' taken'' waits end ended (some_lines job Memory asked s e) handed is finished =
     absurd (unfinished_memory ended (subst (λ (r : Result Outcome Fault). IsEndOf r ended) e is) finished)
-result_of words files file name reading input before left' taken' taken'' waits end ended row (some_lines text rules TooLong desc has simple s e) handed is finished =
+result_of words files input before left' taken' taken'' waits end ended (some_lines job TooLong asked s e) handed is finished =
     let front = given_front input s.given left' s.source in
     let after = s.by.1 in
     let fits : MOST_INPUT ≤ length s.given = omega (arith, s.by.0) in
     let same : take MOST_INPUT s.given ≡ take MOST_INPUT input = sym (take-append-le MOST_INPUT s.given front.0 fits) ∙ ap (take MOST_INPUT) (sym front.1) in (
       s.took ++ waits,
       taken_then before taken' taken'' s.took waits s.sink handed,
-      (
-        file,
-        name,
-        reading,
-        text,
-        row,
-        whole_file files file text desc,
-        whole.shown rules desc.fits has simple (whole.answers_front after.ended after.line after.refused (omega (arith, s.by.0, ap length front.1, length-append s.given front.0)) (subst (λ (i : List ℕ). EndsIn i after.ended after.line) same after.ends) after.answers (subst (λ (r : Result Outcome Fault). IsEndOf r ended) e is)),
-      ),
+      whole.lines job asked (whole.answers_front after.ended after.line after.refused (omega (arith, s.by.0, ap length front.1, length-append s.given front.0)) (subst (λ (i : List ℕ). EndsIn i after.ended after.line) same after.ends) after.answers (subst (λ (r : Result Outcome Fault). IsEndOf r ended) e is)),
     )
 
 -- ---- what stands written where a run was stopped
 
 -- what a run has written, of which the sink took the front of what waited
-pub begun_of : (words : List (List ℕ)) (files : List ℕ → Option (List ℕ)) (file name : List ℕ) (reading : Reading) (input before : List ℕ) (left' taken' taken'' : Option (List ℕ)) (waits front rest : List ℕ) (end : Result Outcome Fault) → IsShow words file name reading → ShowEnds (Some files) file name reading (Some input) left' (Some before) taken' waits end → waits ≡ front ++ rest → Appended taken' taken'' front → (written : List ℕ) × (taken'' ≡ Some (before ++ written)) × whole.BeginsResult words files input written
-begun_of words files file name reading input before left' taken' taken'' waits front rest end row (unread same_left same_taken none cause) split handed =
-    (front, handed ∙ ap (option_map (λ taken. taken ++ front)) same_taken, begins_from_empty words files file input front (name, reading, row) (no_front front rest (sym split ∙ none)))
-begun_of words files file name reading input before left' taken' taken'' waits front rest end row (too_long begin begins long same_left same_taken none e) split handed =
-    (front, handed ∙ ap (option_map (λ taken. taken ++ front)) same_taken, begins_from_empty words files file input front (name, reading, row) (no_front front rest (sym split ∙ none)))
-begun_of words files file name reading input before left' taken' taken'' waits front rest end row (bad_description text desc shows same_left same_taken e) split handed = (
+pub begun_of : (words : List (List ℕ)) (files : List ℕ → Option (List ℕ)) (input before : List ℕ) (left' taken' taken'' : Option (List ℕ)) (waits front rest : List ℕ) (end : Result Outcome Fault) → IsCommand words → JobEnds words (Some files) (Some input) left' (Some before) taken' waits end → waits ≡ front ++ rest → Appended taken' taken'' front → (written : List ℕ) × (taken'' ≡ Some (before ++ written)) × whole.BeginsResult words files input written
+begun_of words files input before left' taken' taken'' waits front rest end row (unread same_left same_taken none cause) split handed =
+    (front, handed ∙ ap (option_map (λ taken. taken ++ front)) same_taken, begins_from_empty words files input front row (no_front front rest (sym split ∙ none)))
+begun_of words files input before left' taken' taken'' waits front rest end row (too_long gives same_left same_taken none e) split handed = (
   front,
   handed ∙ ap (option_map (λ taken. taken ++ front)) same_taken,
-  whole.begins_whole rest BadDescription (file, name, reading, text, row, whole_file files file text desc, subst (λ (w : List ℕ). whole.Shows name reading text input w BadDescription) split (shows input)),
+  whole.begins_whole rest Long (subst (λ (w : List ℕ). whole.Result words files input w Long) (sym none ∙ split) (gives input)),
 )
-begun_of words files file name reading input before left' taken' taken'' waits front rest end row (all_lines text rules refused desc has simple a e) split handed =
+begun_of words files input before left' taken' taken'' waits front rest end row (bad_description gives same_left same_taken e) split handed = (
+  front,
+  handed ∙ ap (option_map (λ taken. taken ++ front)) same_taken,
+  whole.begins_whole rest BadDescription (subst (λ (w : List ℕ). whole.Result words files input w BadDescription) split (gives input)),
+)
+begun_of words files input before left' taken' taken'' waits front rest end row (all_lines job refused asked a e) split handed =
     let all = given_all input a.given left' a.source a.nothing_left in
     let text_is : a.took ++ waits ≡ (a.took ++ front) ++ rest = ap (λ l. a.took ++ l) split ∙ sym (append_assoc a.took front rest) in (
       a.took ++ front,
       taken_then before taken' taken'' a.took front a.sink handed,
-      whole.begins_whole rest (whole.end_of refused) (file, name, reading, text, row, whole_file files file text desc, whole.shown rules desc.fits has simple (subst (λ (i : List ℕ). whole.AnswersInput (ShowsLine rules name reading) i ((a.took ++ front) ++ rest) (whole.end_of refused)) (sym all) (whole.answers_all refused a.fits (subst (λ (t : List ℕ). Answers (ShowsLine rules name reading) (between_feeds a.given) t refused) text_is a.answers) refl))),
+      whole.begins_whole rest (whole.end_of refused) (whole.lines job asked (subst (λ (i : List ℕ). whole.AnswersInput (whole.AnswersLine job) i ((a.took ++ front) ++ rest) (whole.end_of refused)) (sym all) (whole.answers_all refused a.fits (subst (λ (t : List ℕ). Answers (whole.AnswersLine job) (between_feeds a.given) t refused) text_is a.answers) refl))),
     )
-begun_of words files file name reading input before left' taken' taken'' waits front rest end row (some_lines text rules fault desc has simple s e) split handed =
+begun_of words files input before left' taken' taken'' waits front rest end row (some_lines job fault asked s e) split handed =
     let given = given_front input s.given left' s.source in
     let text_is : s.took ++ waits ≡ (s.took ++ front) ++ rest = ap (λ l. s.took ++ l) split ∙ sym (append_assoc s.took front rest) in
-    let within = within_input (ShowsLine rules name reading) fault input s.given given.0 (s.took ++ waits) (s.took ++ front) rest given.1 text_is s.by in
-    let all = extends (ShowsLine rules name reading) (λ line some. each_answered text rules name reading has simple line) input (s.took ++ front) within in (
+    let within = within_input (whole.AnswersLine job) fault input s.given given.0 (s.took ++ waits) (s.took ++ front) rest given.1 text_is s.by in
+    let all = extends (whole.AnswersLine job) (λ line some. each_in_job words files job asked line) input (s.took ++ front) within in (
       s.took ++ front,
       taken_then before taken' taken'' s.took front s.sink handed,
-      whole.begins_whole all.0 all.1 (file, name, reading, text, row, whole_file files file text desc, whole.shown rules desc.fits has simple all.2),
+      whole.begins_whole all.0 all.1 (whole.lines job asked all.2),
     )
 
 -- ---- a fault of the outside while it is read
@@ -208,43 +153,62 @@ not_bad true e = cc
 not_bad false e = cc
 
 -- what a run has written that a fault of the source, or of the shelf, stopped
-pub read_of : (words : List (List ℕ)) (files : List ℕ → Option (List ℕ)) (file name : List ℕ) (reading : Reading) (input before : List ℕ) (left' taken' taken'' : Option (List ℕ)) (waits : List ℕ) (end : Result Outcome Fault) → IsShow words file name reading → ShowEnds (Some files) file name reading (Some input) left' (Some before) taken' waits end → Appended taken' taken'' waits → end ≡ Err Read → (written : List ℕ) × (taken'' ≡ Some (before ++ written)) × whole.StopsReading words files input left' written
-read_of words files file name reading input before left' taken' taken'' waits end row (unread same_left same_taken none cause) handed fault =
+pub read_of : (words : List (List ℕ)) (files : List ℕ → Option (List ℕ)) (input before : List ℕ) (left' taken' taken'' : Option (List ℕ)) (waits : List ℕ) (end : Result Outcome Fault) → JobEnds words (Some files) (Some input) left' (Some before) taken' waits end → Appended taken' taken'' waits → end ≡ Err Read → (written : List ℕ) × (taken'' ≡ Some (before ++ written)) × whole.StopsReading words files input left' written
+read_of words files input before left' taken' taken'' waits end (unread same_left same_taken none cause) handed fault =
     (waits, handed ∙ ap (option_map (λ taken. taken ++ waits)) same_taken, whole.before_reading same_left none)
-read_of words files file name reading input before left' taken' taken'' waits end row (too_long begin begins long same_left same_taken none e) handed fault =
+read_of words files input before left' taken' taken'' waits end (too_long gives same_left same_taken none e) handed fault =
     absurd (not_long end e fault)
-read_of words files file name reading input before left' taken' taken'' waits end row (bad_description text desc shows same_left same_taken e) handed fault =
+read_of words files input before left' taken' taken'' waits end (bad_description gives same_left same_taken e) handed fault =
     absurd (not_ok end _ _ e fault)
-read_of words files file name reading input before left' taken' taken'' waits end row (all_lines text rules refused desc has simple a e) handed fault =
+read_of words files input before left' taken' taken'' waits end (all_lines job refused asked a e) handed fault =
     absurd (not_ok end _ _ e fault)
-read_of words files file name reading input before left' taken' taken'' waits end row (some_lines text rules cause desc has simple s e) handed fault =
+read_of words files input before left' taken' taken'' waits end (some_lines job cause asked s e) handed fault =
     let given = given_front input s.given left' s.source in
     let is_read : cause ≡ Read = err_one end cause Read e fault in (
       s.took ++ waits,
       taken_then before taken' taken'' s.took waits s.sink handed,
       whole.while_reading s.given given.0 given.1 given.2 (record {
-        file = file;
-        name = name;
-        text = text;
-        reading = reading;
-        rules = rules;
-        row = row;
-        held = whole_file files file text desc;
-        fits = desc.fits;
-        are = has;
-        simple = simple;
-        stopped = (subst (λ (f : Fault). StopsBy (ShowsLine rules name reading) f s.given (s.took ++ waits)) is_read s.by).1;
+        job = job;
+        asked = asked;
+        stopped = (subst (λ (f : Fault). StopsBy (whole.AnswersLine job) f s.given (s.took ++ waits)) is_read s.by).1;
       }),
     )
 
 -- the source has nothing left where all lines are answered
-pub nothing_left_of : (files : Option (List ℕ → Option (List ℕ))) (file name : List ℕ) (reading : Reading) (left left' taken taken' : Option (List ℕ)) (waits : List ℕ) (end : Result Outcome Fault) (refused : Bool) → ShowEnds files file name reading left left' taken taken' waits end → end ≡ Ok (outcome_of refused) → NothingLeft left'
-nothing_left_of files file name reading left left' taken taken' waits end refused (unread same_left same_taken none cause) is =
+pub nothing_left_of : (words : List (List ℕ)) (files : Option (List ℕ → Option (List ℕ))) (left left' taken taken' : Option (List ℕ)) (waits : List ℕ) (end : Result Outcome Fault) (refused : Bool) → JobEnds words files left left' taken taken' waits end → end ≡ Ok (outcome_of refused) → NothingLeft left'
+nothing_left_of words files left left' taken taken' waits end refused (unread same_left same_taken none cause) is =
     elim cause [ inl e ↦ absurd (not_ok end _ _ is e) | inr e ↦ absurd (not_ok end _ _ is e) ]
-nothing_left_of files file name reading left left' taken taken' waits end refused (too_long begin begins long same_left same_taken none e) is = absurd (not_ok end _ _ is e)
-nothing_left_of files file name reading left left' taken taken' waits end refused (bad_description text desc shows same_left same_taken e) is = absurd (not_bad refused (ok_one end _ _ e is))
-nothing_left_of files file name reading left left' taken taken' waits end refused (all_lines text rules some desc has simple a e) is = a.nothing_left
-nothing_left_of files file name reading left left' taken taken' waits end refused (some_lines text rules fault desc has simple s e) is = absurd (not_ok end _ _ is e)
+nothing_left_of words files left left' taken taken' waits end refused (too_long gives same_left same_taken none e) is = absurd (not_ok end _ _ is e)
+nothing_left_of words files left left' taken taken' waits end refused (bad_description gives same_left same_taken e) is = absurd (not_bad refused (ok_one end _ _ e is))
+nothing_left_of words files left left' taken taken' waits end refused (all_lines job some asked a e) is = a.nothing_left
+nothing_left_of words files left left' taken taken' waits end refused (some_lines job fault asked s e) is = absurd (not_ok end _ _ is e)
+
+-- ---- a file that is told as not held
+
+appended_none : (taken taken' : Option (List ℕ)) → Appended taken taken' [] → taken' ≡ taken
+appended_none None taken' h = h
+appended_none (Some t) taken' h = h ∙ ap Some (append-nil t)
+
+-- a sink takes nothing where nothing waits
+pub nothing_taken : (taken taken' taken'' : Option (List ℕ)) (waits front rest : List ℕ) → taken' ≡ taken → waits ≡ [] → waits ≡ front ++ rest → Appended taken' taken'' front → taken'' ≡ taken
+nothing_taken taken taken' taken'' waits front rest same none split handed =
+    appended_none taken' taken'' (subst (λ (t : List ℕ). Appended taken' taken'' t) (no_front front rest (sym split ∙ none)) handed) ∙ same
+
+unread_end : (end : Result Outcome Fault) (ended : Ended) → (end ≡ Err Read) ⊎ (end ≡ Err Memory) → IsEndOf end ended → (ended ≡ ReadFault → ⊥) → (ended ≡ NoMemory → ⊥) → ⊥
+unread_end end ended (inl e) is no_read no_memory = no_read (subst (λ (r : Result Outcome Fault). IsEndOf r ended) e is)
+unread_end end ended (inr e) is no_read no_memory = no_memory (subst (λ (r : Result Outcome Fault). IsEndOf r ended) e is)
+
+-- the ends of a run that could not read, or had no memory
+pub unread_ends : (end : Result Outcome Fault) (ended : Ended) → (end ≡ Err Read) ⊎ (end ≡ Err Memory) → ((ended ≡ WriteFault → ⊥) → (ended ≡ NoMemory → ⊥) → IsEndOf end ended) → (ended ≡ ReadFault) ⊎ ((ended ≡ WriteFault) ⊎ (ended ≡ NoMemory))
+unread_ends end ReadFault cause is = inl refl
+unread_ends end WriteFault cause is = inr (inl refl)
+unread_ends end NoMemory cause is = inr (inr refl)
+unread_ends end Done cause is = absurd (unread_end end Done cause (is (λ h. cc) (λ h. cc)) (λ h. cc) (λ h. cc))
+unread_ends end SomeRefused cause is = absurd (unread_end end SomeRefused cause (is (λ h. cc) (λ h. cc)) (λ h. cc) (λ h. cc))
+unread_ends end Usage cause is = absurd (unread_end end Usage cause (is (λ h. cc) (λ h. cc)) (λ h. cc) (λ h. cc))
+unread_ends end BadDescription cause is = absurd (unread_end end BadDescription cause (is (λ h. cc) (λ h. cc)) (λ h. cc) (λ h. cc))
+unread_ends end NotCertified cause is = absurd (unread_end end NotCertified cause (is (λ h. cc) (λ h. cc)) (λ h. cc) (λ h. cc))
+unread_ends end Long cause is = absurd (unread_end end Long cause (is (λ h. cc) (λ h. cc)) (λ h. cc) (λ h. cc))
 
 -- ---- every end is one of these
 

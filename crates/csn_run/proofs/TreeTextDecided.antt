@@ -7,7 +7,7 @@ use Rattle.csn_treetext.specs.declared.version.Version.TheVariants.{First, Secon
 use Rattle.csn_treetext.specs.declared.mode.Mode.TheVariants.{Start}
 use Rattle.csn_treetext.specs.Text.{text_of}
 use Rattle.csn_treetext.specs.Place.{IsTextOf, TreeText, OldText, IsFaultPlace}
-use Rattle.csn_treetext.specs.Machine.{State, state, step, steps, ended}
+use Rattle.csn_treetext.specs.reader.Machine.{State, state, step, steps, ended}
 use Rattle.csn_treetext.proofs.Places.{start, step_more, refused_place, ended_place, ended_tree}
 
 module _ (version : Version) (text : List ℕ) where

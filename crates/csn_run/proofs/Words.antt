@@ -9,3 +9,9 @@ four_members (w ∷ x ∷ []) a b c d low high p q r s = absurd (omega arith)
 four_members (w ∷ x ∷ y ∷ []) a b c d low high p q r s = absurd (omega arith)
 four_members (w ∷ x ∷ y ∷ z ∷ []) a b c d low high p q r s = cc
 four_members (w ∷ x ∷ y ∷ z ∷ v ∷ rest) a b c d low high p q r s = absurd (omega arith)
+
+-- a list of one member is this one
+pub one_member : {A : Type 0} (xs : List A) (a : A) → 1 ≤ length xs → length xs < 2 → a ≡ get_or xs 0 a → xs ≡ a ∷ []
+one_member [] a low high p = absurd (omega arith)
+one_member (w ∷ []) a low high p = cc
+one_member (w ∷ x ∷ rest) a low high p = absurd (omega arith)

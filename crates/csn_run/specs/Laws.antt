@@ -1,31 +1,26 @@
 -- Laws over the definitions.
-use Rattle.std.specs.Prelude.{◌≡◌, ℕ, List, Option, Some}
-use Rattle.csn_desc.specs.declared.reading.Reading.{Reading}
-use Rattle.csn_grammar.specs.RulesV.{RulesV}
-use Rattle.csn_grammar.specs.Place.{HasRules}
+use Rattle.std.specs.Prelude.{◌≡◌, ℕ, List, Option, IsSome}
 use Rattle.csn_run.specs.declared.ended.Ended.{Ended}
-use Rattle.csn_run.specs.Command.{NamesFile}
-use Rattle.csn_run.specs.OutLine.{ShowsLine}
-use Rattle.csn_run.specs.Result.{Result}
-use Rattle.csn_run.specs.Simple.{IsSimple}
+use Rattle.csn_run.specs.Command.{IsCommand, NamesFile}
+use Rattle.csn_run.specs.Result.{LineJob, AnswersLine, AsksFor, Result}
 
--- each line has an answer of `show`, by the rules of a text that can be shown
+-- each line has an answer, in each job over lines that words ask for
 abbrev pub LinesHaveAnswers : Type 0
 LinesHaveAnswers =
-    (text : List ℕ) (rules : RulesV) (name : List ℕ) (reading : Reading) → HasRules text rules → IsSimple rules name
-    → (line : List ℕ) → (answer : List ℕ) × ShowsLine rules name reading line answer
+    (words : List (List ℕ)) (files : List ℕ → Option (List ℕ)) (job : LineJob) → AsksFor words files job
+    → (line : List ℕ) → (answer : List ℕ) × AnswersLine job line answer
 
 -- it has one
 abbrev pub LinesHaveOneAnswer : Type 0
 LinesHaveOneAnswer =
-    (rules : RulesV) (name : List ℕ) (reading : Reading) → IsSimple rules name → (line answer other : List ℕ)
-    → ShowsLine rules name reading line answer → ShowsLine rules name reading line other → answer ≡ other
+    (words : List (List ℕ)) (files : List ℕ → Option (List ℕ)) (job : LineJob) → AsksFor words files job
+    → (line answer other : List ℕ) → AnswersLine job line answer → AnswersLine job line other → answer ≡ other
 
--- a run whose file is there has a result
+-- the words of a command whose files are there have a result
 abbrev pub RunsHaveResults : Type 0
 RunsHaveResults =
-    (words : List (List ℕ)) (files : List ℕ → Option (List ℕ)) (file text input : List ℕ)
-    → NamesFile words file → files file ≡ Some text
+    (words : List (List ℕ)) (files : List ℕ → Option (List ℕ)) (input : List ℕ)
+    → IsCommand words → ((file : List ℕ) → NamesFile words file → IsSome (files file))
     → (written : List ℕ) × (ended : Ended) × Result words files input written ended
 
 -- a run has one result

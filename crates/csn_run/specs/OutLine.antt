@@ -9,7 +9,8 @@ use Rattle.csn_desc.specs.declared.reading.Reading.{Reading}
 use Rattle.csn_desc.specs.TreeV.{TreeV}
 use Rattle.csn_grammar.specs.RulesV.{RulesV}
 use Rattle.csn_grammar.specs.Strings.{Strings, IsPlace}
-use Rattle.csn_treetext.specs.Place.{TreeText}
+use Rattle.csn_treetext.specs.declared.version.Version.TheVariants.{First}
+use Rattle.csn_treetext.specs.Place.{TreeText, OldText, IsFaultPlace}
 use Rattle.csn_run.specs.declared.simple.things.Thing.{Thing}
 use Rattle.csn_run.specs.Simple.{things_of}
 
@@ -43,3 +44,11 @@ abbrev pub ShowsThings : List Thing → List ℕ → List ℕ → Type 0
 ShowsThings things line answer =
     (rules : RulesV) (name : List ℕ) (reading : Reading) → things_of rules name ≡ Some things
     → ShowsLine rules name reading line answer
+
+-- `migrate`: the text of a tree as it was written before is answered by its text of today; and a line that
+-- is no such text by the place up to which it begins one
+pub data MigratesLine (line answer : List ℕ) : Type 0 where
+  migrates_tree : (t : TreeV) (text : List ℕ) → OldText t line → TreeText t text → answer ≡ codes "ok " ++ text
+      → MigratesLine line answer
+  migrates_place : (place : ℕ) → IsFaultPlace First line place → answer ≡ codes "bad " ++ decimal place
+      → MigratesLine line answer

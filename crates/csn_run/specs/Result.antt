@@ -10,11 +10,29 @@ use Rattle.csn_run.specs.declared.ended.Ended.{Ended}
 use Rattle.csn_run.specs.declared.ended.Ended.TheVariants.{Done, SomeRefused, Usage, BadDescription, NotCertified, ReadFault, WriteFault, NoMemory, TooLong}
 use Rattle.csn_run.specs.declared.lines.TheConstants.{MOST_INPUT}
 use Rattle.csn_run.specs.declared.top.TheConstants.{MOST_DESCRIPTION}
-use Rattle.csn_run.specs.Command.{IsShow, NamesFile}
+use Rattle.csn_run.specs.Command.{IsShow, IsMigrate, NamesFile}
 use Rattle.csn_run.specs.Lines.{between_feeds}
-use Rattle.csn_run.specs.OutLine.{ShowsLine}
+use Rattle.csn_run.specs.OutLine.{ShowsLine, MigratesLine}
 use Rattle.csn_run.specs.Progress.{Answers, EndsIn, StopsAfter}
 use Rattle.csn_run.specs.Simple.{IsSimple}
+
+-- the jobs that answer the lines of the input: `show` by a rule of some rules, and `migrate`
+pub data LineJob : Type 0 where
+  showing : RulesV → List ℕ → Reading → LineJob
+  migrating : LineJob
+
+-- what answers a line in such a job
+abbrev pub AnswersLine : LineJob → List ℕ → List ℕ → Type 0
+AnswersLine (showing rules name reading) = ShowsLine rules name reading
+AnswersLine migrating = MigratesLine
+
+-- the words ask for this job. For `show` the file that they name is there, is no longer than a description
+-- may be, and its rules can be shown
+pub data AsksFor (words : List (List ℕ)) (files : List ℕ → Option (List ℕ)) (job : LineJob) : Type 0 where
+  asks_show : (file name text : List ℕ) (reading : Reading) (rules : RulesV) → IsShow words file name reading
+      → files file ≡ Some text → length text ≤ MOST_DESCRIPTION → HasRules text rules → IsSimple rules name
+      → job ≡ showing rules name reading → AsksFor words files job
+  asks_migrate : IsMigrate words → job ≡ migrating → AsksFor words files job
 
 -- the end of a command that answered all lines, by whether it refused one
 abbrev pub end_of : Bool → Ended
@@ -30,24 +48,23 @@ pub data AnswersInput (Answer : List ℕ → List ℕ → Type 0) (input written
       → EndsIn (take MOST_INPUT input) lines line → Answers Answer lines written refused → ended ≡ TooLong
       → AnswersInput Answer input written ended
 
--- what `show` writes for the text of its file
-pub data Shows (name : List ℕ) (reading : Reading) (text input written : List ℕ) (ended : Ended) : Type 0 where
-  long_text : MOST_DESCRIPTION < length text → written ≡ [] → ended ≡ TooLong
-      → Shows name reading text input written ended
+-- what `show` writes for the text of its file, and how it ends, where it comes to no line
+pub data ShowsNone (name text written : List ℕ) (ended : Ended) : Type 0 where
+  long_text : MOST_DESCRIPTION < length text → written ≡ [] → ended ≡ TooLong → ShowsNone name text written ended
   no_rules : (place : ℕ) → length text ≤ MOST_DESCRIPTION → IsSyntaxPlace text place
       → written ≡ codes "syntax " ++ (decimal place ++ 10 ∷ []) → ended ≡ BadDescription
-      → Shows name reading text input written ended
+      → ShowsNone name text written ended
   not_built : (rules : RulesV) → length text ≤ MOST_DESCRIPTION → HasRules text rules
       → (IsSimple rules name → ⊥) → written ≡ codes "later" ++ 10 ∷ [] → ended ≡ BadDescription
-      → Shows name reading text input written ended
-  shown : (rules : RulesV) → length text ≤ MOST_DESCRIPTION → HasRules text rules → IsSimple rules name
-      → AnswersInput (ShowsLine rules name reading) input written ended
-      → Shows name reading text input written ended
+      → ShowsNone name text written ended
 
--- what a run writes, and how it ends, where each file that its words name is there
-abbrev pub Result : List (List ℕ) → (List ℕ → Option (List ℕ)) → List ℕ → List ℕ → Ended → Type 0
-Result words files input written ended =
-    (file name : List ℕ) × (reading : Reading) × (text : List ℕ) × IsShow words file name reading × (files file ≡ Some text) × Shows name reading text input written ended
+-- what a run writes, and how it ends, where each file that its words name is there: it comes to no line,
+-- or answers the lines of the input
+pub data Result (words : List (List ℕ)) (files : List ℕ → Option (List ℕ)) (input written : List ℕ) (ended : Ended) : Type 0 where
+  no_line : (file name text : List ℕ) (reading : Reading) → IsShow words file name reading
+      → files file ≡ Some text → ShowsNone name text written ended → Result words files input written ended
+  lines : (job : LineJob) → AsksFor words files job → AnswersInput (AnswersLine job) input written ended
+      → Result words files input written ended
 
 -- the ends after which a job is done, or all of it that can be
 abbrev pub IsFinished : Ended → Type 0
@@ -72,17 +89,9 @@ pub data BeginsResult (words : List (List ℕ)) (files : List ℕ → Option (Li
 -- what stands written after a fault of the source, which had given these bytes: the answers to the lines
 -- that had ended in them, and nothing else
 pub record AnswersGiven (words : List (List ℕ)) (files : List ℕ → Option (List ℕ)) (given written : List ℕ) : Type 0 where
-  pub file : List ℕ
-  pub name : List ℕ
-  pub text : List ℕ
-  pub reading : Reading
-  pub rules : RulesV
-  pub row : IsShow words file name reading
-  pub held : files file ≡ Some text
-  pub fits : length text ≤ MOST_DESCRIPTION
-  pub are : HasRules text rules
-  pub simple : IsSimple rules name
-  pub stopped : StopsAfter (ShowsLine rules name reading) given written
+  pub job : LineJob
+  pub asked : AsksFor words files job
+  pub stopped : StopsAfter (AnswersLine job) given written
 
 -- a run of which a fault stopped the reading: nothing of the input was read and nothing is written, or the
 -- source had given some bytes, and `left` is what it has left

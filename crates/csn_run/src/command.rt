@@ -1,7 +1,7 @@
-ghost use Rattle.std.specs.Prelude.{◌≡◌, ◌↔◌, IsTrue, IsSome, IfSome, map};
+ghost use Rattle.std.specs.Prelude.{◌≡◌, ◌↔◌, IsTrue, IsSome, IfSome, List, ℕ, map};
 ghost use Rattle.std.specs.String.{string_bytes};
 ghost use Rattle.csn_desc.specs.declared.reading.Reading.{Reading};
-ghost use Rattle.csn_run.specs.Command.{IsArgument, IsCommand, IsShow, word_of};
+ghost use Rattle.csn_run.specs.Command.{IsArgument, IsCommand, IsMigrate, IsRowOf, IsShow, word_of};
 
 use csn_desc::Reading;
 
@@ -13,6 +13,15 @@ pub struct ShowWords<'a> {
     /// The name of the rule.
     pub name: &'a str,
     pub reading: Reading,
+}
+
+/// A row of the command table, with what its words name.
+#[derive(Clone, Copy)]
+pub enum Command<'a> {
+    /// Shows the blocks of the input by a rule of a description.
+    Show(ShowWords<'a>),
+    /// Writes the old texts of trees in the input as they are written today.
+    Migrate,
 }
 
 fn is_argument(word: &str) -> bool
@@ -36,10 +45,10 @@ fn reading_of(word: &str) -> Option<Reading>
     }
 }
 
-/// What the words of the command table name, where these are a row of it.
-pub fn command_of(words: &[String]) -> Option<ShowWords<'_>>
-    ensures row { IsSome result ↔ IsCommand (map string_bytes words.now) }
+/// What the words `show FILE NAME READING` name, where these are such words.
+fn show_words(words: &[String]) -> Option<ShowWords<'_>>
     ensures names { IfSome result (λ show. IsShow (map string_bytes words.now) show.file.now show.name.now show.reading) }
+    ensures none { (file name : List ℕ) (reading : Reading) → IsShow (map string_bytes words.now) file name reading → IsSome result }
 {
     let [command, file, name, reading] = words else {
         return None;
@@ -54,4 +63,25 @@ pub fn command_of(words: &[String]) -> Option<ShowWords<'_>>
     } else {
         None
     }
+}
+
+fn is_migrate(words: &[String]) -> bool
+    ensures { IsTrue result ↔ IsMigrate (map string_bytes words.now) }
+{
+    match words {
+        [command] => command.as_str() == "migrate",
+        _ => false,
+    }
+}
+
+/// The command that the words ask for, where they are a row of the command table.
+pub fn command_of(words: &[String]) -> Option<Command<'_>>
+    ensures row { IsSome result ↔ IsCommand (map string_bytes words.now) }
+    ensures names { IfSome result (λ command. IsRowOf (map string_bytes words.now) command) }
+{
+    if is_migrate(words) {
+        return Some(Command::Migrate);
+    }
+    let show = show_words(words)?;
+    Some(Command::Show(show))
 }

@@ -2,7 +2,7 @@
 
 ghost use Rattle.csn_run.specs.Laws.{LinesHaveAnswers, LinesHaveOneAnswer, RunsHaveResults, RunsHaveOneResult};
 
-/// Each line has one answer of `show`.
+/// Each line has one answer, in each job over lines.
 pub fn lines_have_one_answer()
     ensures some_answer { LinesHaveAnswers }
     ensures one_answer { LinesHaveOneAnswer }

@@ -1,11 +1,13 @@
 //! The top call of the program: words and the outside in, an end out.
 #![tactic(auto)]
 
+mod answers;
 mod command;
 mod ended;
 mod fault;
 pub mod laws;
 mod lines;
+mod migrate;
 mod output;
 mod show;
 mod simple;

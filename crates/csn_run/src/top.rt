@@ -5,23 +5,23 @@ ghost use Rattle.csn_io.specs.Faults.{Rose};
 ghost use Rattle.csn_io.specs.Got.{NothingLeft};
 ghost use Rattle.csn_io.specs.Put.{Appended, FlushedAll};
 ghost use Rattle.csn_io.specs.ShelfFault.{BeginsFile, LacksFile};
-ghost use Rattle.csn_run.specs.Command.{IsCommand, NamesFile};
+ghost use Rattle.csn_run.specs.Command.{IsCommand, IsRowOf, IsShow, NamesFile};
 ghost use Rattle.csn_run.specs.Progress.{AnswersAll, Stops};
-ghost use Rattle.csn_run.specs.OutLine.{ShowsThings};
-ghost use Rattle.csn_run.specs.declared.simple.things.TheConstants.{MOST_THINGS};
 ghost use Rattle.csn_run.specs.Outside.{CannotRead, KeepsSteady};
 ghost use Rattle.csn_desc.specs.declared.reading.Reading.{Reading};
-ghost use Rattle.csn_run.specs.Job.{IsDescription, IsLongFile, ShowEnds, IsEndOf, outcome_of};
+ghost use Rattle.csn_run.specs.Job.{IsDescription, IsLongFile, JobEnds, IsEndOf, outcome_of};
 ghost use Rattle.csn_run.specs.Result.{BeginsResult, IsFinished, Result, StopsReading};
 ghost use Rattle.csn_run.specs.declared.top.TheConstants.{MOST_DESCRIPTION};
 
-use crate::command::command_of;
+use crate::answers::push_number;
+use crate::command::{Command, command_of};
 use crate::ended::Ended;
 use crate::fault::Fault;
-use crate::lines::Lines;
+use crate::lines::{LineCommand, Lines};
+use crate::migrate::Migrate;
 use crate::output::{flush, pass_on};
-use crate::show::{Show, push_number};
-use crate::simple::{Thing, things_of};
+use crate::show::Show;
+use crate::simple::things_of;
 use csn_grammar::{GrammarFault, read_rules};
 use csn_io::{Shelf, ShelfFault, Sink, Source};
 use std::alloc::{AllocError, Global};
@@ -86,21 +86,20 @@ fn refuse_text(fault: GrammarFault, pending: &mut Vec<u8>) -> Result<Outcome, Fa
     }
 }
 
-/// Shows each block of the input by a rule of these things.
-fn show_lines<S: Source, K: Sink>(
+/// Answers each line of the input.
+fn answer_lines<C: LineCommand, S: Source, K: Sink>(
     alloc: Global,
-    things: &[Thing],
+    command: &C,
     input: &mut S,
     out: &mut K,
     lines: &mut Lines,
 ) -> Result<Outcome, Fault>
-    requires few { length things.now ≤ MOST_THINGS }
     requires line { lines.old.line.items ≡ [] }
     requires pending { lines.old.pending.items ≡ [] }
     requires refused { lines.old.refused ≡ false }
-    ensures ok { IfOk result (λ outcome. AnswersAll (ShowsThings things.now) (S.left input.old) (S.left input.new)
+    ensures ok { IfOk result (λ outcome. AnswersAll (C.answers command.now) (S.left input.old) (S.left input.new)
         (K.taken out.old) (K.taken out.new) lines.new.pending.items lines.new.refused × (outcome ≡ outcome_of lines.new.refused)) }
-    ensures err { IfErr result (λ fault. Stops (ShowsThings things.now) fault (S.left input.old) (S.left input.new)
+    ensures err { IfErr result (λ fault. Stops (C.answers command.now) fault (S.left input.old) (S.left input.new)
         (K.taken out.old) (K.taken out.new) lines.new.pending.items) }
     ensures read { result ≡ Err Fault.Read → Rose (S.faults input.old) (S.faults input.new) }
     ensures write { result ≡ Err Fault.Write → Rose (K.faults out.old) (K.faults out.new) }
@@ -109,8 +108,7 @@ fn show_lines<S: Source, K: Sink>(
     ensures steady_input { KeepsSteady (S.steady input.old) (S.steady input.new) (S.faults input.old) (S.faults input.new) }
     ensures steady_out { KeepsSteady (K.steady out.old) (K.steady out.new) (K.faults out.old) (K.faults out.new) }
 {
-    let command = Show { things };
-    lines.answer_all(&command, alloc, input, out)?;
+    lines.answer_all(command, alloc, input, out)?;
     Ok(if lines.refused {
         Outcome::SomeRefused
     } else {
@@ -131,9 +129,9 @@ fn show_text<S: Source, K: Sink>(
     requires line { lines.old.line.items ≡ [] }
     requires pending { lines.old.pending.items ≡ [] }
     requires refused { lines.old.refused ≡ false }
-    ensures ends { (files : Option (List ℕ → Option (List ℕ))) (file : List ℕ) (reading : Reading)
-        → IsDescription files file text.now
-        → ShowEnds files file name.now reading (S.left input.old) (S.left input.new)
+    ensures ends { (words : List (List ℕ)) (files : Option (List ℕ → Option (List ℕ))) (file : List ℕ) (reading : Reading)
+        → IsShow words file name.now reading → IsDescription files file text.now
+        → JobEnds words files (S.left input.old) (S.left input.new)
         (K.taken out.old) (K.taken out.new) lines.new.pending.items result }
     ensures read { result ≡ Err Fault.Read → Rose (S.faults input.old) (S.faults input.new) }
     ensures write { result ≡ Err Fault.Write → Rose (K.faults out.old) (K.faults out.new) }
@@ -148,7 +146,10 @@ fn show_text<S: Source, K: Sink>(
         Err(fault) => return refuse_text(fault, &mut lines.pending),
     };
     match things_of(alloc, &rules, name)? {
-        Some(things) => show_lines(alloc, &things, input, out, lines),
+        Some(things) => {
+            let command = Show { things: &things };
+            answer_lines(alloc, &command, input, out, lines)
+        }
         None => {
             lines.pending.extend_from_slice(b"later\n")?;
             Ok(Outcome::BadDescription)
@@ -169,7 +170,8 @@ fn show<B: Shelf, S: Source, K: Sink>(
     requires line { lines.old.line.items ≡ [] }
     requires pending { lines.old.pending.items ≡ [] }
     requires refused { lines.old.refused ≡ false }
-    ensures ends { (reading : Reading) → ShowEnds (B.files shelf.old) file.now name.now reading (S.left input.old) (S.left input.new)
+    ensures ends { (words : List (List ℕ)) (reading : Reading) → IsShow words file.now name.now reading
+        → JobEnds words (B.files shelf.old) (S.left input.old) (S.left input.new)
         (K.taken out.old) (K.taken out.new) lines.new.pending.items result }
     ensures read { result ≡ Err Fault.Read → Rose (S.faults input.old) (S.faults input.new)
         ⊎ CannotRead (B.files shelf.old) (B.faults shelf.old) (B.faults shelf.new) (B.last_fault shelf.new) file.now }
@@ -187,6 +189,44 @@ fn show<B: Shelf, S: Source, K: Sink>(
 {
     let text = description(alloc, shelf, file)?;
     show_text(alloc, &text, name.as_bytes(), input, out, lines)
+}
+
+/// Does the job of a command, up to the answers that wait.
+fn perform<B: Shelf, S: Source, K: Sink>(
+    alloc: Global,
+    command: Command<'_>,
+    shelf: &mut B,
+    input: &mut S,
+    out: &mut K,
+    lines: &mut Lines,
+) -> Result<Outcome, Fault>
+    requires line { lines.old.line.items ≡ [] }
+    requires pending { lines.old.pending.items ≡ [] }
+    requires refused { lines.old.refused ≡ false }
+    ensures ends { (words : List (List ℕ)) → IsRowOf words command.entry
+        → JobEnds words (B.files shelf.old) (S.left input.old) (S.left input.new)
+        (K.taken out.old) (K.taken out.new) lines.new.pending.items result }
+    ensures read { result ≡ Err Fault.Read → (words : List (List ℕ)) → IsRowOf words command.entry
+        → Rose (S.faults input.old) (S.faults input.new) ⊎ ((file : List ℕ) × NamesFile words file
+        × CannotRead (B.files shelf.old) (B.faults shelf.old) (B.faults shelf.new) (B.last_fault shelf.new) file) }
+    ensures write { result ≡ Err Fault.Write → Rose (K.faults out.old) (K.faults out.new) }
+    ensures before_lines { result ≡ Ok Outcome.BadDescription → input.new ≡ input.old }
+    ensures long_file { (words : List (List ℕ)) (file : List ℕ) → IsRowOf words command.entry → NamesFile words file
+        → IsLongFile (B.files shelf.old) file → input.new ≡ input.old }
+    ensures missing { (words : List (List ℕ)) (file : List ℕ) → IsRowOf words command.entry → NamesFile words file
+        → LacksFile (B.files shelf.old) file → ((result ≡ Err Fault.Read) ⊎ (result ≡ Err Fault.Memory))
+        × (input.new ≡ input.old) × (out.new ≡ out.old) × (lines.new.pending.items ≡ []) }
+    ensures shelf_never_falls { B.faults shelf.old ≤ B.faults shelf.new }
+    ensures input_never_falls { S.faults input.old ≤ S.faults input.new }
+    ensures out_never_falls { K.faults out.old ≤ K.faults out.new }
+    ensures steady_shelf { KeepsSteady (B.steady shelf.old) (B.steady shelf.new) (B.faults shelf.old) (B.faults shelf.new) }
+    ensures steady_input { KeepsSteady (S.steady input.old) (S.steady input.new) (S.faults input.old) (S.faults input.new) }
+    ensures steady_out { KeepsSteady (K.steady out.old) (K.steady out.new) (K.faults out.old) (K.faults out.new) }
+{
+    match command {
+        Command::Show(named) => show(alloc, named.file, named.name, shelf, input, out, lines),
+        Command::Migrate => answer_lines(alloc, &Migrate, input, out, lines),
+    }
 }
 
 fn ended_by(fault: Fault) -> Ended
@@ -309,10 +349,10 @@ pub fn run<B: Shelf, S: Source, K: Sink>(
     ensures steady_input { KeepsSteady (S.steady input.old) (S.steady input.new) (S.faults input.old) (S.faults input.new) }
     ensures steady_out { KeepsSteady (K.steady out.old) (K.steady out.new) (K.faults out.old) (K.faults out.new) }
 {
-    let Some(named) = command_of(words) else {
+    let Some(command) = command_of(words) else {
         return Ended::Usage;
     };
     let mut lines = Lines::new(alloc);
-    let outcome = show(alloc, named.file, named.name, shelf, input, out, &mut lines);
+    let outcome = perform(alloc, command, shelf, input, out, &mut lines);
     finish(outcome, &mut lines.pending, out)
 }

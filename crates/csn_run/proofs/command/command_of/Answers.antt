@@ -1,19 +1,6 @@
-use Rattle.std.proofs.Common.{refl, rules, sym, subst, ◌≡◌, ◌∙◌, ap, map, codes}
-use Rattle.std.specs.String.{string_bytes}
-use Rattle.csn_run.specs.Command.{IsArgument}
-use Rattle.csn_run.proofs.Words.{four_members}
+use Rattle.std.proofs.Common.{refl}
+use Rattle.csn_run.specs.Command.{show_row}
 use Rattle.csn_run.proofs.command.command_of.Goals as goal
 
-pub returns-then-is_argument-2-clause-names : goal.returns-then-is_argument-2-clause-names
-returns-then-is_argument-2-clause-names c =
-    let words = four_members c.args.words.now _ _ _ _ c.in-len4.len_at_least c.in-len4.len_below c.command-item.is c.file-item.is c.name-item.is c.reading-item.is in
-    let first : string_bytes c.command-item.result ≡ codes "show" = search rules in
-    record {
-      words_are = ap (map string_bytes) words ∙ cc (first, c.as_str-then-is_argument-2.ensures.value, c.as_str-then-is_argument-2-2.ensures.value, c.as_str.ensures.value, c.in_ok-reading.ensures.named);
-      file_fits = subst IsArgument (c.as_str-then-eq.ensures.value ∙ sym c.as_str-then-is_argument-2.ensures.value) (c.is_argument.ensures.0 c.if-is_argument.true);
-      name_fits = subst IsArgument (c.as_str-then-is_argument.ensures.value ∙ sym c.as_str-then-is_argument-2-2.ensures.value) (c.is_argument-then-is_argument.ensures.0 c.if-is_argument-2.true);
-    }
-
-pub returns-then-is_argument-2-clause-row : goal.returns-then-is_argument-2-clause-row
-returns-then-is_argument-2-clause-row c =
-    (λ _. (c.as_str-then-is_argument-2.result.now, c.as_str-then-is_argument-2-2.result.now, c.in_ok-reading.reading, returns-then-is_argument-2-clause-names c), λ _. refl)
+pub returns-clause-row : goal.returns-clause-row
+returns-clause-row c = (λ _. show_row _ _ _ c.in_ok-show.ensures.names, λ _. refl)
