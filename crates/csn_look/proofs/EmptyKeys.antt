@@ -7,20 +7,20 @@ use Rattle.csn_desc.specs.Spelled.{spelled}
 use Rattle.csn_look.specs.Keys.{Cut, kept, cut, InKeys, NodeKeys, PartsKeys, TimesKeys, keys_at, keys_lits, keys_spare, keys_field, keys_pad, keys_null, keys_rest, keys_many, keys_trunc, keys_window, keys_counted_field, keys_counted_times, keys_seq, keys_times, keys_choice, keys_named, parts_none, parts_cut, parts_whole, times_none, times_cut, times_whole}
 
 -- what is left empty was empty, and keeps its mark
-record WasEmpty (w : List ℕ) (whole mark : Bool) : Type 0 where
-  word : w ≡ []
-  same : mark ≡ whole
+pub record WasEmpty (w : List ℕ) (whole mark : Bool) : Type 0 where
+  pub word : w ≡ []
+  pub same : mark ≡ whole
 
-cut_empty : {most : ℕ} {w x : List ℕ} {whole mark : Bool} → 0 < most → Cut most w whole x mark → x ≡ [] → WasEmpty w whole mark
+pub cut_empty : {most : ℕ} {w x : List ℕ} {whole mark : Bool} → 0 < most → Cut most w whole x mark → x ≡ [] → WasEmpty w whole mark
 cut_empty some (kept short is same) none = record { word = sym is ∙ none; same = same }
 cut_empty {most = zero} some (cut long is same) none = absurd (omega arith)
 cut_empty {most = suc m} {w = []} some (cut long is same) none = absurd (omega arith)
 cut_empty {most = suc m} {w = a ∷ w} some (cut long is same) none = absurd (cc)
 
-empty_cut : {most : ℕ} {whole mark : Bool} (w : List ℕ) → w ≡ [] → mark ≡ whole → Cut most w whole [] mark
+pub empty_cut : {most : ℕ} {whole mark : Bool} (w : List ℕ) → w ≡ [] → mark ≡ whole → Cut most w whole [] mark
 empty_cut w none same = kept (rw none (omega arith)) (sym none) same
 
-no_words : (a b : List ℕ) → a ++ b ≡ [] → (a ≡ []) × (b ≡ [])
+pub no_words : (a b : List ℕ) → a ++ b ≡ [] → (a ≡ []) × (b ≡ [])
 no_words [] b none = (refl, none)
 no_words (x ∷ a) b none = absurd (cc)
 
@@ -28,7 +28,7 @@ spelled-none : (run : List Symbol) (o p : ℕ) → spelled run o ≡ [] → spel
 spelled-none [] o p none = refl
 spelled-none (s ∷ run) o p none = absurd (cc)
 
-one_is_some : (w : List ℕ) → length w ≡ 1 → w ≡ [] → ⊥
+pub one_is_some : (w : List ℕ) → length w ≡ 1 → w ≡ [] → ⊥
 one_is_some w one none = let e = ap length none in omega arith
 
 module _ (d : DescV) (most : ℕ) (some : 0 < most) where

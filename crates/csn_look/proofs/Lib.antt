@@ -1,4 +1,5 @@
 pub mod OctetMarks
+pub mod Octets
 pub mod EmptyKeys
 pub mod ShapeFacts
 pub mod NullableFacts
@@ -10,3 +11,6 @@ pub mod ReachFacts
 pub mod KeyMeant
 pub mod NearFacts
 pub mod KeyFollowed
+pub mod Tells
+pub mod Spanned
+pub mod LookFacts

@@ -7,5 +7,9 @@ pub mod Starts
 pub mod Keys
 pub mod Reached
 pub mod Told
+pub mod Sums
+pub mod Counts
+pub mod NodeSets
+pub mod LookV
 pub mod Laws
 pub mod Examples

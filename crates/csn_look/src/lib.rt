@@ -2,7 +2,10 @@
 #![tactic(auto)]
 
 mod follow;
+mod known;
 pub mod laws;
+mod look;
+mod node_sets;
 mod octet_set;
 mod symbol_set;
 #[cfg(test)]
@@ -10,6 +13,7 @@ mod tests;
 mod word;
 
 pub use follow::Follow;
+pub use look::Look;
 pub use octet_set::OctetSet;
 pub use symbol_set::{Sign, SymbolSet};
 pub use word::{Key, MOST_WORD, Word};

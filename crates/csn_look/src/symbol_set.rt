@@ -1,4 +1,4 @@
-ghost use Rattle.std.specs.Prelude.{◌≡◌};
+ghost use Rattle.std.specs.Prelude.{◌≡◌, if◌then◌else◌};
 ghost use Rattle.csn_look.specs.Signs.{no_signs, with_sign, has_sign};
 
 use std::marker::Model;
@@ -50,6 +50,20 @@ impl SymbolSet {
             Sign::One => SymbolSet { one: true, ..self },
             Sign::End => SymbolSet { end: true, ..self },
         }
+    }
+
+    /// The same signs, and one more where it is wanted.
+    pub(crate) fn with_if(self, sign: Sign, wanted: bool) -> SymbolSet
+        ensures { result ≡ (if wanted then with_sign self sign else self) }
+    {
+        if wanted { self.with(sign) } else { self }
+    }
+
+    /// The same signs where they are wanted, and else none.
+    pub(crate) fn kept_if(self, wanted: bool) -> SymbolSet
+        ensures { result ≡ (if wanted then self else no_signs) }
+    {
+        if wanted { self } else { SymbolSet::empty() }
     }
 
     /// Whether the sign is in the set.

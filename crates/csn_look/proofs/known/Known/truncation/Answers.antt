@@ -1,0 +1,28 @@
+use Rattle.std.proofs.Common.{drop, List, ℕ, true, false, refl, sym, subst}
+use Rattle.csn_look.specs.declared.node_sets.NodeSets.{NodeSets}
+use Rattle.csn_look.proofs.Tells.{LeadSetsAre, last_none, last_all, last_more, no_lead, more_lead, trunc_sets}
+use Rattle.csn_look.proofs.known.Known.truncation.Goals as goal
+
+pub loop-at-init : goal.loop-at-init
+loop-at-init c =
+    let d = c.args.self.now.desc.now in
+    let none = c.no_bits.ensures in
+    let sets : NodeSets = record c.no_bits.result { whole_empty = false; cut_empty = true } in
+    subst (λ (ps : List ℕ). LeadSetsAre d ps sets) (sym (last_none c.args.parts.now c.len-at.result c.len-at.ensures.len))
+    (no_lead d sets none.nullable refl refl none.lengths none.zero none.one)
+
+pub loop-at-preserved : goal.loop-at-preserved
+loop-at-preserved c =
+    let d = c.args.self.now.desc.now in
+    let then = c.then-all.ensures in
+    let sets : NodeSets = record c.then-all.result { nullable = true; whole_empty = false; cut_empty = true; lengths = c.with.result } in
+    subst (λ (ps : List ℕ). LeadSetsAre d ps sets) (sym (last_more c.args.parts.now c.loop-at.at c.get.result c.loop-at-test.true c.get.ensures))
+    (more_lead d c.get.result (drop c.loop-at.at c.args.parts.now) c.of.result c.loop-at.sets c.then-all.result sets c.of.ensures c.loop-at.invariant
+    (record { nullable = then.nullable; whole_empty = then.whole_empty; cut_empty = then.cut_empty; lengths = then.lengths; zero = then.zero; one = then.one })
+    (record { nullable = refl; whole_empty = refl; cut_empty = refl; lengths = c.with.ensures; zero = refl; one = refl }))
+
+pub returns : goal.returns
+returns c =
+    let d = c.args.self.now.desc.now in
+    trunc_sets d c.args.parts.now c.loop-at.sets
+    (subst (λ (ps : List ℕ). LeadSetsAre d ps c.loop-at.sets) (last_all c.args.parts.now c.loop-at.at c.loop-at-test.false) c.loop-at.invariant)

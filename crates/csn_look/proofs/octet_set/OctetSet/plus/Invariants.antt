@@ -1,0 +1,7 @@
+use Rattle.std.proofs.Common.{◌+◌, ◌-◌, ◌%◌}
+use Rattle.csn_look.specs.Sums.{Has}
+use Rattle.csn_look.proofs.Octets.{Swept}
+use Rattle.csn_look.proofs.octet_set.OctetSet.plus.Given as goal
+
+abbrev pub invariant-loop-by : goal.invariant-loop-by
+invariant-loop-by l = Swept (λ b o. Has l.other b × Has l.self ((o + 8 - b) % 8)) l.by l.sums

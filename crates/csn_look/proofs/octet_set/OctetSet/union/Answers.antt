@@ -1,0 +1,11 @@
+use Rattle.std.proofs.Common.{ap, ◌∙◌}
+use Rattle.std.specs.FinSet as set
+use Rattle.csn_look.specs.Marks.{marked}
+use Rattle.csn_look.proofs.Octets.{marked_union}
+use Rattle.csn_look.proofs.octet_set.OctetSet.union.Goals as goal
+
+pub returns : goal.returns
+returns c =
+    marked_union c.self.inside.marks c.other.inside.marks
+    ∙ ap (λ s. set.union s (marked c.other.inside.marks)) c.self.view_is
+    ∙ ap (λ s. set.union c.args.self s) c.other.view_is
