@@ -1,23 +1,22 @@
 -- Each first piece of a key is followed, where the node is well formed and what it sees has values.
-use Rattle.std.proofs.Common.{◌≡◌, ℕ, zero, suc, ◌+◌, ◌*◌, ◌%◌, ◌<◌, ◌≤◌, ◌==◌, ◌⊎◌, Bool, true, false, if◌then◌else◌, List, [], ◌∷◌, ◌++◌, length, refl, sym, ◌∙◌, ap, subst, arith, append_assoc, append-nil, inl, inr, Some, None, Option, slice_get, Contains}
+use Rattle.std.proofs.Common.{◌≡◌, ℕ, zero, suc, ◌+◌, ◌%◌, ◌<◌, ◌==◌, ◌⊎◌, Bool, true, false, if◌then◌else◌, List, [], ◌∷◌, ◌++◌, length, refl, sym, ◌∙◌, ap, subst, arith, append_assoc, append-nil, inl, inr, Some, slice_get, Contains}
 use Rattle.std.specs.Prelude.{IsSome}
 use Rattle.std.specs.List.{slice_index_or}
-use Rattle.csn_desc.specs.declared.symbol.Symbol.{Symbol}
 use Rattle.csn_desc.specs.declared.symbol.Symbol.TheVariants.{Low}
 use Rattle.csn_desc.specs.declared.node.Count.{Count}
 use Rattle.csn_desc.specs.declared.node.Node.{Node}
-use Rattle.csn_desc.specs.declared.node.Node.TheVariants.{Lits, Spare, Pad, Null, Field, Rest, Seq, Choice, Times, Many, Trunc, Window, Named}
-use Rattle.csn_desc.specs.TreeV.{TreeV, empty, row, Trees, none, more}
+use Rattle.csn_desc.specs.declared.node.Node.TheVariants.{Seq, Times}
+use Rattle.csn_desc.specs.TreeV.{TreeV, row, Trees, none, more}
 use Rattle.csn_desc.specs.Nodes.{DescV, parts_of}
 use Rattle.csn_desc.specs.Spelled.{spelled}
 use Rattle.csn_desc.specs.Values.{Values, number_of, value_of, count_of, is_named, with_value}
-use Rattle.csn_desc.specs.Means.{NMeans, PartsMean, TimesMean, means_lits, means_spare, means_pad, means_null, means_field, means_seq, means_times, parts_end, parts_next, times_end, times_next}
+use Rattle.csn_desc.specs.Means.{NMeans, PartsMean, TimesMean, means_lits, means_spare, means_pad, means_field, means_seq, means_times, parts_end, parts_next, times_end, times_next}
 use Rattle.csn_desc.specs.Follows.{NFollow, NodeFollows, PartsFollow, TimesFollow, follows_at, follows_whole, follows_lits, follows_spare, follows_pad, follows_field, follows_seq, follows_choice, follows_times, follows_named, parts_here, parts_later, times_here, times_later}
 use Rattle.csn_desc.specs.Formed.{shows_earlier, with_seen, Formed, PartsFormed, formed, formed_end, formed_next, HaveValues}
 use Rattle.csn_desc.proofs.Nodewise.{follow_at}
 use Rattle.csn_desc.proofs.Empties.{empty_followed}
 use Rattle.csn_desc.proofs.Prefixes.{prefix_followed}
-use Rattle.csn_look.specs.Keys.{Cut, InKeys, NodeKeys, PartsKeys, TimesKeys, keys_at, keys_lits, keys_spare, keys_field, keys_pad, keys_null, keys_rest, keys_many, keys_trunc, keys_window, keys_counted_field, keys_counted_times, keys_seq, keys_times, keys_choice, keys_named, parts_none, parts_cut, parts_whole, times_none, times_cut, times_whole}
+use Rattle.csn_look.specs.Keys.{InKeys, NodeKeys, PartsKeys, TimesKeys, keys_at, keys_lits, keys_spare, keys_field, keys_pad, keys_null, keys_rest, keys_many, keys_trunc, keys_window, keys_counted_field, keys_counted_times, keys_seq, keys_times, keys_choice, keys_named, parts_none, parts_cut, parts_whole, times_none, times_cut, times_whole}
 use Rattle.csn_look.proofs.KeyFacts.{spelled-octet}
 use Rattle.csn_look.proofs.KeyMeant.{cut_rest, spare_at, octet_next, octet_again, key_meant}
 use Rattle.csn_look.proofs.NearFacts.{held_along}

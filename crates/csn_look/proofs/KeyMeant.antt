@@ -1,7 +1,6 @@
 -- Keys are keys of something: a whole one is bits that have a tree, whatever values are seen; the first bit of
 -- one is a bit that the node may begin with; and each one is followed.
-use Rattle.std.proofs.Common.{◌≡◌, ℕ, zero, suc, ◌+◌, ◌*◌, ◌%◌, ◌<◌, ◌≤◌, ◌==◌, ◌⊎◌, Bool, true, false, if◌then◌else◌, List, [], ◌∷◌, ◌++◌, length, take, drop, take-append-drop, refl, sym, ◌∙◌, ap, subst, arith, append_assoc, append-nil, inl, inr, Some, None, Option, slice_get, Contains, eqb-true}
-use Rattle.std.specs.Prelude.{replicate, IsSome}
+use Rattle.std.proofs.Common.{◌≡◌, ℕ, suc, ◌+◌, ◌%◌, Bool, true, List, [], ◌∷◌, ◌++◌, length, drop, take-append-drop, refl, sym, ◌∙◌, ap, subst, arith, append-nil}
 use Rattle.csn_bits.specs.Octets.{IsBits}
 use Rattle.csn_desc.specs.declared.reading.Reading.{Reading}
 use Rattle.csn_desc.specs.declared.reading.Reading.TheVariants.{Received, Sent}
@@ -15,10 +14,10 @@ use Rattle.csn_desc.specs.Values.{Values, with_value}
 use Rattle.csn_desc.specs.Means.{NMeans, NodeMeans, PartsMean, TimesMean, means_at, means_lits, means_spare, means_null, means_field, means_seq, means_choice, means_times, means_named, parts_end, parts_next, times_end, times_next}
 use Rattle.csn_look.specs.Starts.{InStart, NodeStarts, PartsStart, starts_at, starts_lits, starts_spare, starts_pad, starts_field, starts_seq, starts_choice, starts_times, starts_named, starts_here, starts_later}
 use Rattle.csn_look.specs.Keys.{Cut, kept, cut, InKeys, NodeKeys, PartsKeys, TimesKeys, keys_at, keys_lits, keys_spare, keys_field, keys_pad, keys_null, keys_rest, keys_many, keys_trunc, keys_window, keys_counted_field, keys_counted_times, keys_seq, keys_times, keys_choice, keys_named, parts_none, parts_cut, parts_whole, times_none, times_cut, times_whole}
-use Rattle.csn_look.proofs.ShapeFacts.{Shaped, Widths, no_widths}
+use Rattle.csn_look.proofs.ShapeFacts.{Shaped, no_widths}
 use Rattle.csn_look.proofs.NullableFacts.{nullable}
 use Rattle.csn_look.proofs.EndsFacts.{ends}
-use Rattle.csn_look.proofs.StartFacts.{symbol_bit-octet, first_spare, bit_is}
+use Rattle.csn_look.proofs.StartFacts.{symbol_bit-octet, bit_is}
 use Rattle.csn_look.proofs.KeyFacts.{spelled-octet}
 
 -- a word that is left whole is all of a whole word

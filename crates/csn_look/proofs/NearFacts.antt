@@ -1,6 +1,6 @@
 -- Each well-formed node has a key at each octet position, and bits that it follows begin with a key, or are the
 -- beginning of one.
-use Rattle.std.proofs.Common.{◌≡◌, ℕ, zero, suc, ◌+◌, ◌*◌, ◌%◌, ◌<◌, ◌≤◌, Bool, true, false, List, [], ◌∷◌, ◌++◌, length, take, drop, take-append-drop, refl, sym, ◌∙◌, ap, subst, arith, append_assoc, append-nil, length-append, inl, inr, Some, slice_get}
+use Rattle.std.proofs.Common.{◌≡◌, ℕ, zero, suc, ◌+◌, ◌*◌, ◌%◌, Bool, true, false, List, [], ◌∷◌, ◌++◌, length, take, drop, take-append-drop, refl, sym, ◌∙◌, ap, subst, arith, append_assoc, append-nil, length-append, inl, inr, Some, slice_get}
 use Rattle.std.specs.Prelude.{replicate}
 use Rattle.std.proofs.lemmas.Bool.Decides.{leb_tells}
 use Rattle.std.proofs.lemmas.List.{length-replicate}
@@ -13,11 +13,11 @@ use Rattle.csn_desc.specs.declared.node.Count.{Count}
 use Rattle.csn_desc.specs.declared.node.Count.TheVariants.{Fixed, Counted}
 use Rattle.csn_desc.specs.declared.node.Node.{Node}
 use Rattle.csn_desc.specs.declared.node.Node.TheVariants.{Lits, Spare, Pad, Null, Field, Rest, Seq, Choice, Times, Many, Trunc, Window, Named}
-use Rattle.csn_desc.specs.Nodes.{DescV, head_of, parts_of}
+use Rattle.csn_desc.specs.Nodes.{DescV, parts_of}
 use Rattle.csn_desc.specs.Spelled.{spelled, IsSpare}
-use Rattle.csn_desc.specs.Values.{Values, count_of, with_value}
+use Rattle.csn_desc.specs.Values.{Values, count_of}
 use Rattle.csn_desc.specs.Follows.{NFollow, NodeFollows, PartsFollow, TimesFollow, follows_at, follows_whole, follows_lits, follows_spare, follows_pad, follows_field, follows_seq, follows_choice, follows_times, follows_many, follows_trunc, follows_window, follows_named, parts_here, parts_later, times_here, times_later}
-use Rattle.csn_desc.specs.Formed.{shows_earlier, HasParts, Formed, PartsFormed, formed, formed_end, formed_next}
+use Rattle.csn_desc.specs.Formed.{shows_earlier, Formed, PartsFormed, formed, formed_end, formed_next}
 use Rattle.csn_desc.proofs.BitFacts.{IsBits-spelled}
 use Rattle.csn_desc.proofs.Splits.{splits, inside, behind}
 use Rattle.csn_look.specs.Keys.{Cut, kept, cut, InKeys, NodeKeys, PartsKeys, TimesKeys, keys_at, keys_lits, keys_spare, keys_field, keys_pad, keys_null, keys_rest, keys_many, keys_trunc, keys_window, keys_counted_field, keys_counted_times, keys_seq, keys_times, keys_choice, keys_named, parts_none, parts_cut, parts_whole, times_none, times_cut, times_whole}
@@ -135,13 +135,13 @@ near_front {P} b rest is h =
     elim (splits h.word h.rest b rest (sym h.begins ∙ is)) [
       | inside m p q ↦ near_within m h.key p
       | behind m p q ↦ near_begun (record {
-          word = h.word;
-          mark = h.mark;
-          rest = m;
-          key = h.key;
-          begins = p;
-          whole = λ yes. let over = h.whole yes in none_left h.word m rest p (sym (append-nil h.word) ∙ ap (λ l. h.word ++ l) (sym over) ∙ sym h.begins ∙ is);
-        })
+        word = h.word;
+        mark = h.mark;
+        rest = m;
+        key = h.key;
+        begins = p;
+        whole = λ yes. let over = h.whole yes in none_left h.word m rest p (sym (append-nil h.word) ∙ ap (λ l. h.word ++ l) (sym over) ∙ sym h.begins ∙ is);
+      })
     ]
 
 -- a word that the bits begin, or that begins them, cut
@@ -150,13 +150,13 @@ near_word most w whole P b rest is make =
     elim (leb_tells (length w) most) [
       | inl short ↦ near_within rest (make w whole (kept short.1 refl refl)) is
       | inr long ↦ near_front b rest is (record {
-          word = take most w;
-          mark = false;
-          rest = drop most w;
-          key = make (take most w) false (cut long.1 refl refl);
-          begins = sym (take-append-drop most w);
-          whole = λ yes. absurd (cc);
-        })
+        word = take most w;
+        mark = false;
+        rest = drop most w;
+        key = make (take most w) false (cut long.1 refl refl);
+        begins = sym (take-append-drop most w);
+        whole = λ yes. absurd (cc);
+      })
     ]
 
 -- ---- a part, and keys of what stands behind it
