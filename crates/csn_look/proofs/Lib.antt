@@ -14,3 +14,8 @@ pub mod KeyFollowed
 pub mod Tells
 pub mod Spanned
 pub mod LookFacts
+pub mod Puts
+pub mod Parents
+pub mod HandDown
+pub mod ReachTables
+pub mod FollowTables

@@ -58,6 +58,25 @@ end_first false true false at = refl
 end_first false false true at = refl
 end_first false false false at = refl
 
+one_sign : (s t : Sign) → bit_of_sign s ≡ bit_of_sign t → s ≡ t
+one_sign Zero Zero e = refl
+one_sign One One e = refl
+one_sign End End e = refl
+one_sign Zero One e = let clash : ◌≡◌ {A = ℕ} 0 1 = cc in absurd (omega arith)
+one_sign One Zero e = let clash : ◌≡◌ {A = ℕ} 1 0 = cc in absurd (omega arith)
+one_sign Zero End e = cc
+one_sign One End e = cc
+one_sign End Zero e = cc
+one_sign End One e = cc
+
+pub follow_has : (follow : List SignsV) (o : ℕ) (at : SignsV) (sign : Sign) → slice_get follow o ≡ Some at → IsTrue (has_sign at sign) ↔ FollowHas follow o (bit_of_sign sign)
+follow_has follow o at sign e = (
+  (λ h. (sign, refl, subst (λ s. IsSomeAnd s (λ signs. IsTrue (has_sign signs sign))) (sym e) h)),
+  (λ (s, same, h).
+      let here : IsTrue (has_sign at s) = subst (λ q. IsSomeAnd q (λ signs. IsTrue (has_sign signs s))) e h in
+      subst (λ q. IsTrue (has_sign at q)) (sym (one_sign sign s same)) here),
+)
+
 module _ (d : DescV) where
   pub known_sets : (look : List NodeSets) (i : ℕ) (sets : NodeSets) → IsLookOf d look → slice_get look i ≡ Some sets → SetsAre d i sets
   known_sets look i sets l at =
@@ -100,25 +119,6 @@ module _ (d : DescV) where
         let short = r.small in
         let same : r.length ≡ (p + 8 - octet) % 8 = omega arith in
         (turned p small).1 (subst (λ q. Has sets.lengths q) same r.has_length)),
-  )
-
-  one_sign : (s t : Sign) → bit_of_sign s ≡ bit_of_sign t → s ≡ t
-  one_sign Zero Zero e = refl
-  one_sign One One e = refl
-  one_sign End End e = refl
-  one_sign Zero One e = let clash : ◌≡◌ {A = ℕ} 0 1 = cc in absurd (omega arith)
-  one_sign One Zero e = let clash : ◌≡◌ {A = ℕ} 1 0 = cc in absurd (omega arith)
-  one_sign Zero End e = cc
-  one_sign One End e = cc
-  one_sign End Zero e = cc
-  one_sign End One e = cc
-
-  follow_has : (follow : List SignsV) (o : ℕ) (at : SignsV) (sign : Sign) → slice_get follow o ≡ Some at → IsTrue (has_sign at sign) ↔ FollowHas follow o (bit_of_sign sign)
-  follow_has follow o at sign e = (
-    (λ h. (sign, refl, subst (λ s. IsSomeAnd s (λ signs. IsTrue (has_sign signs sign))) (sym e) h)),
-    (λ (s, same, h).
-        let here : IsTrue (has_sign at s) = subst (λ q. IsSomeAnd q (λ signs. IsTrue (has_sign signs s))) e h in
-        subst (λ q. IsTrue (has_sign at q)) (sym (one_sign sign s same)) here),
   )
 
   pub first_is : (i octet : ℕ) (sets : NodeSets) (follow : List SignsV) (at : SignsV) → SetsAre d i sets → octet ≤ 7 → slice_get follow octet ≡ Some at → SignsAre (put_first sets.nullable (set.contains sets.zero octet) (set.contains sets.one octet) at) (InFirst d (FollowHas follow) i octet)

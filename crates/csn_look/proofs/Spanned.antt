@@ -45,7 +45,7 @@ module _ (nodes : List Node) where
           ]
         ]
 
-  part_before : {parts : List ℕ} {at end : ℕ} (j p : ℕ) → PartsSpan nodes parts at end → slice_get parts j ≡ Some p → p < end
+  pub part_before : {parts : List ℕ} {at end : ℕ} (j p : ℕ) → PartsSpan nodes parts at end → slice_get parts j ≡ Some p → p < end
   part_before j p (span_end e) at = cc
   part_before zero p (span_next {i = first} middle e h others) at =
       let same : first ≡ p = cc in
@@ -54,7 +54,7 @@ module _ (nodes : List Node) where
       omega arith
   part_before (suc j) p (span_next middle e h others) at = part_before j p others at
 
-  span_parts : {i end : ℕ} {n : Node} → slice_get nodes i ≡ Some n → Spans nodes i end → PartsSpan nodes (parts_of n) (suc i) end
+  pub span_parts : {i end : ℕ} {n : Node} → slice_get nodes i ≡ Some n → Spans nodes i end → PartsSpan nodes (parts_of n) (suc i) end
   span_parts {i} {end} {n} at (spans m is h) = let same : m ≡ n = cc in subst (λ k. PartsSpan nodes (parts_of k) (suc i) end) same h
 
 -- where the sets of all later nodes are known, those of its parts are

@@ -736,7 +736,7 @@ module _ (d : DescV) where
 
   -- ---- repetitions
 
-  times_of : {s : set.FinSet nat_cmp} {i n r : ℕ} (o : ℕ) → LengthsAre s (InEnds d i) → o ≤ 7 → SumOf s n r → TimesEnd d n i o ((o + r) % 8)
+  pub times_of : {s : set.FinSet nat_cmp} {i n r : ℕ} (o : ℕ) → LengthsAre s (InEnds d i) → o ≤ 7 → SumOf s n r → TimesEnd d n i o ((o + r) % 8)
   times_of {s} {i} {n} {r} o are small (sum_none e f) = times_end e (omega arith)
   times_of {s} {i} {n} {r} o are small (sum_next m a b e a_small has others is) =
       let low : (o + a) % 8 ≤ 7 = omega arith in
@@ -744,12 +744,12 @@ module _ (d : DescV) where
       let total : ((o + a) % 8 + b) % 8 ≡ (o + r) % 8 = two_lengths o a b ∙ ap (λ q. (o + q) % 8) (sym is) in
       times_next m ((o + a) % 8) e first (subst (λ q. TimesEnd d m i ((o + a) % 8) q) total (times_of ((o + a) % 8) are low others))
 
-  record HasSum (s : set.FinSet nat_cmp) (n o p : ℕ) : Type 0 where
+  pub record HasSum (s : set.FinSet nat_cmp) (n o p : ℕ) : Type 0 where
     pub sum : ℕ
     pub is_sum : SumOf s n sum
     pub is : p ≡ (o + sum) % 8
 
-  sum_of_times : {s : set.FinSet nat_cmp} {i n o p : ℕ} → LengthsAre s (InEnds d i) → o ≤ 7 → TimesEnd d n i o p → HasSum s n o p
+  pub sum_of_times : {s : set.FinSet nat_cmp} {i n o p : ℕ} → LengthsAre s (InEnds d i) → o ≤ 7 → TimesEnd d n i o p → HasSum s n o p
   sum_of_times {o = o} are small (times_end e f) = record { sum = 0; is_sum = sum_none e refl; is = f ∙ here_length o small }
   sum_of_times {o = o} are small (times_next m middle e h others) =
       let r = (are o middle small).1 h in

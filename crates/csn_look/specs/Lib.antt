@@ -11,5 +11,8 @@ pub mod Sums
 pub mod Counts
 pub mod NodeSets
 pub mod LookV
+pub mod ReachV
+pub mod Steps
+pub mod FollowV
 pub mod Laws
 pub mod Examples

@@ -2,11 +2,13 @@
 #![tactic(auto)]
 
 mod follow;
+mod following;
 mod known;
 pub mod laws;
 mod look;
 mod node_sets;
 mod octet_set;
+mod reach;
 mod symbol_set;
 #[cfg(test)]
 mod tests;
@@ -15,5 +17,6 @@ mod word;
 pub use follow::Follow;
 pub use look::Look;
 pub use octet_set::OctetSet;
+pub use reach::Reach;
 pub use symbol_set::{Sign, SymbolSet};
 pub use word::{Key, MOST_WORD, Word};

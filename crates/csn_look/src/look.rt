@@ -5,7 +5,7 @@ ghost use Rattle.csn_look.specs.Ends.{InEnds};
 ghost use Rattle.csn_look.specs.Starts.{InFirst};
 ghost use Rattle.csn_look.specs.Keys.{IsFirm};
 ghost use Rattle.csn_look.specs.Told.{OctetsAre, SignsAre, FollowHas};
-ghost use Rattle.csn_look.specs.NodeSets.{IsLookOf};
+ghost use Rattle.csn_look.specs.NodeSets.{LengthsAre, IsLookOf};
 
 use crate::follow::Follow;
 use crate::known::Known;
@@ -93,8 +93,16 @@ impl Look {
             .with_if(Sign::One, sets.one.has(octet))
     }
 
+    /// How many bits a node may have, modulo 8.
+    pub(crate) fn lengths(&self, node: u16) -> OctetSet
+        requires { node < length self.now.sets }
+        ensures { (d : DescV) → IsLookOf d self.now.sets → LengthsAre result (InEnds d node) }
+    {
+        self.of(node).lengths
+    }
+
     /// The sets of a node.
-    fn of(&self, node: u16) -> NodeSets
+    pub(crate) fn of(&self, node: u16) -> NodeSets
         requires { node < length self.now.sets }
         ensures { slice_get self.now.sets node ≡ Some result }
     {

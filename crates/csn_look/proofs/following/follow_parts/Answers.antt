@@ -1,0 +1,90 @@
+use Rattle.std.proofs.Common.{refl, length}
+use Rattle.csn_look.proofs.LookFacts.{known_sets}
+use Rattle.csn_look.proofs.ReachTables.{once_kind, below_kind, part_below, single_others, others_of}
+use Rattle.csn_look.proofs.FollowTables.{follows_of, single_follows, says_times, says_many, says_window, says_named}
+use Rattle.csn_look.proofs.following.follow_parts.Goals as goal
+
+pub follow_in_order-requires-clause-once : goal.follow_in_order-requires-clause-once
+follow_in_order-requires-clause-once c = once_kind c.args.node.now _ c.in-Seq.is c.requires.once
+
+pub follow_in_order-requires-clause-below : goal.follow_in_order-requires-clause-below
+follow_in_order-requires-clause-below c = below_kind c.args.node.now _ (length c.args.table.now) c.in-Seq.is c.requires.below
+
+pub follow_in_order-requires-clause-known : goal.follow_in_order-requires-clause-known
+follow_in_order-requires-clause-known c = below_kind c.args.node.now _ (length c.args.look.now.sets) c.in-Seq.is c.requires.known
+
+pub returns-in-Seq-clause-follows : goal.returns-in-Seq-clause-follows
+returns-in-Seq-clause-follows c = λ d k look says. follows_of d c.args.node.now _ k c.follow_in_order.new.table c.in-Seq.is (c.follow_in_order.ensures.follows d k look says)
+
+pub returns-in-Seq-clause-others : goal.returns-in-Seq-clause-others
+returns-in-Seq-clause-others c = others_of c.args.node.now _ c.args.table.now c.follow_in_order.new.table c.in-Seq.is c.follow_in_order.ensures.others
+
+pub follow_in_truncation-requires-clause-once : goal.follow_in_truncation-requires-clause-once
+follow_in_truncation-requires-clause-once c = once_kind c.args.node.now _ c.in-Trunc.is c.requires.once
+
+pub follow_in_truncation-requires-clause-below : goal.follow_in_truncation-requires-clause-below
+follow_in_truncation-requires-clause-below c = below_kind c.args.node.now _ (length c.args.table.now) c.in-Trunc.is c.requires.below
+
+pub follow_in_truncation-requires-clause-known : goal.follow_in_truncation-requires-clause-known
+follow_in_truncation-requires-clause-known c = below_kind c.args.node.now _ (length c.args.look.now.sets) c.in-Trunc.is c.requires.known
+
+pub returns-in-Trunc-clause-follows : goal.returns-in-Trunc-clause-follows
+returns-in-Trunc-clause-follows c = λ d k look says. follows_of d c.args.node.now _ k c.follow_in_truncation.new.table c.in-Trunc.is (c.follow_in_truncation.ensures.follows d k look says)
+
+pub returns-in-Trunc-clause-others : goal.returns-in-Trunc-clause-others
+returns-in-Trunc-clause-others c = others_of c.args.node.now _ c.args.table.now c.follow_in_truncation.new.table c.in-Trunc.is c.follow_in_truncation.ensures.others
+
+pub follow_each-requires : goal.follow_each-requires
+follow_each-requires c = record { below = below_kind c.args.node.now _ (length c.args.table.now) c.in-Choice.is c.requires.below }
+
+pub returns-in-Choice-clause-follows : goal.returns-in-Choice-clause-follows
+returns-in-Choice-clause-follows c = λ d k look says. follows_of d c.args.node.now _ k c.follow_each.new.table c.in-Choice.is (c.follow_each.ensures.follows d k says)
+
+pub returns-in-Choice-clause-others : goal.returns-in-Choice-clause-others
+returns-in-Choice-clause-others c = others_of c.args.node.now _ c.args.table.now c.follow_each.new.table c.in-Choice.is c.follow_each.ensures.others
+
+pub of-requires : goal.of-requires
+of-requires c = part_below c.args.node.now _ (length c.args.look.now.sets) c.in-Times.part c.in-Times.is refl c.requires.known
+
+pub of-requires-in-Many : goal.of-requires-in-Many
+of-requires-in-Many c = part_below c.args.node.now _ (length c.args.look.now.sets) c.in-Many.part c.in-Many.is refl c.requires.known
+
+pub bounds-table-part : goal.bounds-table-part
+bounds-table-part c = part_below c.args.node.now _ (length c.args.table.now) c.in-Times.part c.in-Times.is refl c.requires.below
+
+pub bounds-table-part-in-Many : goal.bounds-table-part-in-Many
+bounds-table-part-in-Many c = part_below c.args.node.now _ (length c.args.table.now) c.in-Many.part c.in-Many.is refl c.requires.below
+
+pub bounds-table-part-in-Window : goal.bounds-table-part-in-Window
+bounds-table-part-in-Window c = part_below c.args.node.now _ (length c.args.table.now) c.in-Window.part c.in-Window.is refl c.requires.below
+
+pub bounds-table-part-in-Named : goal.bounds-table-part-in-Named
+bounds-table-part-in-Named c = part_below c.args.node.now _ (length c.args.table.now) c.in-Named.part c.in-Named.is refl c.requires.below
+
+pub returns-in-Times-clause-follows : goal.returns-in-Times-clause-follows
+returns-in-Times-clause-follows c = λ d k look says. single_follows d c.args.node.now _ k c.ahead_of.result c.in-Times.part c.args.table.now c.in-Times.is refl (part_below c.args.node.now _ (length c.args.table.now) c.in-Times.part c.in-Times.is refl c.requires.below)
+    (says_times d c.in-Times.count k c.in-Times.part _ c.of.result _ c.args.above c.ahead_of.result (known_sets d c.args.look.now.sets c.in-Times.part c.of.result look c.of.ensures) refl refl refl says c.ahead_of.ensures)
+
+pub returns-in-Times-clause-others : goal.returns-in-Times-clause-others
+returns-in-Times-clause-others c = single_others c.args.node.now _ c.in-Times.part c.ahead_of.result c.args.table.now c.in-Times.is refl
+
+pub returns-in-Many-clause-follows : goal.returns-in-Many-clause-follows
+returns-in-Many-clause-follows c = λ d k look says. single_follows d c.args.node.now _ k c.ahead_of-in-Many.result c.in-Many.part c.args.table.now c.in-Many.is refl (part_below c.args.node.now _ (length c.args.table.now) c.in-Many.part c.in-Many.is refl c.requires.below)
+    (says_many d k c.in-Many.part _ c.of-in-Many.result _ c.args.above c.ahead_of-in-Many.result (known_sets d c.args.look.now.sets c.in-Many.part c.of-in-Many.result look c.of-in-Many.ensures) refl refl refl says c.ahead_of-in-Many.ensures)
+
+pub returns-in-Many-clause-others : goal.returns-in-Many-clause-others
+returns-in-Many-clause-others c = single_others c.args.node.now _ c.in-Many.part c.ahead_of-in-Many.result c.args.table.now c.in-Many.is refl
+
+pub returns-in-Window-clause-follows : goal.returns-in-Window-clause-follows
+returns-in-Window-clause-follows c = λ d k look says. single_follows d c.args.node.now _ k c.end.result c.in-Window.part c.args.table.now c.in-Window.is refl (part_below c.args.node.now _ (length c.args.table.now) c.in-Window.part c.in-Window.is refl c.requires.below)
+    (says_window d c.in-Window.unit c.in-Window.part k c.in-Window.part c.in-Window.count _ c.end.result (record { zero = c.end.ensures.zero; one = c.end.ensures.one; end = c.end.ensures.end }))
+
+pub returns-in-Window-clause-others : goal.returns-in-Window-clause-others
+returns-in-Window-clause-others c = single_others c.args.node.now _ c.in-Window.part c.end.result c.args.table.now c.in-Window.is refl
+
+pub returns-in-Named-clause-follows : goal.returns-in-Named-clause-follows
+returns-in-Named-clause-follows c = λ d k look says. single_follows d c.args.node.now _ k c.args.above c.in-Named.part c.args.table.now c.in-Named.is refl (part_below c.args.node.now _ (length c.args.table.now) c.in-Named.part c.in-Named.is refl c.requires.below)
+    (says_named d c.in-Named.label c.in-Named.part k c.in-Named.part _ c.args.above says)
+
+pub returns-in-Named-clause-others : goal.returns-in-Named-clause-others
+returns-in-Named-clause-others c = single_others c.args.node.now _ c.in-Named.part c.args.above c.args.table.now c.in-Named.is refl

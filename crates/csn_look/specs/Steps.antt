@@ -1,0 +1,31 @@
+-- Where the parts of one node are reached from where the node is.
+use Rattle.std.specs.Prelude.{◌≡◌, ℕ, ◌<◌, ◌≤◌, List, take, slice_get, Some}
+use Rattle.std.specs.Ordering.{nat_cmp}
+use Rattle.std.specs.FinSet as set
+use Rattle.csn_desc.specs.declared.node.Node.{Node}
+use Rattle.csn_desc.specs.Nodes.{DescV, parts_of}
+use Rattle.csn_look.specs.Sums.{Has}
+use Rattle.csn_look.specs.Reached.{PartReached}
+use Rattle.csn_look.specs.ReachV.{HasAt}
+
+-- the part p at the place j of the node is reached at the octet position o, from one of the set
+pub record IsStep (d : DescV) (n : Node) (from : set.FinSet nat_cmp) (j p o : ℕ) : Type 0 where
+  pub begin : ℕ
+  pub low : begin ≤ 7
+  pub has_begin : Has from begin
+  pub step : PartReached d n (take j (parts_of n)) p begin o
+
+-- the list has for each part of the node where it is so reached
+abbrev pub HasSteps : DescV → Node → set.FinSet nat_cmp → List (set.FinSet nat_cmp) → Type 0
+HasSteps d n from sets = (j p : ℕ) → slice_get (parts_of n) j ≡ Some p → HasAt sets p (IsStep d n from j p)
+
+-- the node has no part twice, and each is one of so many nodes
+abbrev pub HasPartsBelow : Node → ℕ → Type 0
+HasPartsBelow n count = (j p : ℕ) → slice_get (parts_of n) j ≡ Some p → p < count
+
+abbrev pub HasPartsOnce : Node → Type 0
+HasPartsOnce n = (j k p : ℕ) → slice_get (parts_of n) j ≡ Some p → slice_get (parts_of n) k ≡ Some p → j ≡ k
+
+-- what the list has for what is no part of the node stays
+abbrev pub KeepsOthers : {A : Type 0} → Node → List A → List A → Type 0
+KeepsOthers n old new = (i : ℕ) → ((j : ℕ) → slice_get (parts_of n) j ≡ Some i → ⊥) → slice_get new i ≡ slice_get old i
