@@ -1,3 +1,5 @@
 pub mod Ranks
 pub mod ShorterWords
+pub mod Pieces
+pub mod Decisions
 pub mod OneTree

@@ -1,133 +1,37 @@
 -- In a certified description any bits have at most one tree, at the root and, whatever may stand behind, at
 -- each node.
-use Rattle.std.proofs.Common.{◌≡◌, ◌≢◌, ℕ, ◌+◌, ◌*◌, ◌%◌, ◌<◌, ◌⊎◌, inl, inr, List, [], ◌∷◌, ◌++◌, length, refl, sym, ◌∙◌, ap, subst, arith, append_assoc, append-nil, length-append, Option, Some, slice_get}
-use Rattle.std.proofs.lemmas.Bool.Decides.{leb_tells}
-use Rattle.std.proofs.lemmas.List.{append_cancel_left}
+use Rattle.std.proofs.Common.{◌≡◌, ℕ, ◌+◌, ◌*◌, ◌%◌, ◌<◌, List, [], ◌∷◌, ◌++◌, length, refl, sym, ◌∙◌, ap, subst, arith, append_assoc, append-nil, length-append, Some, slice_get}
 use Rattle.csn_desc.specs.declared.node.Count.{Count}
 use Rattle.csn_desc.specs.declared.node.Node.{Node}
-use Rattle.csn_desc.specs.declared.node.Node.TheVariants.{Lits, Spare, Pad, Null, Field, Rest, Seq, Choice, Times, Many, Trunc, Window, Named}
+use Rattle.csn_desc.specs.declared.node.Node.TheVariants.{Pad, Rest, Seq, Times, Many, Trunc}
 use Rattle.csn_desc.specs.TreeV.{TreeV, bits, row, alt, named, Trees, none, more}
 use Rattle.csn_desc.specs.Nodes.{DescV}
 use Rattle.csn_desc.specs.Values.{Values, with_value}
 use Rattle.csn_desc.specs.Means.{NMeans, NodeMeans, PartsMean, TimesMean, ManyMean, LeadMean, means_at, means_lits, means_spare, means_pad, means_null, means_field, means_rest, means_seq, means_choice, means_times, means_many, means_cut, means_trunc, means_window, means_named, parts_end, parts_next, times_end, times_next, many_end, many_next, lead_last, lead_next}
 use Rattle.csn_desc.specs.Formed.{IsDescription}
 use Rattle.csn_desc.proofs.Nodewise.{meaning_at}
-use Rattle.csn_desc.proofs.Splits.{splits, inside, behind}
 use Rattle.csn_look.specs.Ends.{InEnds, PartsEnd, ManyEnd}
 use Rattle.csn_look.specs.Ends as end
-use Rattle.csn_look.specs.Reached.{Reached, InFollow, reached_root}
+use Rattle.csn_look.specs.Reached.{Reached, reached_root}
 use Rattle.csn_look.proofs.ShapeFacts.{Shaped, shaped, Widths, no_widths, widths_kept, place-split}
-use Rattle.csn_look.proofs.NullableFacts.{nullable}
 use Rattle.csn_look.proofs.EndsFacts.{ends}
-use Rattle.csn_look.proofs.StartFacts.{starts, many_start}
-use Rattle.csn_look.proofs.KeyFacts.{keys}
-use Rattle.csn_look.proofs.FollowFacts.{next_of, Stands, cuts, root_stands, choice_stands, named_stands, window_stands, seq_stands, lead_stands, last_stands, times_stands, many_stands}
+use Rattle.csn_look.proofs.FollowFacts.{Stands, cuts, end_stands, choice_stands, named_stands, seq_stands, lead_stands, last_stands, times_stands, many_stands}
 use Rattle.csn_look.proofs.ReachFacts.{Turn, turn_first, turn_next, turn_reached, parts_end_more, many_end_more, seq_reached, lead_reached, choice_reached, window_reached, named_reached, many_reached}
-use Rattle.csn_certify.specs.declared.conflict.Conflict.TheVariants.{TwoEmpty, NotFirm, Overlap, EmptyClash, LoopClash, NotLast}
-use Rattle.csn_certify.specs.Conflicts.{IsNull, IsLast, IsBegunBy, two_empty, choice_not_firm, overlap, empty_clash, loop_clash, not_last, Certified}
+use Rattle.csn_certify.specs.Conflicts.{Certified}
+use Rattle.csn_certify.proofs.Pieces.{order, equal_numbers, first_less, second_less, same_length, same_ends, cut_first, cut_rest}
+use Rattle.csn_certify.proofs.Decisions.{nothing_behind, no_loop, no_two}
 
 -- the bits are the same, and so are the trees
 pub record Same {T : Type 0} (b c : List ℕ) (t u : T) : Type 0 where
   pub words : b ≡ c
   pub trees : t ≡ u
 
--- ---- lists
-
--- two first pieces of one list that are equally long are one
-same_length : (b c x y : List ℕ) → length b ≡ length c → b ++ x ≡ c ++ y → b ≡ c
-same_length [] [] x y size e = refl
-same_length [] (k ∷ c) x y size e = absurd (omega arith)
-same_length (k ∷ b) [] x y size e = absurd (omega arith)
-same_length (k ∷ b) (m ∷ c) x y size e =
-    let first : k ≡ m = cc in
-    let others : b ++ x ≡ c ++ y = cc in
-    let rest = same_length b c x y (omega arith) others in
-    cc
-
-same_ends : (b c x y : List ℕ) → x ≡ [] → y ≡ [] → b ++ x ≡ c ++ y → b ≡ c
-same_ends b c x y left right e =
-    sym (append-nil b) ∙ ap (λ l. b ++ l) (sym left) ∙ e ∙ ap (λ l. c ++ l) right ∙ append-nil c
-
--- split bits, and what stands behind the first piece
-cut_first : (b1 b2 x c1 c2 y : List ℕ) {b c : List ℕ} → b ≡ b1 ++ b2 → c ≡ c1 ++ c2 → b ++ x ≡ c ++ y → b1 ++ (b2 ++ x) ≡ c1 ++ (c2 ++ y)
-cut_first b1 b2 x c1 c2 y left right e =
-    sym (append_assoc b1 b2 x) ∙ ap (λ l. l ++ x) (sym left) ∙ e ∙ ap (λ l. l ++ y) right ∙ append_assoc c1 c2 y
-
-cut_rest : (b1 b2 x c1 c2 y : List ℕ) → b1 ≡ c1 → b1 ++ (b2 ++ x) ≡ c1 ++ (c2 ++ y) → b2 ++ x ≡ c2 ++ y
-cut_rest b1 b2 x c1 c2 y same e = append_cancel_left b1 (b2 ++ x) (c2 ++ y) (e ∙ ap (λ l. l ++ (c2 ++ y)) (sym same))
-
 joined : {b c : List ℕ} {t u : TreeV} {ts us : Trees} (b1 b2 c1 c2 : List ℕ) → b ≡ b1 ++ b2 → c ≡ c1 ++ c2 → Same b1 c1 t u → Same b2 c2 ts us → Same b c (more t ts) (more u us)
 joined b1 b2 c1 c2 left right first others =
     let tree_same = first.trees in let rest_same = others.trees in
     record { words = left ∙ ap (λ l. l ++ b2) first.words ∙ ap (λ l. c1 ++ l) others.words ∙ sym right; trees = cc }
 
--- what stands next where some bits stand next
-record Bit (c x y : List ℕ) : Type 0 where
-  bit : ℕ
-  rest : List ℕ
-  is : c ≡ bit ∷ rest
-  next : next_of x ≡ Some bit
-
-next_bit : (b c x y : List ℕ) → b ≡ [] → 0 < length c → b ++ x ≡ c ++ y → Bit c x y
-next_bit b [] x y nothing some e = absurd (omega arith)
-next_bit b (a ∷ c) x y nothing some e =
-    let here : x ≡ a ∷ (c ++ y) = ap (λ l. l ++ x) (sym nothing) ∙ e in
-    record { bit = a; rest = c; is = refl; next = ap next_of here }
-
--- one of two words that begin the same bits begins with the other
-begun_both : (w r v s x y : List ℕ) {b c : List ℕ} → b ≡ w ++ r → c ≡ v ++ s → b ++ x ≡ c ++ y → IsBegunBy w v ⊎ IsBegunBy v w
-begun_both w r v s x y left right e =
-    elim (splits w (r ++ x) v (s ++ y) (cut_first w r x v s y left right e)) [
-      | inside m p q ↦ inl (m, p)
-      | behind m p q ↦ inr (m, p)
-    ]
-
--- ---- numbers
-
-data Order (j k : ℕ) : Type 0 where
-  equal_numbers : j ≡ k → Order j k
-  first_less : j < k → Order j k
-  second_less : k < j → Order j k
-
-order : (j k : ℕ) → Order j k
-order j k =
-    elim (leb_tells k j) [
-      | inr less ↦ first_less less.1
-      | inl some ↦ elim (leb_tells j k) [
-        | inr less ↦ second_less less.1
-        | inl both ↦ equal_numbers (omega (arith, some.1, both.1))
-      ]
-    ]
-
-null_or : (n : Node) → (n ≡ Null) ⊎ (n ≡ Null → ⊥)
-null_or Null = inl refl
-null_or (Lits run) = inr (λ e. cc)
-null_or (Spare symbol) = inr (λ e. cc)
-null_or Pad = inr (λ e. cc)
-null_or (Field unit count) = inr (λ e. cc)
-null_or Rest = inr (λ e. cc)
-null_or (Seq parts) = inr (λ e. cc)
-null_or (Choice parts) = inr (λ e. cc)
-null_or (Times count part) = inr (λ e. cc)
-null_or (Many part) = inr (λ e. cc)
-null_or (Trunc parts) = inr (λ e. cc)
-null_or (Window unit count part) = inr (λ e. cc)
-null_or (Named label part) = inr (λ e. cc)
-
 module _ (d : DescV) where
-  is_null : {i o : ℕ} {v : Values} {b : List ℕ} {t : TreeV} → NMeans d i o v b t → IsNull d i ⊎ (IsNull d i → ⊥)
-  is_null {i} (means_at n at h) =
-      elim (null_or n) [
-        | inl same ↦ inl (at ∙ ap Some same)
-        | inr differs ↦ inr (λ null. let same : n ≡ Null = cc in differs same)
-      ]
-
-  null_bits : {i o : ℕ} {v : Values} {b : List ℕ} {t : TreeV} → IsNull d i → NMeans d i o v b t → b ≡ []
-  null_bits at h = of_null (meaning_at d at h)
-    where
-      of_null : {o : ℕ} {v : Values} {b : List ℕ} {t : TreeV} → NodeMeans d Null o v b t → b ≡ []
-      of_null (means_null nothing) = nothing
-
   -- the later parts end where the node does
   behind_first : {k o : ℕ} {b x : List ℕ} (b1 b2 : List ℕ) → b ≡ b1 ++ b2 → Stands d k o b x → Stands d k (o + length b1) b2 x
   behind_first {o = o} b1 b2 cut s =
@@ -162,57 +66,7 @@ module _ (d : DescV) where
   lead_some (lead_last some h) = some
   lead_some (lead_next b1 b2 cut h others) = let size = ap length cut in omega (arith, lead_some others, length-append b1 b2)
 
--- ---- what certified says of meanings
-
 module _ (d : DescV) (most : ℕ) (shaped : Shaped d) (certified : Certified d most) where
-  -- no bit stands behind a node that must be last
-  nothing_behind : {i o : ℕ} {v : Values} {b : List ℕ} {t : TreeV} (n : Node) (x : List ℕ) → slice_get d.nodes i ≡ Some n → IsLast n → Reached d i (o % 8) → Widths d v → NMeans d i o v b t → Stands d i o b x → x ≡ []
-  nothing_behind n [] at last reached widths h s = refl
-  nothing_behind {i} {o} n (a ∷ x) at last reached widths h s =
-      absurd (certified (NotLast i (s.place % 8)) (not_last n (o % 8) at last reached (ends d shaped s.place s.is_place widths h) s.follows))
-
-  -- where a free repetition may end, its part does not begin with what stands there
-  no_loop : {k i o : ℕ} {v : Values} {b c : List ℕ} {us : Trees} (x y : List ℕ) → slice_get d.nodes k ≡ Some (Many i) → Reached d i (o % 8) → Widths d v → b ≡ [] → 0 < length c → ManyMean d i o v c us → b ++ x ≡ c ++ y → Stands d k o b x → ⊥
-  no_loop {k} {i} {o} {b = b} {c = c} x y at reached widths nothing some h e s =
-      let a = next_bit b c x y nothing some e in
-      let start = many_start d shaped a.bit a.rest a.is widths h in
-      let size = ap length nothing in
-      let place : s.place ≡ o = omega (arith, s.is_place) in
-      let P : ℕ → Type 0 = λ p. InFollow d k (p % 8) (next_of x) in
-      let Q : Option ℕ → Type 0 = λ sign. InFollow d k (o % 8) sign in
-      certified (LoopClash k (o % 8) a.bit) (loop_clash at reached start (subst Q a.next (subst P place s.follows)))
-
-  -- beside an alternative that takes no bits, another one has no bits that stand behind the choice
-  no_empty : {k i j p q o : ℕ} {v : Values} {parts b c : List ℕ} {u : TreeV} (x y : List ℕ) → slice_get d.nodes k ≡ Some (Choice parts) → slice_get parts i ≡ Some p → slice_get parts j ≡ Some q → j ≢ i → IsNull d p → (IsNull d q → ⊥) → Reached d k (o % 8) → Widths d v → b ≡ [] → NMeans d q o v c u → b ++ x ≡ c ++ y → Stands d k o b x → ⊥
-  no_empty {k} {j = j} {c = []} x y at at_i at_j other null real reached widths nothing h e s =
-      certified (NotFirm k j) (choice_not_firm at at_j real (inl (nullable d shaped h refl)))
-  no_empty {k} {o = o} {b = b} {c = a ∷ c} x y at at_i at_j other null real reached widths nothing h e s =
-      let n = next_bit b (a ∷ c) x y nothing (omega arith) e in
-      let start = starts d shaped n.bit n.rest n.is widths h in
-      let size = ap length nothing in
-      let place : s.place ≡ o = omega (arith, s.is_place) in
-      let P : ℕ → Type 0 = λ p. InFollow d k (p % 8) (next_of x) in
-      let Q : Option ℕ → Type 0 = λ sign. InFollow d k (o % 8) sign in
-      certified (EmptyClash k (o % 8) n.bit) (empty_clash at reached at_i null at_j other start (subst Q n.next (subst P place s.follows)))
-
-  -- two alternatives do not both have bits that go on alike
-  no_two : {k i j p q o : ℕ} {v : Values} {parts b c : List ℕ} {t u : TreeV} (x y : List ℕ) → slice_get d.nodes k ≡ Some (Choice parts) → i < j → slice_get parts i ≡ Some p → slice_get parts j ≡ Some q → Reached d k (o % 8) → Widths d v → NMeans d p o v b t → NMeans d q o v c u → b ++ x ≡ c ++ y → Stands d k o b x → Stands d k o c y → ⊥
-  no_two {k} {i} {j} {o = o} x y at less at_i at_j reached widths h1 h2 e s1 s2 =
-      elim (is_null d h1) [
-        | inl null_i ↦ elim (is_null d h2) [
-          | inl null_j ↦ certified (TwoEmpty k i j) (two_empty at less at_i at_j null_i null_j)
-          | inr real_j ↦ no_empty x y at at_i at_j (λ same. absurd (omega arith)) null_i real_j reached widths (null_bits d null_i h1) h2 e s1
-        ]
-        | inr real_i ↦ elim (is_null d h2) [
-          | inl null_j ↦ no_empty y x at at_j at_i (λ same. absurd (omega arith)) null_j real_i reached widths (null_bits d null_j h2) h1 (sym e) s2
-          | inr real_j ↦
-              let left = keys d most h1 in
-              let right = keys d most h2 in
-              certified (Overlap k (o % 8) i j left.word right.word)
-              (overlap left.mark right.mark at reached less at_i at_j real_i real_j left.key right.key (begun_both left.word left.rest right.word right.rest x y left.begins right.begins e))
-        ]
-      ]
-
   -- ---- one tree
 
   alternative : {b c : List ℕ} {t u : TreeV} (j k : ℕ) → j ≡ k → Same b c t u → Same b c (alt j t) (alt k u)
@@ -228,8 +82,8 @@ module _ (d : DescV) (most : ℕ) (shaped : Shaped d) (certified : Certified d m
     one_node {b = b} (means_spare left h1) at {c = c} x y reached widths (means_spare right h2) e s1 s2 =
         let agree = same_length b c x y (left ∙ sym right) e in record { words = agree; trees = ap bits agree }
     one_node {b = b} (means_pad some1 h1) at {c = c} x y reached widths (means_pad some2 h2) e s1 s2 =
-        let left = nothing_behind Pad x at tt reached widths (means_at Pad at (means_pad some1 h1)) s1 in
-        let right = nothing_behind Pad y at tt reached widths (means_at Pad at (means_pad some2 h2)) s2 in
+        let left = nothing_behind d most shaped certified Pad x at tt reached widths (means_at Pad at (means_pad some1 h1)) s1 in
+        let right = nothing_behind d most shaped certified Pad y at tt reached widths (means_at Pad at (means_pad some2 h2)) s2 in
         let agree = same_ends b c x y left right e in
         record { words = agree; trees = ap bits agree }
     one_node (means_null left) at x y reached widths (means_null right) e s1 s2 = record { words = left ∙ sym right; trees = refl }
@@ -238,8 +92,8 @@ module _ (d : DescV) (most : ℕ) (shaped : Shaped d) (certified : Certified d m
         let agree = same_length b c x y (wide1 ∙ ap (λ k. unit * k) count ∙ sym wide2) e in
         record { words = agree; trees = ap bits agree }
     one_node {b = b} (means_rest h1) at {c = c} x y reached widths (means_rest h2) e s1 s2 =
-        let left = nothing_behind Rest x at tt reached widths (means_at Rest at (means_rest h1)) s1 in
-        let right = nothing_behind Rest y at tt reached widths (means_at Rest at (means_rest h2)) s2 in
+        let left = nothing_behind d most shaped certified Rest x at tt reached widths (means_at Rest at (means_rest h1)) s1 in
+        let right = nothing_behind d most shaped certified Rest y at tt reached widths (means_at Rest at (means_rest h2)) s2 in
         let agree = same_ends b c x y left right e in
         record { words = agree; trees = ap bits agree }
     one_node (means_seq h1) at x y reached widths (means_seq h2) e s1 s2 =
@@ -251,8 +105,8 @@ module _ (d : DescV) (most : ℕ) (shaped : Shaped d) (certified : Certified d m
               let part : p ≡ q = cc in
               let cut = cuts parts j p at1 in
               alternative j k same (one_tree h1 x y (choice_reached d at cut reached) widths (meaning_along d part h2) e (choice_stands d at cut s1) (choice_stands d at cut s2))
-          | first_less less ↦ absurd (no_two x y at less at1 at2 reached widths h1 h2 e s1 s2)
-          | second_less less ↦ absurd (no_two y x at less at2 at1 reached widths h2 h1 (sym e) s2 s1)
+          | first_less less ↦ absurd (no_two d most shaped certified x y at less at1 at2 reached widths h1 h2 e s1 s2)
+          | second_less less ↦ absurd (no_two d most shaped certified y x at less at2 at1 reached widths h2 h1 (sym e) s2 s1)
         ]
     one_node {o = o} {v = v} (means_times {count = count} {i = p} n counts1 h1) at {c = c} x y reached widths (means_times {ts = us} m counts2 h2) e s1 s2 =
         let same_times : n ≡ m = cc in
@@ -264,24 +118,24 @@ module _ (d : DescV) (most : ℕ) (shaped : Shaped d) (certified : Certified d m
         record { words = same.words; trees = ap row same.trees }
     one_node (means_cut left) at x y reached widths (means_cut right) e s1 s2 = record { words = left ∙ sym right; trees = refl }
     one_node {b = b} (means_cut {parts = parts} left) at {c = c} x y reached widths (means_trunc h2) e s1 s2 =
-        let agree = same_ends b c x y (nothing_behind (Trunc parts) x at tt reached widths (means_at (Trunc parts) at (means_cut left)) s1) (nothing_behind (Trunc parts) y at tt reached widths (means_at (Trunc parts) at (means_trunc h2)) s2) e in
+        let agree = same_ends b c x y (nothing_behind d most shaped certified (Trunc parts) x at tt reached widths (means_at (Trunc parts) at (means_cut left)) s1) (nothing_behind d most shaped certified (Trunc parts) y at tt reached widths (means_at (Trunc parts) at (means_trunc h2)) s2) e in
         let size = ap length (sym left ∙ agree) in
         absurd (omega (arith, lead_some d h2))
     one_node {b = b} (means_trunc {parts = parts} h1) at {c = c} x y reached widths (means_cut right) e s1 s2 =
-        let agree = same_ends b c x y (nothing_behind (Trunc parts) x at tt reached widths (means_at (Trunc parts) at (means_trunc h1)) s1) (nothing_behind (Trunc parts) y at tt reached widths (means_at (Trunc parts) at (means_cut right)) s2) e in
+        let agree = same_ends b c x y (nothing_behind d most shaped certified (Trunc parts) x at tt reached widths (means_at (Trunc parts) at (means_trunc h1)) s1) (nothing_behind d most shaped certified (Trunc parts) y at tt reached widths (means_at (Trunc parts) at (means_cut right)) s2) e in
         let size = ap length (agree ∙ right) in
         absurd (omega (arith, lead_some d h1))
     one_node {i = i} {o = o} {b = b} (means_trunc {parts = parts} h1) at {c = c} x y reached widths (means_trunc h2) e s1 s2 =
-        let left = nothing_behind (Trunc parts) x at tt reached widths (means_at (Trunc parts) at (means_trunc h1)) s1 in
-        let right = nothing_behind (Trunc parts) y at tt reached widths (means_at (Trunc parts) at (means_trunc h2)) s2 in
+        let left = nothing_behind d most shaped certified (Trunc parts) x at tt reached widths (means_at (Trunc parts) at (means_trunc h1)) s1 in
+        let right = nothing_behind d most shaped certified (Trunc parts) y at tt reached widths (means_at (Trunc parts) at (means_trunc h2)) s2 in
         let agree = same_ends b c x y left right e in
         let P : List ℕ → Type 0 = λ l. Stands d i o b l in
         let same = one_lead h1 at [] refl reached (end.parts_end refl) widths h2 agree (subst P left s1) in
         record { words = agree; trees = ap row same }
-    one_node {i = i} {b = b} (means_window {unit = unit} n counts1 wide1 h1) at {c = c} x y reached widths (means_window m counts2 wide2 h2) e s1 s2 =
+    one_node {o = o} {b = b} (means_window {unit = unit} {i = p} n counts1 wide1 h1) at {c = c} x y reached widths (means_window m counts2 wide2 h2) e s1 s2 =
         let count : n ≡ m = cc in
         let agree = same_length b c x y (wide1 ∙ ap (λ k. unit * k) count ∙ sym wide2) e in
-        one_tree h1 [] [] (window_reached d at reached) widths h2 (ap (λ l. l ++ []) agree) (window_stands d i b at) (window_stands d i c at)
+        one_tree h1 [] [] (window_reached d at reached) widths h2 (ap (λ l. l ++ []) agree) (end_stands d p o b) (end_stands d p o c)
     one_node (means_named {label = label} h1) at x y reached widths (means_named h2) e s1 s2 =
         let same = one_tree h1 x y (named_reached d at reached) widths h2 e (named_stands d at s1) (named_stands d at s2) in
         record { words = same.words; trees = ap (named label) same.trees }
@@ -316,10 +170,10 @@ module _ (d : DescV) (most : ℕ) (shaped : Shaped d) (certified : Certified d m
     one_many (many_end left) at reached ended widths x y (many_end right) e s1 s2 = record { words = left ∙ sym right; trees = refl }
     one_many (many_end left) at reached ended widths x y (many_next c1 c2 right some h2 others2) e s1 s2 =
         let size = ap length right in
-        absurd (no_loop x y at (many_reached d at reached ended) widths left (omega (arith, length-append c1 c2)) (many_next c1 c2 right some h2 others2) e s1)
+        absurd (no_loop d most shaped certified x y at (many_reached d at reached ended) widths left (omega (arith, length-append c1 c2)) (many_next c1 c2 right some h2 others2) e s1)
     one_many (many_next b1 b2 left some h1 others1) at reached ended widths x y (many_end right) e s1 s2 =
         let size = ap length left in
-        absurd (no_loop y x at (many_reached d at reached ended) widths right (omega (arith, length-append b1 b2)) (many_next b1 b2 left some h1 others1) (sym e) s2)
+        absurd (no_loop d most shaped certified y x at (many_reached d at reached ended) widths right (omega (arith, length-append b1 b2)) (many_next b1 b2 left some h1 others1) (sym e) s2)
     one_many {o = o} (many_next b1 b2 left some1 h1 others1) at reached ended widths x y (many_next c1 c2 right some2 h2 others2) e s1 s2 =
         let t1 = behind_first d b1 b2 left s1 in
         let t2 = behind_first d c1 c2 right s2 in
@@ -359,5 +213,5 @@ module _ (d : DescV) (most : ℕ) (shaped : Shaped d) (certified : Certified d m
 -- at the root, where nothing stands behind
 pub one_block : (d : DescV) (most : ℕ) → IsDescription d → Certified d most → {b : List ℕ} {t u : TreeV} → NMeans d 0 0 [] b t → NMeans d 0 0 [] b u → t ≡ u
 one_block d most is certified {b = b} h1 h2 =
-    let same = one_tree d most (shaped d is) certified h1 [] [] (reached_root refl refl) (no_widths d) h2 refl (root_stands d b) (root_stands d b) in
+    let same = one_tree d most (shaped d is) certified h1 [] [] (reached_root refl refl) (no_widths d) h2 refl (end_stands d 0 0 b) (end_stands d 0 0 b) in
     same.trees
