@@ -1,12 +1,18 @@
 -- Laws over the definitions.
-use Rattle.std.specs.Prelude.{◌≡◌, ℕ, suc, ◌≤◌, List, [], ◌++◌, take}
-use Rattle.csn_desc.specs.TreeV.{TreeV}
+use Rattle.std.specs.Prelude.{◌≡◌, ℕ, suc, ◌%◌, ◌<◌, ◌≤◌, Bool, true, false, List, [], ◌++◌, length, take, slice_get, Some}
+use Rattle.csn_desc.specs.declared.node.Node.TheVariants.{Choice, Many}
+use Rattle.csn_desc.specs.TreeV.{TreeV, row, alt, none}
 use Rattle.csn_desc.specs.Nodes.{DescV}
+use Rattle.csn_desc.specs.Values.{Values}
 use Rattle.csn_desc.specs.Means.{NMeans}
 use Rattle.csn_desc.specs.Follows.{NFollow}
 use Rattle.csn_desc.specs.Formed.{IsDescription}
+use Rattle.csn_look.specs.Reached.{Reached}
 use Rattle.csn_certify.specs.declared.conflict.Conflict.{Conflict}
+use Rattle.csn_certify.specs.declared.pick.Pick.TheVariants.{Take, Leave, Refuse}
 use Rattle.csn_certify.specs.Conflicts.{IsFirstConflict, Certified}
+use Rattle.csn_certify.specs.Picks.{Picks}
+use Rattle.csn_certify.specs.Ahead.{FitWidths, LiesAhead}
 
 abbrev pub FirstConflictIsOne : Type 0
 FirstConflictIsOne =
@@ -32,3 +38,61 @@ BlocksHaveOneTree =
     (d : DescV) (most : ℕ) (b : List ℕ) (t u : TreeV) → IsDescription d → Certified d most → NMeans d 0 0 [] b t
     → NMeans d 0 0 [] b u
     → t ≡ u
+
+-- the tree is of the alternative with this number
+abbrev pub HasAlternative : ℕ → TreeV → Type 0
+HasAlternative j t = (u : TreeV) × (t ≡ alt j u)
+
+-- look-ahead takes at a choice the alternative of each tree that what lies ahead has: the held bits, and the
+-- later ones, of which there are none where the block has ended
+abbrev pub ChoicesTakeTheOne : Type 0
+ChoicesTakeTheOne =
+    (d : DescV) (most node o j : ℕ) (v : Values) (parts held later : List ℕ) (ended : Bool) (t : TreeV)
+    → IsDescription d → Certified d most → slice_get d.nodes node ≡ Some (Choice parts)
+    → Reached d node (o % 8) → FitWidths d v → (ended ≡ true → later ≡ [])
+    → LiesAhead d node o v (held ++ later) t → Picks d most node (o % 8) held ended (Take j)
+    → HasAlternative j t
+
+-- it refuses at a choice only where what lies ahead has no tree
+abbrev pub ChoicesRefuseNone : Type 0
+ChoicesRefuseNone =
+    (d : DescV) (most node o : ℕ) (v : Values) (parts held later : List ℕ) (ended : Bool) (t : TreeV)
+    → IsDescription d → Certified d most → slice_get d.nodes node ≡ Some (Choice parts)
+    → Reached d node (o % 8) → (ended ≡ true → later ≡ []) → LiesAhead d node o v (held ++ later) t
+    → ¬ Picks d most node (o % 8) held ended Refuse
+
+-- it begins the part of a free repetition only where each tree that what lies ahead has begins with one of it
+abbrev pub RepetitionsGoOn : Type 0
+RepetitionsGoOn =
+    (d : DescV) (most node part o j : ℕ) (v : Values) (held later : List ℕ) (ended : Bool) (t : TreeV)
+    → IsDescription d → Certified d most → slice_get d.nodes node ≡ Some (Many part)
+    → Reached d part (o % 8) → LiesAhead d node o v (held ++ later) t
+    → Picks d most node (o % 8) held ended (Take j)
+    → ¬ (t ≡ row none)
+
+-- and leaves it only where each such tree has none
+abbrev pub RepetitionsStop : Type 0
+RepetitionsStop =
+    (d : DescV) (most node part o : ℕ) (v : Values) (held later : List ℕ) (ended : Bool) (t : TreeV)
+    → IsDescription d → slice_get d.nodes node ≡ Some (Many part) → FitWidths d v
+    → (ended ≡ true → later ≡ []) → LiesAhead d node o v (held ++ later) t
+    → Picks d most node (o % 8) held ended Leave
+    → t ≡ row none
+
+-- what a choice follows of what lies ahead, the held bits first, is followed by the alternative that is taken
+-- alone
+abbrev pub FollowedTakeTheOne : Type 0
+FollowedTakeTheOne =
+    (d : DescV) (most node o i j part : ℕ) (v : Values) (parts held later : List ℕ) (ended : Bool)
+    → IsDescription d → Certified d most → slice_get d.nodes node ≡ Some (Choice parts)
+    → Reached d node (o % 8) → FitWidths d v → 0 < length held → slice_get parts i ≡ Some part
+    → NFollow d part o v (held ++ later) → Picks d most node (o % 8) held ended (Take j)
+    → i ≡ j
+
+-- and where look-ahead refuses before the block has ended, no alternative follows it
+abbrev pub FollowedRefuseNone : Type 0
+FollowedRefuseNone =
+    (d : DescV) (most node o i part : ℕ) (v : Values) (parts held later : List ℕ)
+    → IsDescription d → Certified d most → slice_get d.nodes node ≡ Some (Choice parts)
+    → slice_get parts i ≡ Some part → NFollow d part o v (held ++ later)
+    → ¬ Picks d most node (o % 8) held false Refuse

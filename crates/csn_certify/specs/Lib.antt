@@ -1,4 +1,5 @@
 pub mod Conflicts
 pub mod Picks
+pub mod Ahead
 pub mod Laws
 pub mod Examples

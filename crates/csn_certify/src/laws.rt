@@ -1,6 +1,6 @@
 //! Laws over the definitions, each the contract of a function that does nothing.
 
-ghost use Rattle.csn_certify.specs.Laws.{FirstConflictIsOne, CertifiedHasNoConflict, LongerWordsCertify, NoContinuation, BlocksHaveOneTree};
+ghost use Rattle.csn_certify.specs.Laws.{FirstConflictIsOne, CertifiedHasNoConflict, LongerWordsCertify, NoContinuation, BlocksHaveOneTree, ChoicesTakeTheOne, ChoicesRefuseNone, RepetitionsGoOn, RepetitionsStop, FollowedTakeTheOne, FollowedRefuseNone};
 
 /// A description has at most one first conflict, and is not certified where it has one.
 pub fn first_conflict_is_one()
@@ -23,4 +23,21 @@ pub fn no_continuation()
 /// Any bits, of any length, have at most one tree where the description is certified.
 pub fn blocks_have_one_tree()
     ensures { BlocksHaveOneTree }
+{}
+
+/// What look-ahead answers is right, where the description is certified: every tree of what lies ahead at a
+/// choice has the alternative that is taken, and there is none where it refuses; every tree at a free
+/// repetition has a turn of it where its part is begun, and none where it is left.
+pub fn picks_are_right()
+    ensures takes { ChoicesTakeTheOne }
+    ensures refuses { ChoicesRefuseNone }
+    ensures goes_on { RepetitionsGoOn }
+    ensures stops { RepetitionsStop }
+{}
+
+/// And so of what is followed: by no other alternative of a choice than the one that is taken, and by none
+/// where look-ahead refuses while the block goes on.
+pub fn picks_follow()
+    ensures takes { FollowedTakeTheOne }
+    ensures refuses { FollowedRefuseNone }
 {}

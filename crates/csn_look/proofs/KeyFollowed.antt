@@ -84,7 +84,7 @@ module _ (d : DescV) (most : ℕ) where
   repeat_followed {x = x} i n at counts (times_mean w rest ts is h) = front_followed i x rest at is (follows_whole (row ts) (means_times n counts h))
 
   -- a part of a choice sees what the choice sees
-  choice_formed : {seen : List ℕ} {round : ℕ} {parts : List ℕ} (j i : ℕ) → PartsFormed d.nodes false seen round parts → slice_get parts j ≡ Some i → Formed d.nodes seen round i
+  pub choice_formed : {seen : List ℕ} {round : ℕ} {parts : List ℕ} (j i : ℕ) → PartsFormed d.nodes false seen round parts → slice_get parts j ≡ Some i → Formed d.nodes seen round i
   choice_formed j i formed_end at = absurd (cc)
   choice_formed {seen} {round} zero i (formed_next {i = p} first others) at =
       let same : p ≡ i = cc in

@@ -103,7 +103,7 @@ module _ (nodes : List Node) where
           | inr inside ↦ placed k h first (omega arith) inside.1
         ]
 
-within_nodes : (nodes : List Node) (i : ℕ) (n : Node) → slice_get nodes i ≡ Some n → i < length nodes
+pub within_nodes : (nodes : List Node) (i : ℕ) (n : Node) → slice_get nodes i ≡ Some n → i < length nodes
 within_nodes [] i n at = absurd (cc)
 within_nodes (x ∷ nodes) zero n at = omega arith
 within_nodes (x ∷ nodes) (suc i) n at = omega (arith, within_nodes nodes i n at)
