@@ -19,3 +19,10 @@ pub mod Parents
 pub mod HandDown
 pub mod ReachTables
 pub mod FollowTables
+pub mod Places
+pub mod MarkFacts
+pub mod KeyMarkFacts
+pub mod Extensions
+pub mod Products
+pub mod KeyLists
+pub mod NodeKeys

@@ -6,6 +6,11 @@ pub mod Ends
 pub mod Starts
 pub mod Keys
 pub mod Reached
+pub mod KeyMarks
+pub mod KeyTables
+pub mod KeyLists
+pub mod KeyProducts
+pub mod KeySteps
 pub mod Told
 pub mod Sums
 pub mod Counts

@@ -3,9 +3,15 @@
 
 mod follow;
 mod following;
+mod key_marks;
+mod key_products;
+mod key_set;
+mod key_table;
+mod key_tables;
 mod known;
 pub mod laws;
 mod look;
+mod marks;
 mod node_sets;
 mod octet_set;
 mod reach;
@@ -15,6 +21,9 @@ mod tests;
 mod word;
 
 pub use follow::Follow;
+pub use key_set::KeySet;
+pub use key_table::{Begins, KeyTable};
+pub use key_tables::KeyTables;
 pub use look::Look;
 pub use octet_set::OctetSet;
 pub use reach::Reach;

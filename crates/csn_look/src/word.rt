@@ -1,5 +1,6 @@
 ghost use Rattle.std.specs.Prelude.{◌≡◌, ◌<◌, ◌≤◌, [], ◌∷◌, ◌++◌, length, slice_index};
 ghost use Rattle.csn_bits.specs.Octets.{IsBits};
+ghost use Rattle.csn_look.specs.KeyMarks.{IsWord, place_of};
 
 use arrayvec::ArrayVec;
 use std::marker::Model;
@@ -61,6 +62,20 @@ impl Word {
         ensures bit { result ≤ 1 }
     {
         self.bits[at as usize]
+    }
+
+    /// The place of the word among all words: the number that a 1 and then its bits write.
+    pub(crate) fn place(&self) -> usize
+        ensures value { result ≡ place_of self.now }
+        ensures some { 0 < result }
+        ensures small { result < 8192 }
+        ensures word { IsWord self.now }
+    {
+        let mut place = 1;
+        for at in 0..self.len() {
+            place = 2 * place + self.get(at) as usize;
+        }
+        place
     }
 }
 

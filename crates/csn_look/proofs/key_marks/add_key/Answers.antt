@@ -1,0 +1,21 @@
+use Rattle.std.proofs.Common.{◌||◌, nat_eq, arith, sym, ap, ◌∙◌}
+use Rattle.csn_look.specs.KeyMarks.{is_marked, key_mark}
+use Rattle.csn_look.proofs.KeyMarkFacts.{raised_first, raised_next, raised_last}
+use Rattle.csn_look.proofs.key_marks.add_key.Goals as goal
+
+pub loop-at-init : goal.loop-at-init
+loop-at-init c =
+    (omega (arith, c.requires.some), omega (arith, c.requires.small), λ word is here. raised_first c.set_mark.new.marks word c.args.place here)
+
+pub loop-at-preserved : goal.loop-at-preserved
+loop-at-preserved c = (
+  omega arith,
+  omega arith,
+  λ word is here. raised_next c.set_mark.new.marks c.loop-at.marks c.set_mark-in-loop-at.new.marks word c.loop-at.at is c.loop-at-test.true c.set_mark-in-loop-at.ensures (c.loop-at.invariant.2 word is here),
+)
+
+pub returns : goal.returns
+returns c = λ word is here.
+    raised_last c.args.marks.now c.set_mark.new.marks c.loop-at.marks word c.loop-at.at c.args.whole is (omega arith)
+    (λ n. c.set_mark.ensures n ∙ ap (λ m. nat_eq n m || is_marked c.args.marks.now n) (c.key_mark.ensures ∙ ap (λ p. key_mark p c.args.whole) (sym here)))
+    (c.loop-at.invariant.2 word is here)

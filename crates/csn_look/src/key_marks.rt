@@ -1,0 +1,63 @@
+//! The marks of a set of keys, and those of the prefixes of its keys: 8,192 of each kind, for the places of
+//! words.
+
+ghost use Rattle.std.specs.Prelude.{◌≡◌, ℕ, ◌+◌, ◌<◌, ◌↔◌, ◌||◌, List, length, IsTrue};
+ghost use Rattle.csn_look.specs.KeyMarks.{IsWord, is_marked, place_of, key_mark, BeginsWithKey};
+ghost use Rattle.csn_look.specs.KeyTables.{AddsKey};
+
+use crate::marks::{is_marked, set_mark};
+
+/// Where the marks of cut keys begin; those of whole keys begin at 0.
+pub(crate) const CUT: usize = 8192;
+
+/// Where the marks of words begin that are prefixes of keys and not all of them.
+pub(crate) const STARTS: usize = 16384;
+
+/// Which mark says that the word with this place is a key.
+pub(crate) fn key_mark(place: usize, whole: bool) -> usize
+    requires { place < 8192 }
+    ensures { result ≡ key_mark place whole }
+{
+    if whole { place } else { CUT + place }
+}
+
+/// Whether the word with this place is a key, whole or cut.
+fn is_key(marks: &[u64], place: usize) -> bool
+    requires size { length marks.now ≡ 384 }
+    requires small { place < 8192 }
+    ensures { result ≡ (is_marked marks.now place || is_marked marks.now (CUT + place)) }
+{
+    is_marked(marks, place) || is_marked(marks, CUT + place)
+}
+
+/// Whether a key is a prefix of the word with this place.
+pub(crate) fn begins_with_key(marks: &[u64], place: usize) -> bool
+    requires size { length marks.now ≡ 384 }
+    requires some { 0 < place }
+    requires small { place < 8192 }
+    ensures { (word : List ℕ) → IsWord word → place_of word ≡ place → IsTrue result ↔ BeginsWithKey marks.now word }
+{
+    let mut at = place;
+    while at > 1 {
+        if is_key(marks, at) {
+            return true;
+        }
+        at /= 2;
+    }
+    is_key(marks, 1)
+}
+
+/// Makes the word with this place a key, and its prefixes the beginnings of one.
+pub(crate) fn add_key(marks: &mut [u64], place: usize, whole: bool)
+    requires size { length marks.old ≡ 384 }
+    requires some { 0 < place }
+    requires small { place < 8192 }
+    ensures { (word : List ℕ) → IsWord word → place_of word ≡ place → AddsKey marks.old marks.new word whole }
+{
+    set_mark(marks, key_mark(place, whole));
+    let mut at = place;
+    while at > 1 {
+        at /= 2;
+        set_mark(marks, STARTS + at);
+    }
+}

@@ -1,0 +1,103 @@
+ghost use Rattle.std.specs.Prelude.{◌≡◌, ℕ, [], ◌∷◌, ◌+◌, ◌-◌, ◌^◌, ◌<◌, ◌≤◌, ◌++◌, List, length, slice_get, Some, IfOk};
+ghost use Rattle.csn_look.specs.KeyMarks.{IsWord, place_of, has_key};
+ghost use Rattle.csn_look.specs.KeyLists.{keys_if, keys_from};
+
+use crate::key_marks::{STARTS, key_mark};
+use crate::key_products::words_of;
+use crate::marks::is_marked;
+use crate::word::{Key, Word};
+use csn_bits::NoMemory;
+use std::alloc::Global;
+use std::marker::Model;
+
+/// The keys of a set, each once, by rising word, and at one word cut before whole. A contract sees the
+/// list of them.
+#[derive(Debug, Drop)]
+pub struct KeySet {
+    pub(crate) keys: Vec<Key>,
+}
+
+impl Model for KeySet {
+    ghost use Rattle.std.specs.Prelude.{List, ◌<◌, ◌^◌, length};
+    ghost use Rattle.csn_look.specs.declared.word.Key.{Key};
+
+    ghost Value = { List Key };
+
+    ghost view = { λ s. s.keys.items };
+
+    ghost invariant = { λ s. length s.keys.items < 2 ^ 32 };
+}
+
+impl KeySet {
+    /// How many keys there are.
+    pub fn len(&self) -> u32
+        ensures { result ≡ length self.now }
+    {
+        self.keys.len() as u32
+    }
+
+    /// The key at a place of the list, counted from 0.
+    pub fn get(&self, at: u32) -> &Key
+        requires { at < length self.now }
+        ensures { slice_get self.now at ≡ Some result.now }
+    {
+        &self.keys[at as usize]
+    }
+}
+
+/// The word with this place, which has so many bits.
+fn word_at(place: usize, size: usize) -> Word
+    requires { size ≤ 12 }
+    ensures { (word : List ℕ) → IsWord word → place_of word ≡ place → length word ≡ size → result ≡ word }
+{
+    let mut word = Word::new();
+    for at in 0..size {
+        let behind = words_of(size - 1 - at);
+        word.push((place / behind % 2) as u8);
+    }
+    word
+}
+
+/// Lists the word with this place, which has so many bits, where it is a key with this mark.
+fn list_key(
+    marks: &[u64],
+    place: usize,
+    size: usize,
+    whole: bool,
+    keys: &mut Vec<Key>,
+) -> Result<(), NoMemory>
+    requires marks { length marks.now ≡ 384 }
+    requires few { size ≤ 12 }
+    requires small { place < 8192 }
+    ensures { (word : List ℕ) → IsWord word → place_of word ≡ place → length word ≡ size → IfOk result (λ done. keys.new.items ≡ keys.old.items ++ keys_if (has_key marks.now word whole) (record { word = word; whole = whole } ∷ [])) }
+{
+    if is_marked(marks, key_mark(place, whole)) {
+        let word = word_at(place, size);
+        return Ok(keys.push(Key { word, whole })?);
+    }
+    Ok(())
+}
+
+/// Lists the keys that begin with the word with this place, which has so many bits.
+pub(crate) fn list_keys(
+    marks: &[u64],
+    place: usize,
+    size: usize,
+    keys: &mut Vec<Key>,
+) -> Result<(), NoMemory>
+    requires marks { length marks.now ≡ 384 }
+    requires few { size ≤ 12 }
+    requires small { place < 2 ^ (size + 1) }
+    ensures { (word : List ℕ) → IsWord word → place_of word ≡ place → length word ≡ size → IfOk result (λ done. keys.new.items ≡ keys.old.items ++ keys_from marks.now (12 - size) word) }
+{
+    list_key(marks, place, size, false, keys)?;
+    list_key(marks, place, size, true, keys)?;
+    if size == 12 {
+        return Ok(());
+    }
+    if is_marked(marks, STARTS + place) {
+        list_keys(marks, 2 * place, size + 1, keys)?;
+        return list_keys(marks, 2 * place + 1, size + 1, keys);
+    }
+    Ok(())
+}

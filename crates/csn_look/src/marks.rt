@@ -1,0 +1,30 @@
+//! Marks, each a bit of a list of numbers of 64 bits, the least significant one first.
+
+ghost use Rattle.std.specs.Prelude.{◌≡◌, ℕ, ◌*◌, ◌<◌, ◌||◌, nat_eq, length};
+ghost use Rattle.csn_look.specs.KeyMarks.{is_marked};
+
+/// Whether the mark is set.
+pub(crate) fn is_marked(marks: &[u64], at: usize) -> bool
+    requires { at < 64 * length marks.now }
+    ensures { result ≡ is_marked marks.now at }
+{
+    (marks[at / 64] >> (at % 64)) % 2 == 1
+}
+
+/// Sets a mark.
+pub(crate) fn set_mark(marks: &mut [u64], at: usize)
+    requires { at < 64 * length marks.old }
+    ensures { (other : ℕ) → is_marked marks.new other ≡ (nat_eq other at || is_marked marks.old other) }
+{
+    marks[at / 64] |= 1 << (at % 64);
+}
+
+/// Sets the marks that are set in either.
+pub(crate) fn join_marks(marks: &mut [u64], others: &[u64])
+    requires { length marks.old ≡ length others.now }
+    ensures { (at : ℕ) → is_marked marks.new at ≡ (is_marked marks.old at || is_marked others.now at) }
+{
+    for at in 0..marks.len() {
+        marks[at] |= others[at];
+    }
+}
