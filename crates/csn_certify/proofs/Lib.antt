@@ -5,3 +5,5 @@ pub mod Decisions
 pub mod OneTree
 pub mod PickFacts
 pub mod PicksRight
+pub mod BeginsString
+pub mod NoFurther

@@ -33,7 +33,7 @@ joined b1 b2 c1 c2 left right first others =
 
 module _ (d : DescV) where
   -- the later parts end where the node does
-  behind_first : {k o : ℕ} {b x : List ℕ} (b1 b2 : List ℕ) → b ≡ b1 ++ b2 → Stands d k o b x → Stands d k (o + length b1) b2 x
+  pub behind_first : {k o : ℕ} {b x : List ℕ} (b1 b2 : List ℕ) → b ≡ b1 ++ b2 → Stands d k o b x → Stands d k (o + length b1) b2 x
   behind_first {o = o} b1 b2 cut s =
       record { place = s.place; is_place = place-split o b1 b2 s.place s.is_place cut; follows = s.follows }
 
@@ -59,7 +59,7 @@ module _ (d : DescV) where
       let Q : ℕ → Type 0 = λ k. TimesMean d k i (o + length b1) v c us in
       subst Q (sym count) (subst P (sym same) h)
 
-  meaning_along : {i k o : ℕ} {v : Values} {c : List ℕ} {u : TreeV} → i ≡ k → NMeans d k o v c u → NMeans d i o v c u
+  pub meaning_along : {i k o : ℕ} {v : Values} {c : List ℕ} {u : TreeV} → i ≡ k → NMeans d k o v c u → NMeans d i o v c u
   meaning_along {o = o} {v = v} {c = c} {u = u} same h = let P : ℕ → Type 0 = λ i. NMeans d i o v c u in subst P (sym same) h
 
   lead_some : {parts : List ℕ} {o : ℕ} {v : Values} {b : List ℕ} {ts : Trees} → LeadMean d parts o v b ts → 0 < length b

@@ -29,7 +29,7 @@ use Rattle.csn_certify.proofs.Pieces.{order, equal_numbers, first_less, second_l
 use Rattle.csn_certify.proofs.Decisions.{null_bits, stands_here}
 
 -- numbers are the same where it cannot be that they differ
-same_number : (m j : ℕ) → (m ≢ j → ⊥) → m ≡ j
+pub same_number : (m j : ℕ) → (m ≢ j → ⊥) → m ≡ j
 same_number m j h =
     elim (order m j) [
       | equal_numbers same ↦ same
@@ -80,13 +80,13 @@ another (p ∷ (q ∷ parts)) zero two = record { j = 1; part = q; at = refl; di
 another (p ∷ (q ∷ parts)) (suc m) two = record { j = 0; part = p; at = refl; differs = λ same. absurd (omega arith) }
 
 module _ (d : DescV) where
-  null_followed : {i o : ℕ} {v : Values} {b : List ℕ} → IsNull d i → NFollow d i o v b → b ≡ []
+  pub null_followed : {i o : ℕ} {v : Values} {b : List ℕ} → IsNull d i → NFollow d i o v b → b ≡ []
   null_followed at h = of_null (follow_at d at h)
     where
       of_null : {o : ℕ} {v : Values} {b : List ℕ} → NodeFollows d Null o v b → b ≡ []
       of_null (follows_whole t (means_null nothing)) = nothing
 
-  part_null : (q : ℕ) → IsNull d q ⊎ (IsNull d q → ⊥)
+  pub part_null : (q : ℕ) → IsNull d q ⊎ (IsNull d q → ⊥)
   part_null q = by_node (slice_get d.nodes q) refl
     where
       by_node : (n : Option Node) → slice_get d.nodes q ≡ n → IsNull d q ⊎ (IsNull d q → ⊥)
@@ -99,7 +99,7 @@ module _ (d : DescV) where
 
 module _ (d : DescV) (most : ℕ) (shaped_is : Shaped d) (certified : Certified d most) (k o : ℕ) (parts : List ℕ) (at : slice_get d.nodes k ≡ Some (Choice parts)) where
   -- keys of two alternatives are apart
-  apart : {m j p q : ℕ} {w z : List ℕ} {mark_w mark_z : Bool} → Reached d k (o % 8) → m ≢ j → slice_get parts m ≡ Some q → slice_get parts j ≡ Some p → (IsNull d q → ⊥) → (IsNull d p → ⊥) → InKeys d most q (o % 8) w mark_w → InKeys d most p (o % 8) z mark_z → IsBegunBy w z ⊎ IsBegunBy z w → ⊥
+  pub apart : {m j p q : ℕ} {w z : List ℕ} {mark_w mark_z : Bool} → Reached d k (o % 8) → m ≢ j → slice_get parts m ≡ Some q → slice_get parts j ≡ Some p → (IsNull d q → ⊥) → (IsNull d p → ⊥) → InKeys d most q (o % 8) w mark_w → InKeys d most p (o % 8) z mark_z → IsBegunBy w z ⊎ IsBegunBy z w → ⊥
   apart {m} {j} {w = w} {z = z} {mark_w = mark_w} {mark_z = mark_z} reached differs at_m at_j real_m real_j key_w key_z either =
       elim (order m j) [
         | equal_numbers same ↦ differs same
@@ -108,7 +108,7 @@ module _ (d : DescV) (most : ℕ) (shaped_is : Shaped d) (certified : Certified 
       ]
 
   -- two alternatives do not both take no bits
-  one_null : {m j p q : ℕ} → m ≢ j → slice_get parts m ≡ Some q → slice_get parts j ≡ Some p → IsNull d q → IsNull d p → ⊥
+  pub one_null : {m j p q : ℕ} → m ≢ j → slice_get parts m ≡ Some q → slice_get parts j ≡ Some p → IsNull d q → IsNull d p → ⊥
   one_null {m} {j} differs at_m at_j null_m null_j =
       elim (order m j) [
         | equal_numbers same ↦ differs same
@@ -123,7 +123,7 @@ module _ (d : DescV) (most : ℕ) (shaped_is : Shaped d) (certified : Certified 
       certified (NotFirm k j) (choice_not_firm at at_j real (inr (o % 8, octet-lt o, mark, subst P nothing key)))
 
   -- beside an alternative that takes no bits, a key of another one does not begin with a bit that stands behind
-  no_clash : {i j p q : ℕ} (a : ℕ) → Reached d k (o % 8) → j ≢ i → slice_get parts i ≡ Some p → slice_get parts j ≡ Some q → IsNull d p → InStart d q (o % 8) a → InFollow d k (o % 8) (Some a) → ⊥
+  pub no_clash : {i j p q : ℕ} (a : ℕ) → Reached d k (o % 8) → j ≢ i → slice_get parts i ≡ Some p → slice_get parts j ≡ Some q → IsNull d p → InStart d q (o % 8) a → InFollow d k (o % 8) (Some a) → ⊥
   no_clash a reached differs at_i at_j null start follow = certified (EmptyClash k (o % 8) a) (empty_clash at reached at_i null at_j differs start follow)
 
   -- ---- a key is held

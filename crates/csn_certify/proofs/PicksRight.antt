@@ -24,7 +24,7 @@ widths_of h = record { fit = h.fit }
 -- ---- trees of the kinds of node
 
 module _ (d : DescV) where
-  stands_of : {i o : ℕ} {v : Values} {ahead : List ℕ} {t : TreeV} (h : LiesAhead d i o v ahead t) → Stands d i o h.own h.others
+  pub stands_of : {i o : ℕ} {v : Values} {ahead : List ℕ} {t : TreeV} (h : LiesAhead d i o v ahead t) → Stands d i o h.own h.others
   stands_of {o = o} h = record { place = o + length h.own; is_place = refl; follows = h.behind }
 
   -- a tree at a choice, where its alternative is known

@@ -1,6 +1,7 @@
 -- Laws over the definitions.
 use Rattle.std.specs.Prelude.{◌≡◌, ℕ, suc, ◌%◌, ◌<◌, ◌≤◌, Bool, true, false, List, [], ◌++◌, length, take, slice_get, Some}
-use Rattle.csn_desc.specs.declared.node.Node.TheVariants.{Choice, Many}
+use Rattle.csn_desc.specs.declared.node.Count.{Count}
+use Rattle.csn_desc.specs.declared.node.Node.TheVariants.{Choice, Many, Window}
 use Rattle.csn_desc.specs.TreeV.{TreeV, row, alt, none}
 use Rattle.csn_desc.specs.Nodes.{DescV}
 use Rattle.csn_desc.specs.Values.{Values}
@@ -96,3 +97,22 @@ FollowedRefuseNone =
     → IsDescription d → Certified d most → slice_get d.nodes node ≡ Some (Choice parts)
     → slice_get parts i ≡ Some part → NFollow d part o v (held ++ later)
     → ¬ Picks d most node (o % 8) held false Refuse
+
+-- no node is a window
+abbrev pub HasNoWindow : DescV → Type 0
+HasNoWindow d = (i unit part : ℕ) (count : Count) → ¬ (slice_get d.nodes i ≡ Some (Window unit count part))
+
+-- where a description has no windows, followed bits begin a string
+abbrev pub FollowedBeginStrings : Type 0
+FollowedBeginStrings =
+    (d : DescV) (b : List ℕ) → IsDescription d → HasNoWindow d → NFollow d 0 0 [] b
+    → (rest : List ℕ) × (t : TreeV) × NMeans d 0 0 [] (b ++ rest) t
+
+-- bits are followed in one way: where some have a tree at a node, and a bit goes on behind them that may stand
+-- there, the node does not follow them together
+abbrev pub FollowedInOneWay : Type 0
+FollowedInOneWay =
+    (d : DescV) (most node o : ℕ) (v : Values) (ahead : List ℕ) (t : TreeV) → IsDescription d → Certified d most
+    → Reached d node (o % 8) → FitWidths d v → (lies : LiesAhead d node o v ahead t)
+    → ¬ (lies.others ≡ [])
+    → ¬ NFollow d node o v ahead

@@ -1,6 +1,6 @@
 //! Laws over the definitions, each the contract of a function that does nothing.
 
-ghost use Rattle.csn_certify.specs.Laws.{FirstConflictIsOne, CertifiedHasNoConflict, LongerWordsCertify, NoContinuation, BlocksHaveOneTree, ChoicesTakeTheOne, ChoicesRefuseNone, RepetitionsGoOn, RepetitionsStop, FollowedTakeTheOne, FollowedRefuseNone};
+ghost use Rattle.csn_certify.specs.Laws.{FirstConflictIsOne, CertifiedHasNoConflict, LongerWordsCertify, NoContinuation, BlocksHaveOneTree, ChoicesTakeTheOne, ChoicesRefuseNone, RepetitionsGoOn, RepetitionsStop, FollowedTakeTheOne, FollowedRefuseNone, FollowedBeginStrings, FollowedInOneWay};
 
 /// A description has at most one first conflict, and is not certified where it has one.
 pub fn first_conflict_is_one()
@@ -40,4 +40,15 @@ pub fn picks_are_right()
 pub fn picks_follow()
     ensures takes { FollowedTakeTheOne }
     ensures refuses { FollowedRefuseNone }
+{}
+
+/// Where a description has no windows, bits that can be followed are the first of a string.
+pub fn followed_begin_strings()
+    ensures { FollowedBeginStrings }
+{}
+
+/// Bits are followed in one way where the description is certified: a node does not follow bits that have a
+/// tree there together with a bit that may stand behind it.
+pub fn followed_in_one_way()
+    ensures { FollowedInOneWay }
 {}

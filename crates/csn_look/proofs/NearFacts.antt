@@ -43,12 +43,12 @@ found_as make h = record { word = h.word; mark = h.mark; key = make h.word h.mar
 nothing_read : {P : List ℕ → Bool → Type 0} (mark : Bool) → P [] mark → Found P
 nothing_read mark key = record { word = []; mark = mark; key = key }
 
-zeros_are : (n : ℕ) → IsBits (replicate n 0)
+pub zeros_are : (n : ℕ) → IsBits (replicate n 0)
 zeros_are zero = tt
 zeros_are (suc n) = (omega arith, zeros_are n)
 
 -- the one bit that every reading takes
-spare_is : (reading : Reading) (s : Symbol) (o : ℕ) → IsSpare reading s o (spelled (s ∷ []) o)
+pub spare_is : (reading : Reading) (s : Symbol) (o : ℕ) → IsSpare reading s o (spelled (s ∷ []) o)
 spare_is Received s o = IsBits-spelled (s ∷ []) o
 spare_is Sent s o = refl
 
