@@ -92,9 +92,9 @@ module _ (d : DescV) (most : ℕ) (shaped_is : Shaped d) (certified : Certified 
         | inl null ↦ not_both b x a r is (sym e ∙ null_followed d null followed)
         | inr real ↦ elim (part_null d p) [
           | inl null ↦
-            let nothing = null_bits d null h in
-            let ahead : c ≡ a ∷ r = e ∙ ap (λ l. l ++ x) nothing ∙ is in
-            no_clash d most shaped_is certified k o parts at a reached (λ same. differs (sym same)) at_j at_m null (follows d shaped_is a r ahead widths followed) (stands_here d most shaped_is certified a r nothing is s)
+              let nothing = null_bits d null h in
+              let ahead : c ≡ a ∷ r = e ∙ ap (λ l. l ++ x) nothing ∙ is in
+              no_clash d most shaped_is certified k o parts at a reached (λ same. differs (sym same)) at_j at_m null (follows d shaped_is a r ahead widths followed) (stands_here d most shaped_is certified a r nothing is s)
           | inr real_p ↦ by_near real real_p (near_keys d most is_formed followed)
         ]
       ]
@@ -130,9 +130,9 @@ module _ (d : DescV) (most : ℕ) (shaped_is : Shaped d) (certified : Certified 
     node_further (means_choice {parts = parts} {j = j} {i = p} at_j h) at held a r x is reached widths (follows_choice {i = q} m at_m f) e s =
         elim (order j m) [
           | equal_numbers same ↦
-            let part : p ≡ q = cc in
-            let cut = cuts parts j p at_j in
-            no_further h (choice_formed d most j p held at_j) a r x is (choice_reached d at cut reached) widths (follow_along d part f) e (choice_stands d at cut s)
+              let part : p ≡ q = cc in
+              let cut = cuts parts j p at_j in
+              no_further h (choice_formed d most j p held at_j) a r x is (choice_reached d at cut reached) widths (follow_along d part f) e (choice_stands d at cut s)
           | first_less less ↦ further_apart a r x is at reached widths (λ same. omega arith) at_j at_m (choice_formed d most m q held at_m) h f e s
           | second_less less ↦ further_apart a r x is at reached widths (λ same. omega arith) at_j at_m (choice_formed d most m q held at_m) h f e s
         ]
