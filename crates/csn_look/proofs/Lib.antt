@@ -17,8 +17,8 @@ pub mod LookFacts
 pub mod Puts
 pub mod Parents
 pub mod HandDown
-pub mod ReachTables
-pub mod FollowTables
+pub mod ReachedParts
+pub mod FollowedParts
 pub mod Places
 pub mod MarkFacts
 pub mod KeyMarkFacts

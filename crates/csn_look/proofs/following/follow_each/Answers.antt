@@ -1,7 +1,7 @@
 use Rattle.std.proofs.Common.{suc, drop, refl, arith}
 use Rattle.std.proofs.lemmas.Option.{slice_get_within}
-use Rattle.csn_look.proofs.ReachTables.{kept_more, same_more}
-use Rattle.csn_look.proofs.FollowTables.{says_choice}
+use Rattle.csn_look.proofs.ReachedParts.{kept_more, same_more}
+use Rattle.csn_look.proofs.FollowedParts.{says_choice}
 use Rattle.csn_look.proofs.following.follow_each.Goals as goal
 
 pub loop-at-init : goal.loop-at-init

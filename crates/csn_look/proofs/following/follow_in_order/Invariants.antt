@@ -5,8 +5,8 @@ use Rattle.csn_look.specs.NodeSets.{IsLookOf}
 use Rattle.csn_look.specs.FollowV.{FollowsAre}
 use Rattle.csn_look.specs.Reached.{PartFollow}
 use Rattle.csn_look.proofs.Tells.{PartsSetsAre}
-use Rattle.csn_look.proofs.ReachTables.{KeptBeside}
-use Rattle.csn_look.proofs.FollowTables.{PutFrom}
+use Rattle.csn_look.proofs.ReachedParts.{KeptBeside}
+use Rattle.csn_look.proofs.FollowedParts.{PutFrom}
 use Rattle.csn_look.proofs.following.follow_in_order.Given as goal
 
 abbrev pub invariant-loop-at : goal.invariant-loop-at

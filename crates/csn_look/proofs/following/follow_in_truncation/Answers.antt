@@ -4,8 +4,8 @@ use Rattle.csn_look.specs.FollowV.{SaysFollow}
 use Rattle.csn_look.specs.Reached.{PartFollow}
 use Rattle.csn_look.proofs.LookFacts.{known_sets}
 use Rattle.csn_look.proofs.Tells.{PartsSetsAre, last_none, last_more, no_parts, more_parts}
-use Rattle.csn_look.proofs.ReachTables.{kept_more}
-use Rattle.csn_look.proofs.FollowTables.{put_last, put_before, says_trunc}
+use Rattle.csn_look.proofs.ReachedParts.{kept_more}
+use Rattle.csn_look.proofs.FollowedParts.{put_last, put_before, says_trunc}
 use Rattle.csn_look.proofs.following.follow_in_truncation.Goals as goal
 
 pub loop-at-init : goal.loop-at-init

@@ -5,8 +5,8 @@ use Rattle.csn_look.specs.Steps.{KeepsOthers}
 use Rattle.csn_look.specs.declared.following.Following.{Following}
 use Rattle.csn_look.specs.FollowV.{FollowsAre}
 use Rattle.csn_look.proofs.HandDown.{Handed, handed_none, handed_here, handed_more, handed_end}
-use Rattle.csn_look.proofs.ReachTables.{parts_once, parts_below, written_back}
-use Rattle.csn_look.proofs.FollowTables.{root_follow, parts_follow}
+use Rattle.csn_look.proofs.ReachedParts.{parts_once, parts_below, written_back}
+use Rattle.csn_look.proofs.FollowedParts.{root_follow, parts_follow}
 use Rattle.csn_look.proofs.following.follow_table.Goals as goal
 
 pub loop-k-init : goal.loop-k-init

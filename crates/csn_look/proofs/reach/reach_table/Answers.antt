@@ -7,7 +7,7 @@ use Rattle.csn_look.specs.Steps.{KeepsOthers}
 use Rattle.csn_look.specs.Told.{OctetsAre}
 use Rattle.csn_look.specs.Reached.{Reached}
 use Rattle.csn_look.proofs.HandDown.{Handed, handed_none, handed_here, handed_more, handed_end}
-use Rattle.csn_look.proofs.ReachTables.{root_right, parts_right, parts_once, parts_below, written_back}
+use Rattle.csn_look.proofs.ReachedParts.{root_right, parts_right, parts_once, parts_below, written_back}
 use Rattle.csn_look.proofs.reach.reach_table.Goals as goal
 
 pub loop-k-init : goal.loop-k-init

@@ -4,7 +4,7 @@ use Rattle.std.proofs.lemmas.Option.{slice_get_read}
 use Rattle.csn_look.specs.declared.following.Following.{Following}
 use Rattle.csn_look.specs.Reached.{InFollow}
 use Rattle.csn_look.specs.ReachV.{ReachV}
-use Rattle.csn_look.proofs.FollowTables.{follow_says, known_follow}
+use Rattle.csn_look.proofs.FollowedParts.{follow_says, known_follow}
 use Rattle.csn_look.proofs.reach.Reach.follow.Goals as goal
 
 pub returns : goal.returns

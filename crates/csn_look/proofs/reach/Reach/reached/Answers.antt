@@ -5,7 +5,7 @@ use Rattle.std.specs.FinSet as set
 use Rattle.std.proofs.lemmas.Option.{slice_get_read}
 use Rattle.csn_look.specs.Reached.{Reached}
 use Rattle.csn_look.specs.ReachV.{ReachV}
-use Rattle.csn_look.proofs.ReachTables.{has_at}
+use Rattle.csn_look.proofs.ReachedParts.{has_at}
 use Rattle.csn_look.proofs.reach.Reach.reached.Goals as goal
 
 pub returns : goal.returns

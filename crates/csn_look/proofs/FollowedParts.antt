@@ -30,7 +30,7 @@ use Rattle.csn_look.proofs.LookFacts.{follow_has}
 use Rattle.csn_look.proofs.Tells.{both, back, truth, PartsSetsAre}
 use Rattle.csn_look.proofs.Spanned.{span_inside, span_parts}
 use Rattle.csn_look.proofs.Parents.{one_parent}
-use Rattle.csn_look.proofs.ReachTables.{single}
+use Rattle.csn_look.proofs.ReachedParts.{single}
 use Rattle.csn_look.proofs.Puts.{get_put_same, get_put_other, middle_get, middle_drop, split_drop}
 
 -- ---- facts that hold both ways
