@@ -11,3 +11,10 @@ pub mod ExampleFacts
 pub mod RefusedExample
 pub mod LabelFacts
 pub mod NumberFacts
+pub mod Growth
+pub mod Entering
+pub mod Shown
+pub mod Innermost
+pub mod CrowdFacts
+pub mod MarkFacts
+pub mod Finishing

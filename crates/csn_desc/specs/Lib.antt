@@ -9,5 +9,11 @@ pub mod Means
 pub mod Follows
 pub mod Walks
 pub mod Formed
+pub mod Overfull
+pub mod Building
+pub mod Marks
+pub mod Heads
+pub mod Standing
+pub mod Crowds
 pub mod Laws
 pub mod Examples

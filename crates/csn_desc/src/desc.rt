@@ -1,5 +1,5 @@
 ghost use Rattle.std.specs.Prelude.{◌≡◌, ◌<◌, ◌≤◌, length, slice_get};
-ghost use Rattle.csn_desc.specs.Formed.{IsDescription, is_counted};
+ghost use Rattle.csn_desc.specs.Formed.{IsDescription, is_counted, counted_marks};
 
 use crate::node::Node;
 use crate::reading::Reading;
@@ -33,6 +33,19 @@ impl Model for Desc {
 }
 
 impl Desc {
+    /// The description that has these nodes.
+    pub(crate) fn of_nodes(reading: Reading, nodes: Vec<Node>, counted: Vec<bool>) -> Desc
+        requires description { IsDescription (record { reading = reading; nodes = nodes.items }) }
+        requires marks { counted.items ≡ counted_marks nodes.items }
+        ensures { result ≡ record { reading = reading; nodes = nodes.items } }
+    {
+        Desc {
+            reading,
+            nodes,
+            counted,
+        }
+    }
+
     /// The reading that the description is in.
     pub fn reading(&self) -> Reading
         ensures { result ≡ self.now.reading }

@@ -1,12 +1,15 @@
 //! What a description is made of, and the trees that its blocks have.
 #![tactic(auto)]
 
+mod begun;
+mod builder;
 mod desc;
 pub mod examples;
 mod label;
 pub mod laws;
 mod moves;
 mod node;
+mod overfull;
 mod parts;
 mod reading;
 mod run;
@@ -15,6 +18,7 @@ mod symbol;
 mod tests;
 mod tree;
 
+pub use builder::{DescBuilder, DescFault, MOST_DEPTH};
 pub use desc::{Desc, MOST_NODES};
 pub use label::{Label, LabelFault, is_label};
 pub use moves::Move;

@@ -1,4 +1,5 @@
-ghost use Rattle.std.specs.Prelude.{◌≡◌, ◌<◌, ◌≤◌, [], ◌∷◌, ◌++◌, length, slice_get, OnOk, OnErr};
+ghost use Rattle.std.specs.Prelude.{◌≡◌, ◌<◌, ◌≤◌, [], ◌∷◌, ◌++◌, length, slice_get, ◌==◌, OnOk, OnErr};
+ghost use Rattle.std.specs.List.{list_any};
 
 use crate::desc::MOST_NODES;
 use csn_bits::NoMemory;
@@ -58,5 +59,12 @@ impl Parts {
         ensures { slice_get self.now at ≡ Some result }
     {
         self.numbers[at as usize]
+    }
+
+    /// Whether the node with this number is one of the parts.
+    pub(crate) fn has(&self, part: u16) -> bool
+        ensures { result ≡ list_any (λ number. number == part) self.now }
+    {
+        self.numbers.contains(&part)
     }
 }

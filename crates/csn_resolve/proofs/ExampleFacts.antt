@@ -18,7 +18,7 @@ use Rattle.csn_resolve.specs.Counts.{count_number}
 use Rattle.csn_resolve.specs.Gives.{placed, Gives, RuleGives, gives_lits, gives_field, gives_seq, gives_choice, gives_only, gives_labelled, gives_group, gives_received, items_end, items_next, each_end, each_next, rule_plain, rule_tail}
 use Rattle.csn_resolve.specs.Walk.{Around, Walk, left_full, left_plain, walk_lits, walk_field, walk_undefined, walk_recursive, walk_group, walk_labelled, walk_seq, walk_choice}
 use Rattle.csn_resolve.specs.Walk as walk
-use Rattle.csn_resolve.specs.Overfull.{IsOverfull}
+use Rattle.csn_desc.specs.Overfull.{IsOverfull}
 use Rattle.csn_resolve.specs.Resolved.{asked_rule}
 use Rattle.csn_resolve.specs.Examples.{X, field, fields_rule, fields_rules, FieldsAreResolved, refused_rule, refused_rules, RefusalsHaveAnOrder, dropping_rules, AlternativesAreDropped, repeated_rules, CountsStandOnTheNearest, tail_rules, TailsAreRepetitions}
 use Rattle.csn_resolve.proofs.Full.{rule_full}

@@ -11,29 +11,9 @@ use Rattle.csn_grammar.specs.RulesV.{RulesV}
 use Rattle.csn_grammar.specs.Names.{rule_of}
 use Rattle.csn_grammar.specs.Forms.{WidthV, width_of}
 use Rattle.csn_resolve.specs.Counts.{Narrow, narrow_field, narrow_name, narrow_group, narrow_received, narrow_sent}
+use Rattle.csn_resolve.specs.Tests.{few_bits, narrow_width, is_narrow, form_narrow}
 use Rattle.csn_resolve.proofs.Bools.{or_cases, or_wider, or_left, and_cases, both_true}
 use Rattle.csn_resolve.proofs.Levels.{rule_test, level, decided}
-
-abbrev few_bits : ℕ → Exponent → Bool
-few_bits unit (Number n) = nat_le 1 (unit * n) && nat_le (unit * n) 16
-few_bits unit _ = false
-
--- a constant width of 1 to 16 bits
-abbrev narrow_width : Option WidthV → Bool
-narrow_width None = false
-narrow_width (Some w) = few_bits w.unit w.count
-
--- is x narrow, where these names are?
-abbrev mutual
-  is_narrow : Reading → (List ℕ → Bool) → ExprV → Bool
-  is_narrow r h (expr s e f) = narrow_width (width_of (expr s e f)) || form_narrow r h f
-
-  form_narrow : Reading → (List ℕ → Bool) → FormV → Bool
-  form_narrow r h (name n) = h n
-  form_narrow r h (group x) = is_narrow r h x
-  form_narrow Received h (sends x y) = is_narrow Received h x
-  form_narrow Sent h (sends x y) = is_narrow Sent h y
-  form_narrow r h _ = false
 
 -- ---- with more names, no less is narrow
 
@@ -62,7 +42,7 @@ module _ (rules : RulesV) (r : Reading) where
   abbrev narrows : ℕ → List ℕ → Bool
   narrows k = level rules (is_narrow r) k
 
-  abbrev Names : (List ℕ → Bool) → Type 0
+  abbrev pub Names : (List ℕ → Bool) → Type 0
   Names h = (n : List ℕ) → h n ≡ true → (rule : Rule) × (rule_of rules n ≡ Some rule) × Narrow rules r rule.body
 
   by_width : (x : ExprV) (o : Option WidthV) → width_of x ≡ o → narrow_width o ≡ true → Narrow rules r x
@@ -89,7 +69,7 @@ module _ (rules : RulesV) (r : Reading) where
     in_width x f (inr p) inner = inner p
 
     mutual
-      narrow_found : (x : ExprV) → is_narrow r h x ≡ true → Narrow rules r x
+      pub narrow_found : (x : ExprV) → is_narrow r h x ≡ true → Narrow rules r x
       narrow_found (expr s e f) p =
           in_width (expr s e f) f (or_cases (narrow_width (width_of (expr s e f))) (form_narrow r h f) p)
           (λ q. form_found s e f q)
@@ -117,7 +97,7 @@ module _ (rules : RulesV) (r : Reading) where
       → is_narrow r (narrows k) rule.body ≡ true → narrows (suc k) n ≡ true
   found_name n rule at k found = ap (λ o. rule_test rules (is_narrow r) o (narrows k)) at ∙ found
 
-  found_width :
+  pub found_width :
       (x : ExprV) (w : WidthV) (n : ℕ)
       → width_of x ≡ Some w → w.count ≡ Number n → 1 ≤ w.unit * n → w.unit * n ≤ 16
       → narrow_width (width_of x) ≡ true
@@ -125,12 +105,12 @@ module _ (rules : RulesV) (r : Reading) where
       ap narrow_width is ∙ (ap (few_bits w.unit) at
       ∙ both_true (nat_le 1 (w.unit * n)) (nat_le (w.unit * n) 16) (le-leb 1 (w.unit * n) some) (le-leb (w.unit * n) 16 few))
 
-  found_left :
+  pub found_left :
       (h : List ℕ → Bool) (x y : ExprV)
       → r ≡ Received → is_narrow r h x ≡ true → form_narrow r h (sends x y) ≡ true
   found_left h x y is p = ap (λ z. form_narrow z h (sends x y)) is ∙ (sym (ap (λ z. is_narrow z h x) is) ∙ p)
 
-  found_right :
+  pub found_right :
       (h : List ℕ → Bool) (x y : ExprV)
       → r ≡ Sent → is_narrow r h y ≡ true → form_narrow r h (sends x y) ≡ true
   found_right h x y is p = ap (λ z. form_narrow z h (sends x y)) is ∙ (sym (ap (λ z. is_narrow z h y) is) ∙ p)

@@ -53,7 +53,7 @@ module _ (rules : RulesV) (r : Reading) where
   abbrev RuleWalked : Around → Rule → Type 0
   RuleWalked a rule = (steps : List Step) × RuleWalk rules r a rule steps
 
-  part_left : (x : ExprV) → (steps : List Step) × PartLeft rules r x steps
+  pub part_left : (x : ExprV) → (steps : List Step) × PartLeft rules r x steps
   part_left x = by (void_decided rules r x)
     where
       by : Void rules r x ⊎ (¬ Void rules r x) → (steps : List Step) × PartLeft rules r x steps

@@ -9,39 +9,9 @@ use Rattle.csn_grammar.specs.RulesV.{RulesV}
 use Rattle.csn_grammar.specs.Names.{same_name, rule_of}
 use Rattle.csn_grammar.specs.Forms.{WidthV, WindowV, width_of, window_of}
 use Rattle.csn_grammar.specs.Void.{Void, SomeVoid, AllVoid, void_none, void_name, void_group, void_labelled, void_window, void_seq, void_choice, void_received, void_sent, void_here, void_later, all_end, all_next, all_error}
+use Rattle.csn_resolve.specs.Tests.{window_part, is_void, form_void, some_void, all_void}
 use Rattle.csn_resolve.proofs.Bools.{or_cases, or_wider, or_left, or_right, and_cases, both_true}
 use Rattle.csn_resolve.proofs.Levels.{rule_test, level, decided}
-
--- the part of a window that must be empty, by the widths of its sides
-abbrev window_part : Option WidthV → Option WidthV → Bool → Bool → Bool
-window_part (Some w) other left right = right
-window_part None (Some w) left right = left
-window_part None None left right = false
-
--- is x empty of strings, where these names are?
-abbrev mutual
-  is_void : Reading → (List ℕ → Bool) → ExprV → Bool
-  is_void r h (expr s e f) = form_void r h f
-
-  form_void : Reading → (List ℕ → Bool) → FormV → Bool
-  form_void r h (name n) = same_name n (codes "no string") || h n
-  form_void r h (labelled label x) = is_void r h x
-  form_void r h (group x) = is_void r h x
-  form_void r h (seq xs) = some_void r h xs
-  form_void r h (choice bs) = all_void r h bs
-  form_void r h (both x y) = window_part (width_of x) (width_of y) (is_void r h x) (is_void r h y)
-  form_void Received h (sends x y) = is_void Received h x
-  form_void Sent h (sends x y) = is_void Sent h y
-  form_void r h _ = false
-
-  some_void : Reading → (List ℕ → Bool) → ExprsV → Bool
-  some_void r h no_item = false
-  some_void r h (item x xs) = is_void r h x || some_void r h xs
-
-  all_void : Reading → (List ℕ → Bool) → BranchesV → Bool
-  all_void r h no_branch = true
-  all_void r h (branch false x bs) = is_void r h x && all_void r h bs
-  all_void r h (branch true x bs) = all_void r h bs
 
 part_wider :
     (w v : Option WidthV) (a b c d : Bool) → (a ≡ true → c ≡ true) → (b ≡ true → d ≡ true)
@@ -95,7 +65,7 @@ module _ (rules : RulesV) (r : Reading) where
   abbrev voids : ℕ → List ℕ → Bool
   voids k = level rules (is_void r) k
 
-  abbrev Names : (List ℕ → Bool) → Type 0
+  abbrev pub Names : (List ℕ → Bool) → Type 0
   Names h = (n : List ℕ) → h n ≡ true → (rule : Rule) × (rule_of rules n ≡ Some rule) × Void rules r rule.body
 
   by_window :
@@ -128,7 +98,7 @@ module _ (rules : RulesV) (r : Reading) where
     by_name s e n (inr p) = let found = names n p in void_name found.0 found.1 found.2
 
     mutual
-      void_found : (x : ExprV) → is_void r h x ≡ true → Void rules r x
+      pub void_found : (x : ExprV) → is_void r h x ≡ true → Void rules r x
       void_found (expr s e f) p = form_found s e f p
 
       form_found : (s e : ℕ) (f : FormV) → form_void r h f ≡ true → Void rules r (expr s e f)
@@ -148,12 +118,12 @@ module _ (rules : RulesV) (r : Reading) where
       form_found s e (sends x y) p =
           in_sides h s e x y r refl p (λ q. void_found x q) (λ q. void_found y q)
 
-      some_found : (xs : ExprsV) → some_void r h xs ≡ true → SomeVoid rules r xs
+      pub some_found : (xs : ExprsV) → some_void r h xs ≡ true → SomeVoid rules r xs
       some_found no_item p = cc
       some_found (item x xs) p =
           in_item x xs (or_cases (is_void r h x) (some_void r h xs) p) (λ q. void_found x q) (λ q. some_found xs q)
 
-      all_found : (bs : BranchesV) → all_void r h bs ≡ true → AllVoid rules r bs
+      pub all_found : (bs : BranchesV) → all_void r h bs ≡ true → AllVoid rules r bs
       all_found no_branch p = all_end
       all_found (branch false x bs) p =
           let parts = and_cases (is_void r h x) (all_void r h bs) p in
@@ -183,7 +153,7 @@ module _ (rules : RulesV) (r : Reading) where
   found_name n rule at k found (suc m) few =
       ap (λ o. rule_test rules (is_void r) o (voids m)) at ∙ found m (omega (arith, few))
 
-  found_window :
+  pub found_window :
       (h : List ℕ → Bool) (x y : ExprV) (w : WindowV) → window_of x y ≡ Some w → is_void r h w.part ≡ true
       → window_part (width_of x) (width_of y) (is_void r h x) (is_void r h y) ≡ true
   found_window h x y w is p = by_width (width_of x) (width_of y) refl refl
@@ -197,17 +167,17 @@ module _ (rules : RulesV) (r : Reading) where
           let same : record { width = b; part = x } ≡ w = cc in ap (λ z. is_void r h z.part) same ∙ p
       by_width None None q t = cc
 
-  no_string_found :
+  pub no_string_found :
       (n : List ℕ)
       → n ≡ codes "no string" → (b : Bool) → (same_name n (codes "no string") || b) ≡ true
   no_string_found n is b = ap (λ z. same_name z (codes "no string") || b) is
 
-  found_left :
+  pub found_left :
       (h : List ℕ → Bool) (x y : ExprV)
       → r ≡ Received → is_void r h x ≡ true → form_void r h (sends x y) ≡ true
   found_left h x y is p = ap (λ z. form_void z h (sends x y)) is ∙ (sym (ap (λ z. is_void z h x) is) ∙ p)
 
-  found_right :
+  pub found_right :
       (h : List ℕ → Bool) (x y : ExprV)
       → r ≡ Sent → is_void r h y ≡ true → form_void r h (sends x y) ≡ true
   found_right h x y is p = ap (λ z. form_void z h (sends x y)) is ∙ (sym (ap (λ z. is_void z h y) is) ∙ p)

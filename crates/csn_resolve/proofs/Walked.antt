@@ -13,7 +13,7 @@ use Rattle.csn_resolve.specs.Seen.{Frame, Seen, seen_of}
 use Rattle.csn_resolve.specs.Steps.{Step}
 use Rattle.csn_resolve.specs.declared.why.Why.{Why}
 use Rattle.csn_resolve.specs.Why.{Refusal}
-use Rattle.csn_resolve.specs.Overfull.{IsFirstOverfull}
+use Rattle.csn_desc.specs.Overfull.{IsFirstOverfull}
 use Rattle.csn_resolve.specs.Resolved.{ResolveSteps, asked_unknown, asked_rule, nodes_of, AreRefusals, IsRefused, refused_on_walk, refused_at_last, IsResolved}
 use Rattle.csn_resolve.specs.Counts.{Narrow, CountSteps, count_number, count_unknown, count_wide, count_narrow}
 use Rattle.csn_resolve.specs.Gives.{Placed, start_of}

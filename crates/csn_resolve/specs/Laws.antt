@@ -6,9 +6,11 @@ use Rattle.csn_desc.specs.Formed.{Spans}
 use Rattle.csn_grammar.specs.ExprV.{ExprV}
 use Rattle.csn_grammar.specs.RulesV.{RulesV}
 use Rattle.csn_grammar.specs.Void.{Void}
+use Rattle.csn_grammar.specs.Place.{HasRules}
 use Rattle.csn_resolve.specs.declared.why.Why.{Why}
 use Rattle.csn_resolve.specs.Why.{Refusal}
 use Rattle.csn_resolve.specs.Seen.{Seen}
+use Rattle.csn_resolve.specs.Shaped.{AreShaped}
 use Rattle.csn_resolve.specs.Gives.{Placed, Gives}
 use Rattle.csn_resolve.specs.Steps.{Step}
 use Rattle.csn_resolve.specs.Counts.{Narrow}
@@ -87,3 +89,7 @@ abbrev pub NodesAreNumbered : Type 0
 NodesAreNumbered =
     (rules : RulesV) (r : Reading) (n : List ℕ) (nodes : List Placed)
     → NameGives rules n r nodes → Spans (nodes_of nodes) 0 (length nodes)
+
+-- the rules of a text have no empty word, sequence, choice or truncation
+abbrev pub RulesOfTextsAreShaped : Type 0
+RulesOfTextsAreShaped = (text : List ℕ) (rules : RulesV) → HasRules text rules → AreShaped rules

@@ -4,7 +4,13 @@ pub mod Gives
 pub mod Counts
 pub mod Steps
 pub mod Walk
-pub mod Overfull
 pub mod Resolved
+pub mod Going
+pub mod Views
+pub mod Numbers
+pub mod Depths
+pub mod Tests
+pub mod Marked
+pub mod Shaped
 pub mod Laws
 pub mod Examples

@@ -13,7 +13,7 @@ use Rattle.csn_resolve.specs.Why.{Refusal}
 use Rattle.csn_resolve.specs.Gives.{Placed, RuleGives}
 use Rattle.csn_resolve.specs.Steps.{Step, refused, refused_if, refusals_after}
 use Rattle.csn_resolve.specs.Walk.{is_among, outermost, PartLeft, RuleWalk}
-use Rattle.csn_resolve.specs.Overfull.{IsOverfull, IsFirstOverfull}
+use Rattle.csn_desc.specs.Overfull.{IsOverfull, IsFirstOverfull}
 
 -- each rule that has one of the names `taken`, or that of an earlier rule
 abbrev pub twice_steps : List (List ℕ) → RulesV → List Step

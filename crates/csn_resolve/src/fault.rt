@@ -1,4 +1,9 @@
+ghost use Rattle.std.specs.Prelude.{◌≡◌};
+ghost use Rattle.csn_resolve.specs.declared.fault.ResolveFault.TheVariants.{NoMemory as no_memory};
+
 use crate::why::Why;
+use csn_bits::NoMemory;
+use std::alloc::AllocFailed;
 
 /// Why a named rule gives no description.
 #[derive(Clone, Copy, Debug, Drop, PartialEq, Eq)]
@@ -6,4 +11,20 @@ pub enum ResolveFault {
     /// The rules are refused. The place, in bytes from 0, is where in the text of the rules.
     Refused { why: Why, place: u32 },
     NoMemory,
+}
+
+impl From<NoMemory> for ResolveFault {
+    ghost from_gives = { λ _ e. e ≡ no_memory };
+
+    fn from(_e: NoMemory) -> ResolveFault {
+        ResolveFault::NoMemory
+    }
+}
+
+impl<T: Drop> From<AllocFailed<T>> for ResolveFault {
+    ghost from_gives = { λ _ e. e ≡ no_memory };
+
+    fn from(_e: AllocFailed<T>) -> ResolveFault {
+        ResolveFault::NoMemory
+    }
 }
