@@ -8,7 +8,6 @@ use crate::begun::{
 };
 use crate::desc::{Desc, MOST_NODES};
 use crate::node::{Count, Head, Node};
-use crate::overfull::{counted_marks, first_overfull};
 use crate::parts::Parts;
 use crate::reading::Reading;
 use crate::symbol::Symbol;
@@ -146,13 +145,7 @@ impl DescBuilder {
         ensures vals { (node : ℕ) → result ≡ Err (DescFault.TooManyVals node) → IsFirstOverfull self.nodes node }
         ensures others { (¬ (result ≡ Err DescFault.TooManyNodes)) × (¬ (result ≡ Err DescFault.TooDeep)) }
     {
-        let Ok(counted) = counted_marks(self.alloc, self.nodes.as_slice()) else {
-            return Err(DescFault::NoMemory);
-        };
-        match first_overfull(self.nodes.as_slice(), counted.as_slice(), 0, 0, 0) {
-            Some(node) => Err(DescFault::TooManyVals { node }),
-            None => Ok(Desc::of_nodes(self.reading, self.nodes, counted)),
-        }
+        Desc::from_nodes(self.alloc, self.reading, self.nodes)
     }
 
     /// Whether there is no root yet, or the innermost node takes a further part.

@@ -1,8 +1,13 @@
-ghost use Rattle.std.specs.Prelude.{◌≡◌, ◌<◌, ◌≤◌, length, slice_get};
+ghost use Rattle.std.specs.Prelude.{◌≡◌, ◌<◌, ◌≤◌, ℕ, [], length, slice_get, IfOk, OnOk};
 ghost use Rattle.csn_desc.specs.Formed.{IsDescription, is_counted, counted_marks};
+ghost use Rattle.csn_desc.specs.Standing.{Laid};
+ghost use Rattle.csn_desc.specs.Overfull.{IsOverfull, IsFirstOverfull};
 
+use crate::builder::DescFault;
 use crate::node::Node;
+use crate::overfull::{counted_marks, first_overfull};
 use crate::reading::Reading;
+use std::alloc::Global;
 use std::marker::Model;
 
 /// The most nodes that a description has.
@@ -33,16 +38,26 @@ impl Model for Desc {
 }
 
 impl Desc {
-    /// The description that has these nodes.
-    pub(crate) fn of_nodes(reading: Reading, nodes: Vec<Node>, counted: Vec<bool>) -> Desc
-        requires description { IsDescription (record { reading = reading; nodes = nodes.items }) }
-        requires marks { counted.items ≡ counted_marks nodes.items }
-        ensures { result ≡ record { reading = reading; nodes = nodes.items } }
+    /// The description that has these nodes, each before its parts. `TooManyVals` comes where a field that
+    /// some count stands on sees 64 such fields, and tells the first; no other limit is asked here.
+    pub fn from_nodes(alloc: Global, reading: Reading, nodes: Vec<Node>) -> Result<Desc, DescFault>
+        requires few { length nodes.items ≤ MOST_NODES }
+        requires laid { Laid nodes.items [] 0 0 (length nodes.items) }
+        ensures ok { IfOk result (λ desc. desc ≡ record { reading = reading; nodes = nodes.items }) }
+        ensures fits { OnOk result ((i : ℕ) → ¬ IsOverfull nodes.items i) }
+        ensures vals { (node : ℕ) → result ≡ Err (DescFault.TooManyVals node) → IsFirstOverfull nodes.items node }
+        ensures others { (¬ (result ≡ Err DescFault.TooManyNodes)) × (¬ (result ≡ Err DescFault.TooDeep)) }
     {
-        Desc {
-            reading,
-            nodes,
-            counted,
+        let Ok(counted) = counted_marks(alloc, nodes.as_slice()) else {
+            return Err(DescFault::NoMemory);
+        };
+        match first_overfull(nodes.as_slice(), counted.as_slice(), 0, 0, 0) {
+            Some(node) => Err(DescFault::TooManyVals { node }),
+            None => Ok(Desc {
+                reading,
+                nodes,
+                counted,
+            }),
         }
     }
 
@@ -82,17 +97,12 @@ impl Desc {
 #[cfg(test)]
 mod tests {
     use super::*;
-    use std::alloc::{AllocError, Global};
+    use std::alloc::Global;
     use std::test::Fail;
 
-    fn no_bits(alloc: Global) -> Result<Desc, AllocError> {
+    fn no_bits(alloc: Global) -> Result<Desc, Fail> {
         let nodes = Vec::from_array(alloc, [Node::Null])?;
-        let counted = Vec::from_array(alloc, [false])?;
-        Ok(Desc {
-            reading: Reading::Sent,
-            nodes,
-            counted,
-        })
+        Ok(Desc::from_nodes(alloc, Reading::Sent, nodes).map_err(|_| "no description")?)
     }
 
     #[test]

@@ -25,7 +25,7 @@ impl Model for Parts {
 
 impl Parts {
     /// No parts. It takes no memory.
-    pub(crate) fn new(alloc: Global) -> Parts
+    pub fn new(alloc: Global) -> Parts
         ensures { result ≡ [] }
     {
         Parts {
@@ -33,8 +33,8 @@ impl Parts {
         }
     }
 
-    /// Adds a part at the end.
-    pub(crate) fn push(&mut self, part: u16) -> Result<(), NoMemory>
+    /// Adds a part at the end; fewer than 16,384 stand before it.
+    pub fn push(&mut self, part: u16) -> Result<(), NoMemory>
         requires { length self.old < MOST_NODES }
         ensures ok { OnOk result (self.new ≡ self.old ++ part ∷ []) }
         ensures err { OnErr result (self.new ≡ self.old) }

@@ -1,54 +1,29 @@
--- The nodes of a whole builder are a description.
-use Rattle.std.proofs.Common.{◌≡◌, ℕ, ◌<◌, List, [], length, reverse, sym, subst}
-use Rattle.csn_desc.specs.declared.node.Node.{Node}
+-- The nodes of a whole builder are all well formed.
+use Rattle.std.proofs.Common.{◌≡◌, ℕ, ◌<◌, List, [], length, reverse, sym, subst, Err, OnOk}
+use Rattle.csn_desc.specs.declared.builder.DescFault.TheVariants as DescFault
 use Rattle.csn_desc.specs.Overfull.{IsOverfull, IsFirstOverfull}
+use Rattle.csn_desc.specs.declared.node.Node.{Node}
 use Rattle.csn_desc.specs.Building.{BuilderV, IsWhole}
 use Rattle.csn_desc.specs.Standing.{Stands, Laid}
-use Rattle.csn_desc.specs.Crowds.{Counts, NoneCrowded, FirstCrowded}
 use Rattle.csn_desc.proofs.Entering.{all_laid}
-use Rattle.csn_desc.proofs.Finishing.{root_counting, none_overfull, first_of_nodes, is_description}
 use Rattle.csn_desc.proofs.builder.DescBuilder.finish.Goals as goal
 
 whole_laid : (nodes : List Node) (around : List ℕ) → Stands nodes around → 0 < length nodes → around ≡ [] → Laid nodes [] 0 0 (length nodes)
 whole_laid nodes around s some none = let P : List ℕ → Type 0 = λ l. Stands nodes l in all_laid nodes (subst P none s) some
 
-pub first_overfull-requires-clause-sees : goal.first_overfull-requires-clause-sees
-first_overfull-requires-clause-sees c =
+pub from_nodes-requires-clause-laid : goal.from_nodes-requires-clause-laid
+from_nodes-requires-clause-laid c =
     let nodes = c.self.inside.nodes.items in
     let P : BuilderV → Type 0 = λ b. IsWhole b in
     let whole = subst P (sym c.self.view_is) c.requires in
-    let laid : Laid nodes [] 0 0 (length nodes) = whole_laid nodes (reverse c.self.inside.around.items) c.self.invariant whole.0 whole.1 in
-    let Q : List Node → Type 0 = λ l. Counts l 0 0 0 in
-    subst Q (sym c.as_slice-2.ensures.value) ([], root_counting nodes laid)
+    whole_laid nodes (reverse c.self.inside.around.items) c.self.invariant whole.0 whole.1
 
-pub of_nodes-requires-clause-description : goal.of_nodes-requires-clause-description
-of_nodes-requires-clause-description c =
-    let nodes = c.self.inside.nodes.items in
-    let P : BuilderV → Type 0 = λ b. IsWhole b in
-    let whole = subst P (sym c.self.view_is) c.requires in
-    let laid : Laid nodes [] 0 0 (length nodes) = whole_laid nodes (reverse c.self.inside.around.items) c.self.invariant whole.0 whole.1 in
-    let Q : List Node → Type 0 = λ l. NoneCrowded l 0 0 0 in
-    is_description nodes c.self.inside.reading c.self.invariant.few laid (subst Q c.as_slice-2.ensures.value c.in-None.ensures.none)
+pub returns-clause-fits : goal.returns-clause-fits
+returns-clause-fits c =
+    let P : BuilderV → Type 0 = λ b. OnOk c.from_nodes.result ((i : ℕ) → ¬ IsOverfull b.nodes i) in
+    subst P c.self.view_is c.from_nodes.ensures.fits
 
-pub returns-in-Some-clause-vals : goal.returns-in-Some-clause-vals
-returns-in-Some-clause-vals c = λ node is.
-    let nodes = c.self.inside.nodes.items in
-    let P : BuilderV → Type 0 = λ b. IsWhole b in
-    let whole = subst P (sym c.self.view_is) c.requires in
-    let laid : Laid nodes [] 0 0 (length nodes) = whole_laid nodes (reverse c.self.inside.around.items) c.self.invariant whole.0 whole.1 in
-    let Q : List Node → Type 0 = λ l. FirstCrowded l 0 0 0 c.in-Some.node in
-    let first : IsFirstOverfull nodes c.in-Some.node = first_of_nodes nodes laid c.in-Some.node (subst Q c.as_slice-2.ensures.value c.in-Some.ensures.some) in
-    let same : c.in-Some.node ≡ node = cc in
-    let R : ℕ → Type 0 = λ k. IsFirstOverfull nodes k in
-    let T : BuilderV → Type 0 = λ b. IsFirstOverfull b.nodes node in
-    subst T c.self.view_is (subst R same first)
-
-pub returns-in-None-clause-fits : goal.returns-in-None-clause-fits
-returns-in-None-clause-fits c = λ i overfull.
-    let nodes = c.self.inside.nodes.items in
-    let P : BuilderV → Type 0 = λ b. IsWhole b in
-    let whole = subst P (sym c.self.view_is) c.requires in
-    let laid : Laid nodes [] 0 0 (length nodes) = whole_laid nodes (reverse c.self.inside.around.items) c.self.invariant whole.0 whole.1 in
-    let Q : List Node → Type 0 = λ l. NoneCrowded l 0 0 0 in
-    let R : BuilderV → Type 0 = λ b. IsOverfull b.nodes i in
-    none_overfull nodes laid (subst Q c.as_slice-2.ensures.value c.in-None.ensures.none) i (subst R (sym c.self.view_is) overfull)
+pub returns-clause-vals : goal.returns-clause-vals
+returns-clause-vals c =
+    let P : BuilderV → Type 0 = λ b. (node : ℕ) → c.from_nodes.result ≡ Err (DescFault.TooManyVals node) → IsFirstOverfull b.nodes node in
+    subst P c.self.view_is c.from_nodes.ensures.vals

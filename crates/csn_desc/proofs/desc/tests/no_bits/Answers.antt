@@ -1,31 +1,24 @@
--- The one node without bits is a description.
-use Rattle.std.proofs.Common.{◌≡◌, List, [], ◌∷◌, refl, sym, subst, lit≤, lit<, Bool, false}
-use Rattle.csn_desc.specs.declared.reading.Reading.TheVariants.{Sent}
+-- The one node without bits is well formed.
+use Rattle.std.proofs.Common.{◌≡◌, ◌≤◌, List, [], ◌∷◌, length, refl, sym, subst, lit≤, lit<}
 use Rattle.csn_desc.specs.declared.node.Node.{Node}
 use Rattle.csn_desc.specs.declared.node.Node.TheVariants.{Null}
-use Rattle.csn_desc.specs.Formed.{IsDescription, counted_marks, spans, span_end, formed, formed_end}
+use Rattle.csn_desc.specs.Standing.{Laid, laid, laid_end}
 use Rattle.csn_desc.proofs.desc.tests.no_bits.Goals as goal
 
-IsLaidOut : List Node → List Bool → Type 0
-IsLaidOut nodes counted = IsDescription (record { reading = Sent; nodes = nodes }) × (counted ≡ counted_marks nodes)
+IsLaidOut : List Node → Type 0
+IsLaidOut nodes = (length nodes ≤ 16384) × Laid nodes [] 0 0 (length nodes)
 
-one_node : IsLaidOut (Null ∷ []) (false ∷ [])
+one_node : IsLaidOut (Null ∷ [])
 unfolding IsLaidOut
-one_node = (
-  record {
-    few = lit≤ tt;
-    numbered = spans _ refl (span_end refl);
-    well_formed = formed _ refl (lit< tt) tt refl (λ h. cc) formed_end;
-  },
-  refl,
-)
+one_node = (lit≤ tt, laid _ refl (lit< tt) tt refl (laid_end refl))
 
-along : {nodes : List Node} {counted : List Bool} → nodes ≡ Null ∷ [] → counted ≡ false ∷ [] → IsLaidOut nodes counted
-along {counted = counted} nodes_are counted_are =
-    let P : List Node → Type 0 = λ nodes. IsLaidOut nodes counted in
-    let Q : List Bool → Type 0 = λ marks. IsLaidOut (Null ∷ []) marks in
-    subst P (sym nodes_are) (subst Q (sym counted_are) one_node)
+along : {nodes : List Node} → nodes ≡ Null ∷ [] → IsLaidOut nodes
+along is = let P : List Node → Type 0 = λ nodes. IsLaidOut nodes in subst P (sym is) one_node
 
-pub invariant_of-result : goal.invariant_of-result
+pub from_nodes-requires-clause-few : goal.from_nodes-requires-clause-few
 unfolding IsLaidOut
-invariant_of-result c = along c.in_ok-nodes.ensures.items c.in_ok-counted.ensures.items
+from_nodes-requires-clause-few c = (along c.in_ok-nodes.ensures.items).0
+
+pub from_nodes-requires-clause-laid : goal.from_nodes-requires-clause-laid
+unfolding IsLaidOut
+from_nodes-requires-clause-laid c = (along c.in_ok-nodes.ensures.items).1
