@@ -16,25 +16,25 @@ use Rattle.csn_resolve.specs.Resolved.{NameGives, nodes_of}
 
 module _ (all : List Node) where
   -- from the number `at` on, the nodes are these
-  abbrev Holds : ℕ → List Placed → Type 0
+  abbrev pub Holds : ℕ → List Placed → Type 0
   Holds at [] = Unit {0}
   Holds at (p ∷ nodes) = (slice_get all at ≡ Some p.node) × Holds (suc at) nodes
 
-  holds_along : (at : ℕ) {nodes others : List Placed} → nodes ≡ others → Holds at nodes → Holds at others
+  pub holds_along : (at : ℕ) {nodes others : List Placed} → nodes ≡ others → Holds at nodes → Holds at others
   holds_along at p h = let P : List Placed → Type 0 = λ z. Holds at z in subst P p h
 
-  holds_from : {at bt : ℕ} (nodes : List Placed) → at ≡ bt → Holds at nodes → Holds bt nodes
+  pub holds_from : {at bt : ℕ} (nodes : List Placed) → at ≡ bt → Holds at nodes → Holds bt nodes
   holds_from nodes p h = let P : ℕ → Type 0 = λ z. Holds z nodes in subst P p h
 
-  holds_first : (at : ℕ) (first rest : List Placed) → Holds at (first ++ rest) → Holds at first
+  pub holds_first : (at : ℕ) (first rest : List Placed) → Holds at (first ++ rest) → Holds at first
   holds_first at [] rest h = tt
   holds_first at (p ∷ first) rest h = (h.0, holds_first (suc at) first rest h.1)
 
-  holds_rest : (at : ℕ) (first rest : List Placed) → Holds at (first ++ rest) → Holds (at + length first) rest
+  pub holds_rest : (at : ℕ) (first rest : List Placed) → Holds at (first ++ rest) → Holds (at + length first) rest
   holds_rest at [] rest h = holds_from rest (omega arith) h
   holds_rest at (p ∷ first) rest h = holds_from rest (omega arith) (holds_rest (suc at) first rest h.1)
 
-  node_from : {i j : ℕ} {n : Node} → i ≡ j → slice_get all i ≡ Some n → slice_get all j ≡ Some n
+  pub node_from : {i j : ℕ} {n : Node} → i ≡ j → slice_get all i ≡ Some n → slice_get all j ≡ Some n
   node_from p h = ap (λ z. slice_get all z) (sym p) ∙ h
 
   spans_from : {i j end other : ℕ} → i ≡ j → end ≡ other → Spans all i end → Spans all j other
@@ -66,7 +66,7 @@ module _ (all : List Node) where
       let here = holds_along at p h in
       spans n here.0 (parts_to (omega (arith, ap length p)) parts)
 
-  inner_holds :
+  pub inner_holds :
       (n : Node) (at s : ℕ) (nodes inner : List Placed)
       → nodes ≡ placed n s ∷ inner → Holds at nodes → Holds (suc at) inner
   inner_holds n at s nodes inner p h = let here = holds_along at p h in here.1
@@ -188,7 +188,7 @@ holds_in :
 holds_in at nodes p h = let P : List Node → Type 0 = λ z. Holds z at nodes in subst P p h
 
 -- each list of nodes holds itself
-holds_behind : (front : List Node) (nodes : List Placed) → Holds (front ++ nodes_of nodes) (length front) nodes
+pub holds_behind : (front : List Node) (nodes : List Placed) → Holds (front ++ nodes_of nodes) (length front) nodes
 holds_behind front [] = tt
 holds_behind front (p ∷ nodes) =
     let later = holds_behind (front ++ p.node ∷ []) nodes in (

@@ -1,11 +1,21 @@
 -- Laws over the definitions.
-use Rattle.std.specs.Prelude.{◌≡◌, ℕ, ◌⊎◌, List, [], length}
+use Rattle.std.specs.Prelude.{◌≡◌, ℕ, ◌⊎◌, ◌↔◌, List, [], length, Some}
 use Rattle.csn_desc.specs.declared.reading.Reading.{Reading}
+use Rattle.csn_desc.specs.TreeV.{TreeV}
 use Rattle.csn_desc.specs.Nodes.{DescV}
+use Rattle.csn_desc.specs.Means.{NMeans}
+use Rattle.csn_desc.specs.Follows.{NFollow}
+use Rattle.csn_desc.specs.Follows as desc
 use Rattle.csn_desc.specs.Formed.{Spans}
+use Rattle.csn_grammar.specs.declared.rules.Rule.{Rule}
 use Rattle.csn_grammar.specs.ExprV.{ExprV}
 use Rattle.csn_grammar.specs.RulesV.{RulesV}
+use Rattle.csn_grammar.specs.Names.{rule_of}
 use Rattle.csn_grammar.specs.Void.{Void}
+use Rattle.csn_grammar.specs.Meaning.{RuleMeans}
+use Rattle.csn_grammar.specs.Follow.{RuleFollows}
+use Rattle.csn_grammar.specs.Strings.{Strings}
+use Rattle.csn_grammar.specs.Strings as grammar
 use Rattle.csn_grammar.specs.Place.{HasRules}
 use Rattle.csn_resolve.specs.declared.why.Why.{Why}
 use Rattle.csn_resolve.specs.Why.{Refusal}
@@ -93,3 +103,30 @@ NodesAreNumbered =
 -- the rules of a text have no empty word, sequence, choice or truncation
 abbrev pub RulesOfTextsAreShaped : Type 0
 RulesOfTextsAreShaped = (text : List ℕ) (rules : RulesV) → HasRules text rules → AreShaped rules
+
+-- what a named rule means is what its description means. No literal word is empty: else a rule in tail form
+-- could go round without a bit, and the repetition that it gives could not
+abbrev pub MeaningsAreKept : Type 0
+MeaningsAreKept =
+    (rules : RulesV) (r : Reading) (n : List ℕ) (d : DescV) → AreShaped rules → IsResolved rules n r d
+    → (rule : Rule) → rule_of rules n ≡ Some rule → (o : ℕ) (b : List ℕ) (t : TreeV)
+    → RuleMeans rules r rule o [] b t ↔ NMeans d 0 o [] b t
+
+-- what a named rule follows is what its description follows
+abbrev pub FollowedAreKept : Type 0
+FollowedAreKept =
+    (rules : RulesV) (r : Reading) (n : List ℕ) (d : DescV) → AreShaped rules → IsResolved rules n r d
+    → (rule : Rule) → rule_of rules n ≡ Some rule → (o : ℕ) (b : List ℕ)
+    → RuleFollows rules r rule o [] b ↔ NFollow d 0 o [] b
+
+-- the bits of a block have a tree by a name where they have it by its description
+abbrev pub StringsAreKept : Type 0
+StringsAreKept =
+    (rules : RulesV) (r : Reading) (n : List ℕ) (d : DescV) → AreShaped rules → IsResolved rules n r d
+    → (b : List ℕ) (t : TreeV) → Strings rules n r b t ↔ NMeans d 0 0 [] b t
+
+-- the place of a block by a name is that by its description
+abbrev pub PlacesAreKept : Type 0
+PlacesAreKept =
+    (rules : RulesV) (r : Reading) (n : List ℕ) (d : DescV) → AreShaped rules → IsResolved rules n r d
+    → (b : List ℕ) (place : ℕ) → grammar.IsPlace rules n r b place ↔ desc.IsPlace d b place
