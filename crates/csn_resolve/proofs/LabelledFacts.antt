@@ -30,42 +30,40 @@ pub record IsShort (nodes : List Placed) : Type 0 where
   pub some : 1 ≤ unit * count
   pub few : unit * count ≤ 16
 
--- with a number exponent
-power_short :
-    (x : ExprV) (seen : Seen ℕ) {unit s : ℕ} {count : Count} {nodes : List Placed} (k : Exponent) (w : WidthV) (n : ℕ)
+some_is : {A : Type 0} {a b : A} → Some a ≡ Some b → a ≡ b
+some_is e = cc
+
+number_is : {m n : ℕ} → Number m ≡ Number n → m ≡ n
+number_is e = cc
+
+not_linear : {m c n : ℕ} {label : List ℕ} → Linear m label c ≡ Number n → ⊥
+not_linear e = cc
+
+-- the width of a field with an exponent
+power_width :
+    (x : ExprV) (unit : ℕ) (k : Exponent) (w : WidthV)
     → option_map (λ unit. record { unit = unit; count = k }) (unit_of x) ≡ Some w → unit_of x ≡ Some unit
-    → w.count ≡ Number n → 1 ≤ w.unit * n → w.unit * n ≤ 16 → count_at seen k ≡ Some count
-    → nodes ≡ placed (Field unit count) s ∷ [] → IsShort nodes
-power_short x seen Any w n is at count low high given p = absurd (cc)
-power_short x seen {unit} {s} {count} {nodes} (Number m) w n is at number low high given p =
-    let width : record { unit = unit; count = Number m } ≡ w =
-    some_is (sym (ap (option_map {U = WidthV} (λ unit. record { unit = unit; count = Number m })) at) ∙ is) in
-    let units : unit ≡ w.unit = ap (λ z. z.unit) width in
+    → record { unit = unit; count = k } ≡ w
+power_width x unit k w is at = some_is (sym (ap (option_map {U = WidthV} (λ unit. record { unit = unit; count = k })) at) ∙ is)
+
+power_short :
+    (seen : Seen ℕ) {unit s : ℕ} {count : Count} {nodes : List Placed} (k : Exponent) (w : WidthV) (n : ℕ)
+    → record { unit = unit; count = k } ≡ w → w.count ≡ Number n → 1 ≤ w.unit * n → w.unit * n ≤ 16
+    → count_at seen k ≡ Some count → nodes ≡ placed (Field unit count) s ∷ [] → IsShort nodes
+power_short seen Any w n width number low high given p = absurd (cc)
+power_short seen (Linear m label c) w n width number low high given p =
+    absurd (not_linear (ap (λ z. z.count) width ∙ number))
+power_short seen {unit} {s} (Number m) w n width number low high given p =
     let numbers : m ≡ n = number_is (ap (λ z. z.count) width ∙ number) in
-    let bits : unit * m ≡ w.unit * n = ap (λ z. z * m) units ∙ ap (λ z. w.unit * z) numbers in
-    let counts : Fixed m ≡ count = some_is given in
+    let bits : unit * m ≡ w.unit * n = ap (λ z. z.unit * m) width ∙ ap (λ z. w.unit * z) numbers in
     record {
       unit = unit;
       count = m;
       place = s;
-      is = p ∙ ap (λ z. placed (Field unit z) s ∷ []) (sym counts);
+      is = p ∙ ap (λ z. placed (Field unit z) s ∷ []) (sym (some_is given));
       some = omega (arith, bits, low);
       few = omega (arith, bits, high);
     }
-  where
-    some_is : {A : Type 0} {a b : A} → Some a ≡ Some b → a ≡ b
-    some_is e = cc
-
-    number_is : {a b : ℕ} → Number a ≡ Number b → a ≡ b
-    number_is e = cc
-power_short x seen {unit} (Linear m label c) w n is at number low high given p =
-    absurd (not_linear (some_is (sym (ap (option_map {U = WidthV} (λ unit. record { unit = unit; count = Linear m label c })) at) ∙ is)) number)
-  where
-    some_is : {a b : WidthV} → Some a ≡ Some b → a ≡ b
-    some_is e = cc
-
-    not_linear : record { unit = unit; count = Linear m label c } ≡ w → w.count ≡ Number n → ⊥
-    not_linear e q = let counts : Linear m label c ≡ w.count = ap (λ z. z.count) e in cc
 
 not_tail : (n : List ℕ) (x : ExprV) (tail : TailV) (w : WidthV) → tail_of_body n x ≡ Some tail → width_of x ≡ Some w → ⊥
 not_tail n (expr s e (seq xs)) tail w p is = cc
@@ -83,9 +81,9 @@ module _ (rules : RulesV) (r : Reading) where
       record { unit = 8; count = 1; place = s; is = p; some = omega arith; few = omega arith }
   field_short w n is number low high (gives_field {k = Any} unit count at given p) = absurd (cc)
   field_short {seen = seen} w n is number low high (gives_field {x = x} {k = Number m} unit count at given p) =
-      power_short x seen (Number m) w n is at number low high given p
+      power_short seen (Number m) w n (power_width x unit (Number m) w is at) number low high given p
   field_short {seen = seen} w n is number low high (gives_field {x = x} {k = Linear m label c} unit count at given p) =
-      power_short x seen (Linear m label c) w n is at number low high given p
+      power_short seen (Linear m label c) w n (power_width x unit (Linear m label c) w is at) number low high given p
   field_short w n is number low high (gives_times {k = Any} count none given h p) = absurd (cc)
   field_short w n is number low high (gives_times {k = Number m} count none given h p) =
       let nothing = ap (option_map {U = WidthV} (λ unit. record { unit = unit; count = Number m })) none in absurd (cc)
