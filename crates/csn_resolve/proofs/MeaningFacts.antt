@@ -29,7 +29,8 @@ use Rattle.csn_resolve.specs.Shaped.{IsShaped, AreShaped}
 use Rattle.csn_resolve.specs.Gives.{Placed, placed, start_of, Gives, ItemsGive, EachGives, RuleGives, gives_lits, gives_null, gives_bit, gives_octet, gives_field, gives_rest, gives_spare_bit, gives_spare_low, gives_padding, gives_seq, gives_choice, gives_only, gives_times, gives_many, gives_cut, gives_window, gives_labelled, gives_name, gives_group, gives_received, gives_sent, items_end, items_next, each_end, each_next, rule_plain, rule_tail}
 use Rattle.csn_resolve.specs.Resolved.{nodes_of, IsResolved}
 use Rattle.csn_resolve.proofs.Full.{gives_full}
-use Rattle.csn_resolve.proofs.Numbered.{Holds, holds_along, holds_from, holds_first, holds_rest, inner_holds, node_from, holds_behind}
+use Rattle.csn_resolve.proofs.Holding.{Holds, holds_along, holds_from, holds_first, holds_rest, inner_holds, holds_behind}
+use Rattle.csn_resolve.proofs.Numbered.{node_from}
 use Rattle.csn_resolve.proofs.Agreement.{Agree, counts_agree, agree_later, agree_item}
 use Rattle.csn_resolve.proofs.NodeFacts.{gives_some, items_behind, label_named}
 use Rattle.csn_resolve.proofs.SameLeaves.{Same, lits_same, null_same, bit_same, octet_same, field_same, rest_same, spare_bit_same, spare_low_same, padding_same}

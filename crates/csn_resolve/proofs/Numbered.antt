@@ -13,27 +13,9 @@ use Rattle.csn_grammar.specs.RulesV.{RulesV}
 use Rattle.csn_resolve.specs.Seen.{Frame, Seen}
 use Rattle.csn_resolve.specs.Gives.{Placed, placed, start_of, Gives, ItemsGive, EachGives, RuleGives, gives_lits, gives_null, gives_bit, gives_octet, gives_field, gives_rest, gives_spare_bit, gives_spare_low, gives_padding, gives_seq, gives_choice, gives_only, gives_times, gives_many, gives_cut, gives_window, gives_labelled, gives_name, gives_group, gives_received, gives_sent, items_end, items_next, each_end, each_next, rule_plain, rule_tail}
 use Rattle.csn_resolve.specs.Resolved.{NameGives, nodes_of}
+use Rattle.csn_resolve.proofs.Holding.{Holds, holds_along, holds_from, holds_first, holds_rest, inner_holds, holds_behind}
 
 module _ (all : List Node) where
-  -- from the number `at` on, the nodes are these
-  abbrev pub Holds : ℕ → List Placed → Type 0
-  Holds at [] = Unit {0}
-  Holds at (p ∷ nodes) = (slice_get all at ≡ Some p.node) × Holds (suc at) nodes
-
-  pub holds_along : (at : ℕ) {nodes others : List Placed} → nodes ≡ others → Holds at nodes → Holds at others
-  holds_along at p h = let P : List Placed → Type 0 = λ z. Holds at z in subst P p h
-
-  pub holds_from : {at bt : ℕ} (nodes : List Placed) → at ≡ bt → Holds at nodes → Holds bt nodes
-  holds_from nodes p h = let P : ℕ → Type 0 = λ z. Holds z nodes in subst P p h
-
-  pub holds_first : (at : ℕ) (first rest : List Placed) → Holds at (first ++ rest) → Holds at first
-  holds_first at [] rest h = tt
-  holds_first at (p ∷ first) rest h = (h.0, holds_first (suc at) first rest h.1)
-
-  pub holds_rest : (at : ℕ) (first rest : List Placed) → Holds at (first ++ rest) → Holds (at + length first) rest
-  holds_rest at [] rest h = holds_from rest (omega arith) h
-  holds_rest at (p ∷ first) rest h = holds_from rest (omega arith) (holds_rest (suc at) first rest h.1)
-
   pub node_from : {i j : ℕ} {n : Node} → i ≡ j → slice_get all i ≡ Some n → slice_get all j ≡ Some n
   node_from p h = ap (λ z. slice_get all z) (sym p) ∙ h
 
@@ -60,16 +42,11 @@ module _ (all : List Node) where
 
   -- a node, with its parts inside it
   node_spans :
-      (n : Node) (at s : ℕ) (nodes inner : List Placed) → nodes ≡ placed n s ∷ inner → Holds at nodes
+      (n : Node) (at s : ℕ) (nodes inner : List Placed) → nodes ≡ placed n s ∷ inner → Holds all at nodes
       → PartsSpan all (parts_of n) (suc at) (suc at + length inner) → Spans all at (at + length nodes)
   node_spans n at s nodes inner p h parts =
-      let here = holds_along at p h in
+      let here = holds_along all at p h in
       spans n here.0 (parts_to (omega (arith, ap length p)) parts)
-
-  pub inner_holds :
-      (n : Node) (at s : ℕ) (nodes inner : List Placed)
-      → nodes ≡ placed n s ∷ inner → Holds at nodes → Holds (suc at) inner
-  inner_holds n at s nodes inner p h = let here = holds_along at p h in here.1
 
   none_inside : (at : ℕ) → PartsSpan all [] (suc at) (suc at + 0)
   none_inside at = span_end (omega arith)
@@ -98,7 +75,7 @@ module _ (all : List Node) where
     mutual
       gives_spans :
           {x : ExprV} {at : ℕ} {seen : Seen ℕ} {nodes : List Placed}
-          → Gives rules r x at seen nodes → Holds at nodes → Spans all at (at + length nodes)
+          → Gives rules r x at seen nodes → Holds all at nodes → Spans all at (at + length nodes)
       gives_spans {at = at} (gives_lits p) h = node_spans _ at _ _ [] p h (none_inside at)
       gives_spans {at = at} (gives_null p) h = node_spans _ at _ _ [] p h (none_inside at)
       gives_spans {at = at} (gives_bit p) h = node_spans _ at _ _ [] p h (none_inside at)
@@ -109,20 +86,20 @@ module _ (all : List Node) where
       gives_spans {at = at} (gives_spare_low is p) h = node_spans _ at _ _ [] p h (none_inside at)
       gives_spans {at = at} (gives_padding is p) h = node_spans _ at _ _ [] p h (none_inside at)
       gives_spans {at = at} (gives_seq g p) h =
-          node_spans _ at _ _ _ p h (items_spans g (inner_holds _ at _ _ _ p h))
+          node_spans _ at _ _ _ p h (items_spans g (inner_holds all _ at _ _ _ p h))
       gives_spans {at = at} (gives_choice xs kept two g p) h =
-          node_spans _ at _ _ _ p h (each_spans g (inner_holds _ at _ _ _ p h))
+          node_spans _ at _ _ _ p h (each_spans g (inner_holds all _ at _ _ _ p h))
       gives_spans (gives_only kept g) h = gives_spans g h
       gives_spans {at = at} (gives_times {inner = inner} count none is g p) h =
-          node_spans _ at _ _ inner p h (one_inside at inner (gives_spans g (inner_holds _ at _ _ inner p h)))
+          node_spans _ at _ _ inner p h (one_inside at inner (gives_spans g (inner_holds all _ at _ _ inner p h)))
       gives_spans {at = at} (gives_many {inner = inner} not g p) h =
-          node_spans _ at _ _ inner p h (one_inside at inner (gives_spans g (inner_holds _ at _ _ inner p h)))
+          node_spans _ at _ _ inner p h (one_inside at inner (gives_spans g (inner_holds all _ at _ _ inner p h)))
       gives_spans {at = at} (gives_cut g p) h =
-          node_spans _ at _ _ _ p h (items_spans g (inner_holds _ at _ _ _ p h))
+          node_spans _ at _ _ _ p h (items_spans g (inner_holds all _ at _ _ _ p h))
       gives_spans {at = at} (gives_window {inner = inner} w count is is_count g p) h =
-          node_spans _ at _ _ inner p h (one_inside at inner (gives_spans g (inner_holds _ at _ _ inner p h)))
+          node_spans _ at _ _ inner p h (one_inside at inner (gives_spans g (inner_holds all _ at _ _ inner p h)))
       gives_spans {at = at} (gives_labelled {inner = inner} g p) h =
-          node_spans _ at _ _ inner p h (one_inside at inner (gives_spans g (inner_holds _ at _ _ inner p h)))
+          node_spans _ at _ _ inner p h (one_inside at inner (gives_spans g (inner_holds all _ at _ _ inner p h)))
       gives_spans (gives_name rule is g) h = rule_spans g h
       gives_spans (gives_group g) h = gives_spans g h
       gives_spans (gives_received is g) h = gives_spans g h
@@ -130,29 +107,29 @@ module _ (all : List Node) where
 
       items_spans :
           {xs : ExprsV} {at : ℕ} {frame : Frame ℕ} {seen : Seen ℕ} {parts : List ℕ} {nodes : List Placed}
-          → ItemsGive rules r xs at frame seen parts nodes → Holds at nodes
+          → ItemsGive rules r xs at frame seen parts nodes → Holds all at nodes
           → PartsSpan all parts at (at + length nodes)
       items_spans {at = at} (items_end p q) h = parts_along (sym p) (span_end (omega (arith, ap length q)))
       items_spans {at = at} (items_next first rest g others p q) h =
-          let here = holds_along at q h in
-          let later = items_spans others (holds_rest at first rest here) in
-          parts_along (sym p) (span_next (at + length first) refl (gives_spans g (holds_first at first rest here))
+          let here = holds_along all at q h in
+          let later = items_spans others (holds_rest all at first rest here) in
+          parts_along (sym p) (span_next (at + length first) refl (gives_spans g (holds_first all at first rest here))
           (parts_to (omega (arith, ap length q, length-append first rest)) later))
 
       each_spans :
           {xs : List ExprV} {at : ℕ} {seen : Seen ℕ} {parts : List ℕ} {nodes : List Placed}
-          → EachGives rules r xs at seen parts nodes → Holds at nodes
+          → EachGives rules r xs at seen parts nodes → Holds all at nodes
           → PartsSpan all parts at (at + length nodes)
       each_spans {at = at} (each_end p q) h = parts_along (sym p) (span_end (omega (arith, ap length q)))
       each_spans {at = at} (each_next first rest g others p q) h =
-          let here = holds_along at q h in
-          let later = each_spans others (holds_rest at first rest here) in
-          parts_along (sym p) (span_next (at + length first) refl (gives_spans g (holds_first at first rest here))
+          let here = holds_along all at q h in
+          let later = each_spans others (holds_rest all at first rest here) in
+          parts_along (sym p) (span_next (at + length first) refl (gives_spans g (holds_first all at first rest here))
           (parts_to (omega (arith, ap length q, length-append first rest)) later))
 
       rule_spans :
           {rule : Rule} {at : ℕ} {seen : Seen ℕ} {nodes : List Placed}
-          → RuleGives rules r rule at seen nodes → Holds at nodes → Spans all at (at + length nodes)
+          → RuleGives rules r rule at seen nodes → Holds all at nodes → Spans all at (at + length nodes)
       rule_spans (rule_plain is g) h = gives_spans g h
       rule_spans {rule = rule} {at = at} {nodes = nodes} (rule_tail tail many stop parts turn_parts items turn is i many_is t stop_is p) h =
           let last : List Placed = placed (Lits tail.end.stop.run) tail.end.stop.at ∷ [] in
@@ -160,42 +137,21 @@ module _ (all : List Node) where
           placed (Many (many + 1)) tail.end.braces ∷ placed (Seq ((many + 2) ∷ turn_parts)) tail.end.again.at
           ∷ placed (Lits tail.end.again.run) tail.end.again.at ∷ (turn ++ last) in
           let root : Node = Seq (parts ++ many ∷ stop ∷ []) in
-          let here : Holds (suc at) (items ++ turns) =
-          inner_holds root at (start_of rule.body) nodes (items ++ turns) p h in
-          let at_many : Holds many turns = holds_from turns (sym many_is) (holds_rest (suc at) items turns here) in
-          let at_turn : Holds (many + 3) (turn ++ last) = holds_from (turn ++ last) (omega arith) at_many.1.1.1 in
-          let at_stop : Holds stop last = holds_from last (sym stop_is) (holds_rest (many + 3) turn last at_turn) in
+          let here : Holds all (suc at) (items ++ turns) =
+          inner_holds all root at (start_of rule.body) nodes (items ++ turns) p h in
+          let at_many : Holds all many turns = holds_from all turns (sym many_is) (holds_rest all (suc at) items turns here) in
+          let at_turn : Holds all (many + 3) (turn ++ last) = holds_from all (turn ++ last) (omega arith) at_many.1.1.1 in
+          let at_stop : Holds all stop last = holds_from all last (sym stop_is) (holds_rest all (many + 3) turn last at_turn) in
           node_spans root at (start_of rule.body) nodes (items ++ turns) p h
-          (parts_append (parts_to (sym many_is) (items_spans i (holds_first (suc at) items turns here)))
+          (parts_append (parts_to (sym many_is) (items_spans i (holds_first all (suc at) items turns here)))
           (tail_spans many stop turn_parts tail.end.again.run tail.end.stop.run at_many.0 at_many.1.0 at_many.1.1.0
-          (parts_to (sym stop_is) (items_spans t (holds_first (many + 3) turn last at_turn))) at_stop.0
+          (parts_to (sym stop_is) (items_spans t (holds_first all (many + 3) turn last at_turn))) at_stop.0
           (omega (arith, many_is, stop_is, length-append items turns, length-append turn last))))
 
   pub named_spans :
       (rules : RulesV) (r : Reading) {n : List ℕ} {nodes : List Placed}
-      → NameGives rules n r nodes → Holds 0 nodes → Spans all 0 (length nodes)
+      → NameGives rules n r nodes → Holds all 0 nodes → Spans all 0 (length nodes)
   named_spans rules r {nodes = nodes} h holds = spans_from refl (omega arith) (rule_spans rules r h.gives holds)
-
-node_behind :
-    (front : List Node) (n : Node) (rest : List Node)
-    → slice_get (front ++ n ∷ rest) (length front) ≡ Some n
-node_behind [] n rest = refl
-node_behind (m ∷ front) n rest = node_behind front n rest
-
-holds_in :
-    {all other : List Node} (at : ℕ) (nodes : List Placed)
-    → all ≡ other → Holds all at nodes → Holds other at nodes
-holds_in at nodes p h = let P : List Node → Type 0 = λ z. Holds z at nodes in subst P p h
-
--- each list of nodes holds itself
-pub holds_behind : (front : List Node) (nodes : List Placed) → Holds (front ++ nodes_of nodes) (length front) nodes
-holds_behind front [] = tt
-holds_behind front (p ∷ nodes) =
-    let later = holds_behind (front ++ p.node ∷ []) nodes in (
-      node_behind front p.node (nodes_of nodes),
-      holds_from (front ++ nodes_of (p ∷ nodes)) nodes (omega (arith, length-append front (p.node ∷ [])))
-          (holds_in (length (front ++ p.node ∷ [])) nodes (append_assoc front (p.node ∷ []) (nodes_of nodes)) later),
-    )
 
 pub nodes_numbered :
     (rules : RulesV) (r : Reading) {n : List ℕ} {nodes : List Placed}

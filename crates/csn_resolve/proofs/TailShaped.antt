@@ -1,71 +1,115 @@
--- Where no literal word of the rules is empty, the word before a rule's own name is not.
-use Rattle.std.proofs.Common.{◌≡◌, ℕ, zero, suc, ◌≤◌, Bool, true, false, if◌then◌else◌, List, [], ◌∷◌, length, ◌⊎◌, inl, inr, refl, ap, subst, arith, Option, Some, None}
-use Rattle.std.specs.Prelude.{slice_get}
-use Rattle.std.specs.Option.{option_or}
+-- A rule in tail form that is shaped as nodes need it has items that are, one at least, and no empty word.
+use Rattle.std.proofs.Common.{◌≡◌, ℕ, ◌≤◌, Bool, true, false, List, [], ◌∷◌, length, Option, Some, None, subst, arith}
+use Rattle.std.specs.Prelude.{if◌then◌else◌}
+use Rattle.std.specs.Option.{option_map, option_or}
+use Rattle.std.specs.List.{find}
 use Rattle.csn_grammar.specs.declared.rules.Rule.{Rule}
-use Rattle.csn_grammar.specs.ExprV.{ExprV, expr, lits, name, group, seq, choice, ExprsV, no_item, item, no_branch, branch}
+use Rattle.csn_grammar.specs.ExprV.{ExprV, expr, lits, name, group, seq, choice, ExprsV, no_item, item, no_branch, branch, item_list}
 use Rattle.csn_grammar.specs.RulesV.{RulesV}
-use Rattle.csn_grammar.specs.Names.{same_name, rule_of}
-use Rattle.csn_grammar.specs.TailForm.{WordV, EndV, TailV, word_of, again_of, end_with, end_of, last_item, tail_of_body, tail_of}
+use Rattle.csn_grammar.specs.Names.{same_name, is_built_in, rule_of}
+use Rattle.csn_grammar.specs.TailForm.{WordV, EndV, TailV, word_of, again_of, end_with, end_of, last_item, front_items, tail_of_body, tail_of}
 use Rattle.csn_resolve.specs.Shaped.{IsShaped, ItemsShaped, AreShaped}
-use Rattle.csn_resolve.proofs.NumberFacts.{rule_number}
 
-word_shaped : (x : ExprV) (w : WordV) → word_of x ≡ Some w → IsShaped x → 1 ≤ length w.run
-word_shaped (expr s e (lits run)) w p h = let same : run ≡ w.run = cc in omega (arith, h, ap length same)
-word_shaped (expr s e f) w p h = cc
+-- a word, where there is one, is not empty
+abbrev WordShaped : Option WordV → Type 0
+WordShaped None = Unit {0}
+WordShaped (Some w) = 1 ≤ length w.run
 
-again_shaped : (n : List ℕ) (y : ExprV) (w : WordV) → again_of n y ≡ Some w → IsShaped y → 1 ≤ length w.run
-again_shaped n (expr s e (seq (item x (item (expr s' e' (name m)) no_item)))) w p h = by_name (same_name m n) p
+abbrev EndShaped : Option EndV → Type 0
+EndShaped None = Unit {0}
+EndShaped (Some end) = (1 ≤ length end.again.run) × (1 ≤ length end.stop.run)
+
+pub record TailShaped (tail : TailV) : Type 0 where
+  pub items : ItemsShaped tail.items
+  pub some : 1 ≤ length (item_list tail.items)
+  pub again : 1 ≤ length tail.end.again.run
+  pub stop : 1 ≤ length tail.end.stop.run
+
+word_shaped : (x : ExprV) → IsShaped x → WordShaped (word_of x)
+word_shaped (expr s e (lits run)) h = h
+word_shaped (expr s e f) h = tt
+
+if_shaped : (b : Bool) (o : Option WordV) → WordShaped o → WordShaped (if b then o else None)
+if_shaped true o h = h
+if_shaped false o h = tt
+
+again_shaped : (n : List ℕ) (x : ExprV) → IsShaped x → WordShaped (again_of n x)
+again_shaped n (expr s e (seq (item x (item (expr s' e' (name m)) no_item)))) h =
+    if_shaped (same_name m n) (word_of x) (word_shaped x h.1.0)
+again_shaped n x h = tt
+
+with_shaped :
+    (s : ℕ) (again stop : Option WordV) → WordShaped again → WordShaped stop → EndShaped (end_with s again stop)
+with_shaped s (Some again) (Some stop) h g = (h, g)
+with_shaped s (Some again) None h g = tt
+with_shaped s None stop h g = tt
+
+or_shaped : (a b : Option EndV) → EndShaped a → EndShaped b → EndShaped (option_or a b)
+or_shaped (Some a) b h g = h
+or_shaped None b h g = g
+
+end_shaped : (n : List ℕ) (x : ExprV) → IsShaped x → EndShaped (end_of n x)
+end_shaped n (expr s e (group (expr s' e' (choice (branch false x (branch false y no_branch)))))) h =
+    or_shaped (end_with s (again_of n y) (word_of x)) (end_with s (again_of n x) (word_of y))
+    (with_shaped s (again_of n y) (word_of x) (again_shaped n y h.1.1.0) (word_shaped x h.1.0))
+    (with_shaped s (again_of n x) (word_of y) (again_shaped n x h.1.0) (word_shaped y h.1.1.0))
+end_shaped n x h = tt
+
+last_shaped : (x : ExprV) (xs : ExprsV) → IsShaped x → ItemsShaped xs → IsShaped (last_item x xs)
+last_shaped x no_item h more = h
+last_shaped x (item y ys) h more = last_shaped y ys more.0 more.1
+
+front_shaped : (x : ExprV) (xs : ExprsV) → IsShaped x → ItemsShaped xs → ItemsShaped (front_items x xs)
+front_shaped x no_item h more = tt
+front_shaped x (item y ys) h more = (h, front_shaped y ys more.0 more.1)
+
+body_shaped : (n : List ℕ) (x : ExprV) (tail : TailV) → IsShaped x → tail_of_body n x ≡ Some tail → TailShaped tail
+body_shaped n (expr s e (seq (item x (item y ys)))) tail h p =
+    found (end_of n (last_item y ys)) (end_shaped n (last_item y ys) (last_shaped y ys h.1.1.0 h.1.1.1)) p
   where
-    by_name : (b : Bool) → (if b then word_of x else None) ≡ Some w → 1 ≤ length w.run
-    by_name true q = word_shaped x w q h.1.0
-    by_name false q = cc
-again_shaped n y w p h = cc
+    found :
+        (o : Option EndV) → EndShaped o
+        → option_map (λ end. record { items = front_items x (item y ys); end = end }) o ≡ Some tail → TailShaped tail
+    found None g is = absurd (cc)
+    found (Some end) g is =
+        let tail_is : record { items = front_items x (item y ys); end = end } ≡ tail = cc in
+        let P : TailV → Type 0 = λ z. TailShaped z in
+        subst P tail_is (record {
+          items = front_shaped x (item y ys) h.1.0 h.1.1;
+          some = omega arith;
+          again = g.0;
+          stop = g.1;
+        })
+body_shaped n x tail h p = absurd (cc)
 
--- one of two alternatives has the word
-with_again : (s : ℕ) (a p : Option WordV) (end : EndV) → end_with s a p ≡ Some end → a ≡ Some end.again
-with_again s (Some again) (Some stop) end h = cc
-with_again s (Some again) None end h = cc
-with_again s None p end h = cc
+pub tail_shaped : (rule : Rule) (tail : TailV) → IsShaped rule.body → tail_of rule ≡ Some tail → TailShaped tail
+tail_shaped rule tail h p = body_shaped rule.name rule.body tail h p
 
-some_again :
-    (s : ℕ) (a b p q : Option WordV) (end : EndV)
-    → option_or (end_with s a p) (end_with s b q) ≡ Some end → (a ≡ Some end.again) ⊎ (b ≡ Some end.again)
-some_again s (Some a) b (Some p) q end h = inl (with_again s (Some a) (Some p) end h)
-some_again s (Some a) b None q end h = inr (with_again s b q end h)
-some_again s None b p q end h = inr (with_again s b q end h)
-
-end_shaped : (n : List ℕ) (z : ExprV) (end : EndV) → end_of n z ≡ Some end → IsShaped z → 1 ≤ length end.again.run
-end_shaped n (expr s e (group (expr s' e' (choice (branch false x (branch false y no_branch)))))) end p h =
-    elim (some_again s (again_of n y) (again_of n x) (word_of x) (word_of y) end p) [
-      | inl q ↦ again_shaped n y end.again q h.1.1.0
-      | inr q ↦ again_shaped n x end.again q h.1.0
-    ]
-end_shaped n z end p h = cc
-
-last_shaped : (x : ExprV) (xs : ExprsV) → ItemsShaped (item x xs) → IsShaped (last_item x xs)
-last_shaped x no_item h = h.0
-last_shaped x (item y ys) h = last_shaped y ys h.1
-
-body_shaped : (n : List ℕ) (x : ExprV) (tail : TailV) → tail_of_body n x ≡ Some tail → IsShaped x → 1 ≤ length tail.end.again.run
-body_shaped n (expr s e (seq (item x (item y ys)))) tail p h = found (end_of n (last_item y ys)) refl p
+-- the rule of a name is one of the rules
+found_shaped :
+    (rules : RulesV) (n : List ℕ) (rule : Rule)
+    → AreShaped rules → find (λ rule. same_name rule.name n) rules ≡ Some rule → IsShaped rule.body
+found_shaped [] n rule h at = absurd (cc)
+found_shaped (first ∷ rules) n rule h at = here (same_name first.name n) at (found_shaped rules n rule h.1)
   where
-    found : (end : Option EndV) → end_of n (last_item y ys) ≡ end → tail_of_body n (expr s e (seq (item x (item y ys)))) ≡ Some tail → 1 ≤ length tail.end.again.run
-    found None e q = cc
-    found (Some end) e q =
-        let same : end ≡ tail.end = cc in
-        let some = end_shaped n (last_item y ys) end e (last_shaped y ys h.1.1) in
-        omega (arith, some, ap (λ z. length z.again.run) same)
-body_shaped n x tail p h = cc
+    here :
+        (b : Bool)
+        → (if b then Some first else find (λ rule. same_name rule.name n) rules) ≡ Some rule
+        → (find (λ rule. same_name rule.name n) rules ≡ Some rule → IsShaped rule.body) → IsShaped rule.body
+    here true is later =
+        let same : first ≡ rule = cc in let P : Rule → Type 0 = λ z. IsShaped z.body in subst P same h.0
+    here false is later = later is
+
+pub rule_shaped :
+    (rules : RulesV) (n : List ℕ) (rule : Rule)
+    → AreShaped rules → rule_of rules n ≡ Some rule → IsShaped rule.body
+rule_shaped rules n rule h at = by_name (is_built_in n) at
+  where
+    by_name :
+        (b : Bool)
+        → (if b then None else find (λ rule. same_name rule.name n) rules) ≡ Some rule → IsShaped rule.body
+    by_name true is = absurd (cc)
+    by_name false is = found_shaped rules n rule h is
 
 pub again_some : (rule : Rule) (tail : TailV) → tail_of rule ≡ Some tail → IsShaped rule.body → 1 ≤ length tail.end.again.run
-again_some rule tail p h = body_shaped rule.name rule.body tail p h
-
-shaped_at : (rules : RulesV) (k : ℕ) (rule : Rule) → AreShaped rules → slice_get rules k ≡ Some rule → IsShaped rule.body
-shaped_at [] k rule h at = cc
-shaped_at (first ∷ rules) zero rule h at =
-    let same : first ≡ rule = cc in let P : Rule → Type 0 = λ z. IsShaped z.body in subst P same h.0
-shaped_at (first ∷ rules) (suc k) rule h at = shaped_at rules k rule h.1 at
-
-pub rule_shaped : (rules : RulesV) (n : List ℕ) (rule : Rule) → AreShaped rules → rule_of rules n ≡ Some rule → IsShaped rule.body
-rule_shaped rules n rule h at = let number = rule_number rules n rule at in shaped_at rules number.0 rule h number.2
+again_some rule tail p h = (tail_shaped rule tail h p).again
