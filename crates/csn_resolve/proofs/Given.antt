@@ -1,5 +1,5 @@
 -- What is walked without a refusal, and is not empty of strings, gives nodes.
-use Rattle.std.proofs.Common.{◌≡◌, ℕ, suc, ◌+◌, Bool, true, false, List, [], ◌∷◌, ◌++◌, length, ◌⊎◌, inl, inr, refl, sym, arith, codes, Some, None}
+use Rattle.std.proofs.Common.{◌≡◌, ℕ, suc, ◌+◌, Bool, true, false, List, [], ◌∷◌, ◌++◌, length, ◌⊎◌, inl, inr, refl, sym, arith, codes, Some}
 use Rattle.std.specs.Cmp.Lexicographic.{same_text}
 use Rattle.csn_desc.specs.declared.reading.Reading.{Reading}
 use Rattle.csn_desc.specs.declared.reading.Reading.TheVariants.{Received, Sent}
@@ -8,7 +8,7 @@ use Rattle.csn_grammar.specs.declared.rules.Rule.{Rule}
 use Rattle.csn_grammar.specs.ExprV.{ExprV, expr, name, choice, sends, ExprsV, BranchesV, branch}
 use Rattle.csn_grammar.specs.RulesV.{RulesV}
 use Rattle.csn_grammar.specs.Names.{same_name, is_built_in, built_in_names}
-use Rattle.csn_grammar.specs.Forms.{WidthV, width_of, window_of}
+use Rattle.csn_grammar.specs.Forms.{window_of}
 use Rattle.csn_grammar.specs.Environment.{label_of}
 use Rattle.csn_grammar.specs.TailForm.{TailV, tail_of}
 use Rattle.csn_grammar.specs.Void.{Void, SomeVoid, AllVoid, Kept, void_none, void_name, void_group, void_labelled, void_window, void_seq, void_choice, void_received, void_sent, void_here, void_later, all_end, all_next, all_error, kept_end, kept_next, kept_void, kept_error}
@@ -21,6 +21,7 @@ use Rattle.csn_resolve.specs.Walk as walk
 use Rattle.csn_resolve.specs.Resolved.{ResolveSteps, asked_unknown, asked_rule, NameGives, AreRefusals, twice_steps}
 use Rattle.csn_resolve.proofs.Bools.{or_cases}
 use Rattle.csn_resolve.proofs.Quiet.{Quiet, first_of, rest_of, quiet_from, SameFrame, SameSeen, same_with, count_given, part_full, turn_full}
+use Rattle.csn_resolve.proofs.Windows.{left_window, right_window}
 use Rattle.csn_resolve.proofs.VoidDecided.{void_decided}
 
 module _ (rules : RulesV) (r : Reading) where
@@ -119,14 +120,6 @@ module _ (rules : RulesV) (r : Reading) where
       let taken = left (λ v. full (void_received is v)) at seen same in (_, gives_received is taken.1)
   side_given Sent is a s e x y full left right at seen same =
       let taken = right (λ v. full (void_sent is v)) at seen same in (_, gives_sent is taken.1)
-
-  left_window : (x y : ExprV) (w : WidthV) → width_of x ≡ Some w → window_of x y ≡ Some (record { width = w; part = y })
-  left_window x y w p = cc
-
-  right_window :
-      (x y : ExprV) (w : WidthV) → width_of x ≡ None → width_of y ≡ Some w
-      → window_of x y ≡ Some (record { width = w; part = x })
-  right_window x y w p q = cc
 
   tail_given :
       (rule : Rule) (tail : TailV) (at : ℕ) (seen : Seen ℕ) (parts turn_parts : List ℕ)

@@ -1,6 +1,5 @@
 -- What a named rule means and follows is what its description means and follows.
-use Rattle.std.proofs.Common.{◌≡◌, ◌↔◌, ℕ, suc, ◌+◌, ◌≤◌, List, [], ◌∷◌, ◌++◌, length, take, refl, sym, ◌∙◌, ap, subst, arith, Some, None}
-use Rattle.std.specs.Prelude.{slice_get}
+use Rattle.std.proofs.Common.{◌≡◌, ◌↔◌, ℕ, suc, ◌+◌, List, [], ◌∷◌, ◌++◌, length, take, refl, sym, subst, arith, Some, None}
 use Rattle.csn_desc.specs.declared.reading.Reading.{Reading}
 use Rattle.csn_desc.specs.declared.node.Node.{Node}
 use Rattle.csn_desc.specs.declared.node.Node.TheVariants.{Lits, Seq, Many}
@@ -26,10 +25,10 @@ use Rattle.csn_grammar.specs.Strings as blocks
 use Rattle.csn_grammar.proofs.VoidFacts.{same_rule}
 use Rattle.csn_resolve.specs.Seen.{Frame, Seen}
 use Rattle.csn_resolve.specs.Shaped.{IsShaped, AreShaped}
-use Rattle.csn_resolve.specs.Gives.{Placed, placed, start_of, Gives, ItemsGive, EachGives, RuleGives, gives_lits, gives_null, gives_bit, gives_octet, gives_field, gives_rest, gives_spare_bit, gives_spare_low, gives_padding, gives_seq, gives_choice, gives_only, gives_times, gives_many, gives_cut, gives_window, gives_labelled, gives_name, gives_group, gives_received, gives_sent, items_end, items_next, each_end, each_next, rule_plain, rule_tail}
+use Rattle.csn_resolve.specs.Gives.{Placed, placed, Gives, ItemsGive, EachGives, RuleGives, gives_lits, gives_null, gives_bit, gives_octet, gives_field, gives_rest, gives_spare_bit, gives_spare_low, gives_padding, gives_seq, gives_choice, gives_only, gives_times, gives_many, gives_cut, gives_window, gives_labelled, gives_name, gives_group, gives_received, gives_sent, items_end, items_next, each_end, each_next, rule_plain, rule_tail}
 use Rattle.csn_resolve.specs.Resolved.{nodes_of, IsResolved}
 use Rattle.csn_resolve.proofs.Full.{gives_full}
-use Rattle.csn_resolve.proofs.Holding.{Holds, holds_along, holds_from, holds_first, holds_rest, inner_holds, holds_behind}
+use Rattle.csn_resolve.proofs.Holding.{Holds, holds_along, holds_from, holds_first, holds_rest, holds_behind}
 use Rattle.csn_resolve.proofs.Numbered.{node_from}
 use Rattle.csn_resolve.proofs.Agreement.{Agree, counts_agree, agree_later, agree_item}
 use Rattle.csn_resolve.proofs.NodeFacts.{gives_some, items_behind, label_named}

@@ -1,12 +1,12 @@
 -- An expression and a node that mean the same bits and follow the same bits, where what is inside does:
 -- choices, windows, labels, names, braces and `=`.
-use Rattle.std.proofs.Common.{◌≡◌, ◌↔◌, ℕ, zero, suc, ◌*◌, ◌≤◌, true, List, [], ◌∷◌, length, refl, sym, ◌∙◌, ap, subst, arith, Some, None}
+use Rattle.std.proofs.Common.{◌≡◌, ◌↔◌, ℕ, zero, suc, ◌*◌, ◌≤◌, true, List, [], ◌∷◌, length, refl, sym, ◌∙◌, ap, subst, arith, Some}
 use Rattle.std.specs.Prelude.{slice_get}
 use Rattle.csn_desc.specs.declared.reading.Reading.{Reading}
 use Rattle.csn_desc.specs.declared.reading.Reading.TheVariants.{Received, Sent}
 use Rattle.csn_desc.specs.declared.node.Count.{Count}
 use Rattle.csn_desc.specs.declared.node.Node.TheVariants.{Choice, Window, Named}
-use Rattle.csn_desc.specs.TreeV.{TreeV, alt}
+use Rattle.csn_desc.specs.TreeV.{TreeV}
 use Rattle.csn_desc.specs.Nodes.{DescV}
 use Rattle.csn_desc.specs.Values.{Values}
 use Rattle.csn_desc.specs.Values as values
@@ -19,7 +19,7 @@ use Rattle.csn_grammar.specs.declared.rules.Rule.{Rule}
 use Rattle.csn_grammar.specs.ExprV.{ExprV, expr, BranchesV, name, labelled, group, choice, both, sends}
 use Rattle.csn_grammar.specs.RulesV.{RulesV}
 use Rattle.csn_grammar.specs.Names.{is_built_in, rule_of}
-use Rattle.csn_grammar.specs.Forms.{WindowV, window_of, is_leaf}
+use Rattle.csn_grammar.specs.Forms.{WindowV, window_of}
 use Rattle.csn_grammar.specs.Environment.{Env, count_of}
 use Rattle.csn_grammar.specs.Void.{Kept}
 use Rattle.csn_grammar.specs.Meaning.{Means, RuleMeans, means_spare_bit, means_spare_low, means_padding, means_choice, means_only, means_window, means_labelled, means_name, means_group, means_received, means_sent}

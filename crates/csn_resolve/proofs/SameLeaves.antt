@@ -1,8 +1,7 @@
 -- An expression and a node that mean the same bits with the same trees, and follow the same bits: literals,
 -- fields and spare parts.
-use Rattle.std.proofs.Common.{◌≡◌, ◌↔◌, ℕ, ◌*◌, ◌<◌, Bool, true, false, ◌||◌, List, [], ◌∷◌, ◌++◌, length, append-nil, refl, sym, ◌∙◌, ap, subst, arith, codes, Option, Some, None, IsTrue, IsFalse}
+use Rattle.std.proofs.Common.{◌≡◌, ◌↔◌, ℕ, ◌*◌, Bool, true, false, ◌||◌, List, [], ◌++◌, append-nil, refl, sym, ◌∙◌, ap, subst, arith, codes, Some, None, IsTrue}
 use Rattle.std.specs.Prelude.{slice_get}
-use Rattle.csn_bits.specs.Octets.{IsBits}
 use Rattle.csn_desc.specs.declared.reading.Reading.{Reading}
 use Rattle.csn_desc.specs.declared.symbol.Symbol.{Symbol}
 use Rattle.csn_desc.specs.declared.symbol.Symbol.TheVariants as symbol

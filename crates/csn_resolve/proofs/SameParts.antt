@@ -1,10 +1,9 @@
 -- An expression and a node that mean the same bits and follow the same bits, where their parts do: sequences,
 -- truncations and repetitions.
-use Rattle.std.proofs.Common.{◌≡◌, ◌↔◌, ℕ, List, [], ◌∷◌, sym, ◌∙◌, Some, None, IsFalse}
+use Rattle.std.proofs.Common.{◌≡◌, ℕ, List, [], ◌∷◌, sym, ◌∙◌, Some, None, IsFalse}
 use Rattle.std.specs.Prelude.{slice_get}
 use Rattle.csn_desc.specs.declared.reading.Reading.{Reading}
 use Rattle.csn_desc.specs.declared.node.Count.{Count}
-use Rattle.csn_desc.specs.declared.node.Node.{Node}
 use Rattle.csn_desc.specs.declared.node.Node.TheVariants.{Seq, Times, Many, Trunc}
 use Rattle.csn_desc.specs.TreeV.{TreeV, Trees}
 use Rattle.csn_desc.specs.Nodes.{DescV}
@@ -18,7 +17,7 @@ use Rattle.csn_grammar.specs.declared.exponent.Exponent.{Exponent}
 use Rattle.csn_grammar.specs.declared.exponent.Exponent.TheVariants.{Any}
 use Rattle.csn_grammar.specs.ExprV.{ExprV, expr, ExprsV, no_item, item, seq, power, cut}
 use Rattle.csn_grammar.specs.RulesV.{RulesV}
-use Rattle.csn_grammar.specs.Forms.{unit_of, is_bit, is_leaf}
+use Rattle.csn_grammar.specs.Forms.{unit_of, is_bit}
 use Rattle.csn_grammar.specs.Environment.{Frame, Env, count_of, with_item}
 use Rattle.csn_grammar.specs.Void.{SomeVoid}
 use Rattle.csn_grammar.specs.Meaning.{Means, ItemsMean, TimesMean, ManyMean, LeadMean, means_field, means_rest, means_seq, means_times, means_many, means_cut_all, means_cut, items_end, items_next, times_end, times_next, many_end, many_next, lead_last, lead_next}

@@ -1,6 +1,6 @@
 -- A rule in tail form and its sequence of nodes mean the same bits and follow the same bits, where its items
 -- and those of a turn do.
-use Rattle.std.proofs.Common.{◌≡◌, ◌↔◌, ℕ, ◌+◌, ◌≤◌, List, [], ◌∷◌, ◌++◌, length, refl, sym, ◌∙◌, ap, subst, arith, append_assoc, append-nil, length-append, Some}
+use Rattle.std.proofs.Common.{◌≡◌, ℕ, ◌+◌, ◌≤◌, List, [], ◌∷◌, ◌++◌, length, refl, sym, ◌∙◌, ap, subst, arith, append_assoc, append-nil, length-append, Some}
 use Rattle.std.specs.Prelude.{slice_get}
 use Rattle.csn_desc.specs.declared.reading.Reading.{Reading}
 use Rattle.csn_desc.specs.declared.node.Node.TheVariants.{Lits, Seq, Many}
@@ -13,13 +13,12 @@ use Rattle.csn_desc.specs.Means as node
 use Rattle.csn_desc.specs.Follows.{NFollow, NodeFollows, PartsFollow, follows_at}
 use Rattle.csn_desc.specs.Follows as after
 use Rattle.csn_grammar.specs.declared.rules.Rule.{Rule}
-use Rattle.csn_grammar.specs.ExprV.{item}
 use Rattle.csn_grammar.specs.RulesV.{RulesV}
 use Rattle.csn_grammar.specs.Environment.{Env}
 use Rattle.csn_grammar.specs.TailForm.{TailV, tail_of}
 use Rattle.csn_grammar.specs.Void.{SomeVoid}
 use Rattle.csn_grammar.specs.Meaning.{RuleMeans, TailMeans, with_turns, rule_plain, rule_tail}
-use Rattle.csn_grammar.specs.Follow.{Begins, RuleFollows, TailFollows, follows_plain, follows_tail, tail_items}
+use Rattle.csn_grammar.specs.Follow.{Begins, RuleFollows, TailFollows, follows_plain, follows_tail}
 use Rattle.csn_grammar.proofs.Prefixes.{rule_followed}
 use Rattle.csn_resolve.specs.Seen.{Seen}
 use Rattle.csn_resolve.proofs.Once.{same_tail}

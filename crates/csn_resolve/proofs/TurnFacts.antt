@@ -1,15 +1,15 @@
 -- A rule in tail form goes round as a repetition does: its items, then any number of turns, each its word and
 -- then the items, then the word that stops it.
-use Rattle.std.proofs.Common.{◌≡◌, ℕ, suc, ◌+◌, ◌<◌, ◌≤◌, List, [], ◌∷◌, ◌++◌, length, refl, sym, ◌∙◌, ap, subst, arith, append_assoc, append-nil, length-append}
+use Rattle.std.proofs.Common.{◌≡◌, ℕ, suc, ◌+◌, ◌≤◌, List, [], ◌∷◌, ◌++◌, length, refl, sym, ◌∙◌, ap, subst, arith, append_assoc, append-nil, length-append}
 use Rattle.csn_desc.specs.declared.reading.Reading.{Reading}
 use Rattle.csn_desc.specs.declared.symbol.Symbol.{Symbol}
-use Rattle.csn_desc.specs.TreeV.{TreeV, empty, row, Trees, none, more}
+use Rattle.csn_desc.specs.TreeV.{empty, row, Trees, more}
 use Rattle.csn_desc.specs.Spelled.{spelled}
 use Rattle.csn_grammar.specs.ExprV.{ExprV, expr, ExprsV, item, lits, seq}
 use Rattle.csn_grammar.specs.RulesV.{RulesV}
 use Rattle.csn_grammar.specs.Environment.{Env}
 use Rattle.csn_grammar.specs.TailForm.{TailV}
-use Rattle.csn_grammar.specs.Void.{Void, SomeVoid, void_here, void_later}
+use Rattle.csn_grammar.specs.Void.{SomeVoid, void_here, void_later}
 use Rattle.csn_grammar.specs.Meaning.{Means, ItemsMean, ManyMean, TailMeans, means_lits, means_seq, items_next, many_end, many_next, tail_stop, tail_again}
 use Rattle.csn_grammar.specs.Follow.{Begins, Follow, ItemsFollow, ManyFollow, TailFollows, follows_whole, follows_leaf, follows_seq, items_here, items_later, many_here, many_later, tail_items, tail_stops, tail_goes_on, tail_turns}
 

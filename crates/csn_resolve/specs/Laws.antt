@@ -14,7 +14,7 @@ use Rattle.csn_grammar.specs.Names.{rule_of}
 use Rattle.csn_grammar.specs.Void.{Void}
 use Rattle.csn_grammar.specs.Meaning.{RuleMeans}
 use Rattle.csn_grammar.specs.Follow.{RuleFollows}
-use Rattle.csn_grammar.specs.Strings.{Strings}
+use Rattle.csn_grammar.specs.Strings.{Strings, Followed}
 use Rattle.csn_grammar.specs.Strings as grammar
 use Rattle.csn_grammar.specs.Place.{HasRules}
 use Rattle.csn_resolve.specs.declared.why.Why.{Why}
@@ -104,8 +104,9 @@ NodesAreNumbered =
 abbrev pub RulesOfTextsAreShaped : Type 0
 RulesOfTextsAreShaped = (text : List ℕ) (rules : RulesV) → HasRules text rules → AreShaped rules
 
--- what a named rule means is what its description means. No literal word is empty: else a rule in tail form
--- could go round without a bit, and the repetition that it gives could not
+-- what a named rule means is what its description means, where the rules are shaped as those of a text. (By a
+-- word without symbols before its own name a rule could go round without a bit, and have a tree for it; a turn
+-- of the repetition that it gives has a bit at least.)
 abbrev pub MeaningsAreKept : Type 0
 MeaningsAreKept =
     (rules : RulesV) (r : Reading) (n : List ℕ) (d : DescV) → AreShaped rules → IsResolved rules n r d
@@ -124,6 +125,12 @@ abbrev pub StringsAreKept : Type 0
 StringsAreKept =
     (rules : RulesV) (r : Reading) (n : List ℕ) (d : DescV) → AreShaped rules → IsResolved rules n r d
     → (b : List ℕ) (t : TreeV) → Strings rules n r b t ↔ NMeans d 0 0 [] b t
+
+-- the bits of a block can be followed by a name where they can be by its description
+abbrev pub BlocksAreFollowedAlike : Type 0
+BlocksAreFollowedAlike =
+    (rules : RulesV) (r : Reading) (n : List ℕ) (d : DescV) → AreShaped rules → IsResolved rules n r d
+    → (b : List ℕ) → Followed rules n r b ↔ NFollow d 0 0 [] b
 
 -- the place of a block by a name is that by its description
 abbrev pub PlacesAreKept : Type 0

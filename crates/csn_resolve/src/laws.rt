@@ -1,6 +1,6 @@
 //! Laws over the definitions, each the contract of a function that does nothing.
 
-ghost use Rattle.csn_resolve.specs.Laws.{NodesAreGivenOnce, VoidGivesNothing, StepsAreWalkedOnce, ResolvedOnce, RefusalsAreOneList, RefusedOnce, RefusedOrResolved, EmptinessIsDecided, WidthsAreDecided, WalksEnd, RefusalsEnd, NodesAreGiven, NodesAreNumbered, RulesOfTextsAreShaped, MeaningsAreKept, FollowedAreKept, StringsAreKept, PlacesAreKept};
+ghost use Rattle.csn_resolve.specs.Laws.{NodesAreGivenOnce, VoidGivesNothing, StepsAreWalkedOnce, ResolvedOnce, RefusalsAreOneList, RefusedOnce, RefusedOrResolved, EmptinessIsDecided, WidthsAreDecided, WalksEnd, RefusalsEnd, NodesAreGiven, NodesAreNumbered, RulesOfTextsAreShaped, MeaningsAreKept, FollowedAreKept, StringsAreKept, BlocksAreFollowedAlike, PlacesAreKept};
 
 /// An expression gives one list of nodes, at one number; so a named rule has one description.
 pub fn descriptions_are_one()
@@ -44,11 +44,12 @@ pub fn rules_of_texts_are_shaped()
     ensures { RulesOfTextsAreShaped }
 {}
 
-/// A named rule whose literal words are not empty means what its description means, and follows what that
-/// follows; so a block has the same trees and the same place by both.
+/// A named rule means what its description means, and follows what that follows, where the rules are shaped
+/// as those of a text; so a block has the same trees and the same place by both.
 pub fn resolving_keeps_meanings()
     ensures means { MeaningsAreKept }
     ensures follows { FollowedAreKept }
     ensures strings { StringsAreKept }
+    ensures followed { BlocksAreFollowedAlike }
     ensures places { PlacesAreKept }
 {}

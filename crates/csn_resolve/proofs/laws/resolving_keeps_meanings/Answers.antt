@@ -1,4 +1,4 @@
-use Rattle.csn_resolve.proofs.MeaningFacts.{named_same, strings_kept, places_kept}
+use Rattle.csn_resolve.proofs.MeaningFacts.{named_same, strings_kept, followed_kept, places_kept}
 use Rattle.csn_resolve.proofs.laws.resolving_keeps_meanings.Goals as goal
 
 pub returns-clause-means : goal.returns-clause-means
@@ -9,6 +9,9 @@ returns-clause-follows c = λ rules r n d shaped h rule found. (named_same rules
 
 pub returns-clause-strings : goal.returns-clause-strings
 returns-clause-strings c = λ rules r n d shaped h. strings_kept rules r shaped h
+
+pub returns-clause-followed : goal.returns-clause-followed
+returns-clause-followed c = λ rules r n d shaped h. followed_kept rules r shaped h
 
 pub returns-clause-places : goal.returns-clause-places
 returns-clause-places c = λ rules r n d shaped h. places_kept rules r shaped h
