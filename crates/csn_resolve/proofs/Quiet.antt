@@ -14,15 +14,10 @@ use Rattle.csn_resolve.specs.Why.{Refusal}
 use Rattle.csn_resolve.specs.Seen.{Frame, Seen, seen_in, seen_of, with_labelled}
 use Rattle.csn_resolve.specs.Gives.{count_at}
 use Rattle.csn_resolve.specs.Steps.{Step, begins, refused, refusals_after}
+pub use Rattle.csn_resolve.specs.Steps.{Quiet}
 use Rattle.csn_resolve.specs.Counts.{CountSteps, count_number, count_unknown, count_wide, count_narrow}
 use Rattle.csn_resolve.specs.Walk.{PartLeft, TurnLeft, left_void, left_full, left_void_turn, left_full_turn}
 use Rattle.csn_grammar.specs.TailForm.{TailV}
-
--- no step is a refusal
-abbrev pub Quiet : List Step → Type 0
-Quiet [] = Unit {0}
-Quiet (begins place ∷ steps) = Quiet steps
-Quiet (refused why place ∷ steps) = ⊥
 
 quiet_first : (xs ys : List Step) → Quiet (xs ++ ys) → Quiet xs
 quiet_first [] ys q = tt

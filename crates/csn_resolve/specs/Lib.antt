@@ -12,5 +12,6 @@ pub mod Depths
 pub mod Tests
 pub mod Marked
 pub mod Shaped
+pub mod Made
 pub mod Laws
 pub mod Examples

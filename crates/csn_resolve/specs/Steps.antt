@@ -1,6 +1,6 @@
 -- The steps of the walk through rules that looks for refusals: the nodes that it begins and the refusals
 -- that it meets, in their order.
-use Rattle.std.specs.Prelude.{ℕ, suc, Bool, ◌==◌, if◌then◌else◌, List, [], ◌∷◌, ◌++◌}
+use Rattle.std.specs.Prelude.{ℕ, suc, ⊤, Bool, ◌==◌, if◌then◌else◌, List, [], ◌∷◌, ◌++◌}
 use Rattle.csn_resolve.specs.declared.why.Why.{Why}
 use Rattle.csn_resolve.specs.declared.why.Why.TheVariants.{TooManyNodes}
 use Rattle.csn_resolve.specs.Why.{Refusal}
@@ -22,3 +22,9 @@ refusals_after begun (refused why place ∷ steps) =
     record { why = why; place = place } ∷ refusals_after begun steps
 refusals_after begun (begins place ∷ steps) =
     (if begun == 16384 then record { why = TooManyNodes; place = place } ∷ [] else []) ++ refusals_after (suc begun) steps
+
+-- no step is a refusal
+abbrev pub Quiet : List Step → Type 0
+Quiet [] = ⊤
+Quiet (begins place ∷ steps) = Quiet steps
+Quiet (refused why place ∷ steps) = ⊥

@@ -68,13 +68,13 @@ fn seen_in<'a>(reading: Reading, items: &'a Exprs, count: u32, label: &[u8]) -> 
 
 /// A label, and what stands behind it.
 #[derive(Clone, Copy)]
-struct Labelled<'a> {
-    label: &'a Label,
-    part: &'a Expr,
+pub(crate) struct Labelled<'a> {
+    pub label: &'a Label,
+    pub part: &'a Expr,
 }
 
 /// The label of an item and what stands behind it; `x = y` counts as the side that is taken.
-fn labelled_item<'a>(reading: Reading, x: &'a Expr) -> Option<Labelled<'a>>
+pub(crate) fn labelled_item<'a>(reading: Reading, x: &'a Expr) -> Option<Labelled<'a>>
     ensures { MatchOption result (label_of reading x.now ≡ None)
         (λ item. (label_of reading x.now ≡ Some item.label.now) × (inner_of reading x.now ≡ item.part.now)) }
 {

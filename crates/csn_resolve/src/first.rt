@@ -1,4 +1,4 @@
-ghost use Rattle.std.specs.Prelude.{◌≡◌, ◌<◌, [], length, slice_get, IfOk, OnOk, IfErr};
+ghost use Rattle.std.specs.Prelude.{◌≡◌, ◌<◌, [], length, slice_get, IfOk, IfErr};
 ghost use Rattle.csn_grammar.specs.Names.{built_in_names, rule_of};
 ghost use Rattle.csn_resolve.specs.declared.marks.Test.TheVariants.{Void};
 ghost use Rattle.csn_resolve.specs.Resolved.{AreRefusals, twice_steps};
@@ -13,7 +13,6 @@ use crate::steps::refusal;
 use crate::walker::Walker;
 use crate::why::Why;
 use csn_desc::Reading;
-use csn_grammar::Rules;
 use std::alloc::Global;
 
 /// Walks through the rule of a name, up to its first refusal. The rules are listed by name, and those that
@@ -54,34 +53,4 @@ pub(crate) fn first_refusal(
     walker.walk_rule(around, rule, Begun { nodes: 0 })?;
     walker.leave_part(&rule.body)?;
     Ok(number)
-}
-
-/// Walks through the rules of a description for a name, up to the first refusal.
-pub(crate) fn check(
-    alloc: Global,
-    rules: &Rules,
-    name: &[u8],
-    reading: Reading,
-) -> Result<(), ResolveFault>
-    ensures accepted { OnOk result (AreRefusals rules.now name.now reading []) }
-    ensures refused { IfErr result (λ fault. IsFirst rules.now name.now reading fault) }
-{
-    let names = Names::list(alloc, rules)?;
-    check_names(alloc, &names, name, reading)
-}
-
-/// The same, where the rules are listed by name.
-fn check_names(
-    alloc: Global,
-    names: &Names<'_>,
-    name: &[u8],
-    reading: Reading,
-) -> Result<(), ResolveFault>
-    requires { twice_steps built_in_names names.now ≡ [] }
-    ensures accepted { OnOk result (AreRefusals names.now name.now reading []) }
-    ensures refused { IfErr result (λ fault. IsFirst names.now name.now reading fault) }
-{
-    let void = Marks::new(alloc, names, Test::Void(reading))?;
-    first_refusal(alloc, names, &void, name, reading)?;
-    Ok(())
 }

@@ -3,14 +3,19 @@
 
 mod around;
 mod begun;
+mod build;
 pub mod examples;
 mod fault;
 mod first;
 mod form;
 pub mod laws;
+mod leaf;
 mod leave;
+mod made;
 mod marks;
 mod names;
+mod resolving;
+mod shown;
 mod steps;
 mod tail;
 #[cfg(test)]
@@ -20,4 +25,5 @@ mod walker;
 mod why;
 
 pub use fault::ResolveFault;
+pub use resolving::resolve;
 pub use why::Why;

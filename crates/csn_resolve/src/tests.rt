@@ -1,6 +1,5 @@
 use super::*;
-use crate::first::check;
-use csn_desc::Reading;
+use csn_desc::{Count, Desc, Node, Parts, Reading, Symbol};
 use csn_grammar::read_rules;
 use std::alloc::Global;
 use std::test::Fail;
@@ -34,22 +33,39 @@ fn refusals_have_their_numbers(rt: HostRuntime) -> Result<(), Fail> {
 const DEEP: &str =
     "<M> ::= {{{{{{{{{{{{{{{{{{{{{{{{{{{{{{{{{{{{{{{{{{{{{{{{{{{{{{{{{{{{{{{{0}}}}}}}}}}}}}}}}}}}}}}}}}}}}}}}}}}}}}}}}}}}}}}}}}}}}}}}}}}}}}}}} ;";
 
-// The number and the place of the first refusal on the walk, and none where nothing is refused.
+// What the text's rule of the name gives.
+fn resolved(
+    alloc: Global,
+    text: &str,
+    name: &str,
+    reading: Reading,
+) -> Result<Result<Desc, ResolveFault>, Fail> {
+    if text.len() > 262_144 {
+        return Err("too long".into());
+    }
+    let Ok(rules) = read_rules(alloc, text.as_bytes()) else {
+        return Err("no rules".into());
+    };
+    Ok(resolve(alloc, &rules, name.as_bytes(), reading))
+}
+
+// The number and the place of the refusal, and none where nothing is refused.
 fn refusal_of(
     alloc: Global,
     text: &str,
     name: &str,
     reading: Reading,
 ) -> Result<Option<(u8, u32)>, Fail> {
-    if text.len() > 262_144 {
-        return Err("too long".into());
-    }
-    let rules = read_rules(alloc, text.as_bytes()).map_err(|_| "no rules")?;
-    match check(alloc, &rules, name.as_bytes(), reading) {
-        Ok(()) => Ok(None),
+    match resolved(alloc, text, name, reading)? {
+        Ok(_) => Ok(None),
         Err(ResolveFault::Refused { why, place }) => Ok(Some((why.number(), place))),
         Err(ResolveFault::NoMemory) => Err("out of memory".into()),
     }
+}
+
+// The description that the text's rule M gives.
+fn desc_of(alloc: Global, text: &str, reading: Reading) -> Result<Desc, Fail> {
+    Ok(resolved(alloc, text, "M", reading)?.map_err(|_| "refused")?)
 }
 
 #[test]
@@ -106,16 +122,199 @@ fn rules_are_taken(rt: HostRuntime) -> Result<(), Fail> {
     Ok(())
 }
 
-#[test]
-fn a_doubling_text_is_refused_at_its_limit(rt: HostRuntime) -> Result<(), Fail> {
-    let mut text = String::new(rt.alloc());
+// D0 is one bit, and each further rule is the one before it twice.
+fn doubling(alloc: Global) -> Result<String, Fail> {
+    let mut text = String::new(alloc);
     text.push_str("<D0> ::= 0 ;\n")?;
     for at in 1u32..=20 {
         let below = at - 1;
-        let rule = format!(in rt.alloc(); "<D{at}> ::= <D{below}> <D{below}> ;\n")?;
+        let rule = format!(in alloc; "<D{at}> ::= <D{below}> <D{below}> ;\n")?;
         text.push_str(rule.as_str())?;
     }
+    Ok(text)
+}
+
+#[test]
+fn a_doubling_text_is_refused_at_its_limit(rt: HostRuntime) -> Result<(), Fail> {
+    let text = doubling(rt.alloc())?;
     let refusal = refusal_of(rt.alloc(), text.as_str(), "D20", Reading::Sent)?;
     assert_eq!(rt; refusal, Some((11, 22)));
+    let most = resolved(rt.alloc(), text.as_str(), "D13", Reading::Sent)?.map_err(|_| "refused")?;
+    assert_eq!(rt; most.len(), 16_383);
+    Ok(())
+}
+
+// Each node in a few letters, with the numbers of its parts.
+fn spelled(alloc: Global, desc: &Desc) -> Result<String, Fail> {
+    let mut text = String::new(alloc);
+    for i in 0..desc.len() {
+        if i > 0 {
+            text.push_str(" ")?;
+        }
+        let node = spelled_node(alloc, desc.node(i))?;
+        text.push_str(node.as_str())?;
+    }
+    Ok(text)
+}
+
+fn spelled_node(alloc: Global, node: &Node) -> Result<String, Fail> {
+    Ok(match node {
+        Node::Lits(run) => {
+            let len = run.len();
+            format!(in alloc; "lits{len}")?
+        }
+        Node::Spare(symbol) => {
+            let low = *symbol == Symbol::Low;
+            format!(in alloc; "spare-{low}")?
+        }
+        Node::Pad => format!(in alloc; "pad")?,
+        Node::Null => format!(in alloc; "null")?,
+        Node::Field { unit, count } => {
+            let count = spelled_count(alloc, count)?;
+            let count = count.as_str();
+            format!(in alloc; "field{unit}:{count}")?
+        }
+        Node::Rest => format!(in alloc; "rest")?,
+        Node::Seq(parts) => {
+            let parts = spelled_parts(alloc, parts)?;
+            let parts = parts.as_str();
+            format!(in alloc; "seq{parts}")?
+        }
+        Node::Choice(parts) => {
+            let parts = spelled_parts(alloc, parts)?;
+            let parts = parts.as_str();
+            format!(in alloc; "choice{parts}")?
+        }
+        Node::Times { count, part } => {
+            let count = spelled_count(alloc, count)?;
+            let count = count.as_str();
+            format!(in alloc; "times{count}:{part}")?
+        }
+        Node::Many(part) => format!(in alloc; "many:{part}")?,
+        Node::Trunc(parts) => {
+            let parts = spelled_parts(alloc, parts)?;
+            let parts = parts.as_str();
+            format!(in alloc; "trunc{parts}")?
+        }
+        Node::Window { unit, count, part } => {
+            let count = spelled_count(alloc, count)?;
+            let count = count.as_str();
+            format!(in alloc; "window{unit}:{count}:{part}")?
+        }
+        Node::Named { label, part } => {
+            let len = label.bytes().len();
+            format!(in alloc; "named{len}:{part}")?
+        }
+    })
+}
+
+fn spelled_count(alloc: Global, count: &Count) -> Result<String, Fail> {
+    Ok(match count {
+        Count::Fixed(n) => format!(in alloc; "{n}")?,
+        Count::Counted { m, field, c } => format!(in alloc; "{m}*@{field}+{c}")?,
+    })
+}
+
+fn spelled_parts(alloc: Global, parts: &Parts) -> Result<String, Fail> {
+    let mut text = String::new(alloc);
+    for at in 0..parts.len() {
+        let part = parts.get(at);
+        let part = format!(in alloc; "/{part}")?;
+        text.push_str(part.as_str())?;
+    }
+    Ok(text)
+}
+
+#[test]
+fn rules_give_their_nodes(rt: HostRuntime) -> Result<(), Fail> {
+    let cases = [
+        ("<M> ::= 01L ;", "lits3", "lits3"),
+        (
+            "<M> ::= <spare bit> <spare L> <spare padding> ;",
+            "seq/1/2/3 spare-false spare-true pad",
+            "seq/1/2/3 spare-false spare-true pad",
+        ),
+        ("<M> ::= { 0 } ;", "lits1", "lits1"),
+        (
+            "<M> ::= { 0 | 1 } ;",
+            "choice/1/2 lits1 lits1",
+            "choice/1/2 lits1 lits1",
+        ),
+        (
+            "<M> ::= { 0 <A : bit> ! <Bad : 1 bit (**) = <no string>> } ;",
+            "seq/1/2 lits1 named1:3 field1:1",
+            "seq/1/2 lits1 named1:3 field1:1",
+        ),
+        (
+            "<M> ::= { 0 | 1 = <no string> | bit (2) = octet } ;",
+            "choice/1/2/3 lits1 lits1 field1:2",
+            "choice/1/2 lits1 field8:1",
+        ),
+        (
+            "<M> ::= <A : bit (3)> { 0 | 1 <M> } ;",
+            "seq/1/3/8 named1:2 field1:3 many:4 seq/5/6 lits1 named1:7 field1:3 lits1",
+            "seq/1/3/8 named1:2 field1:3 many:4 seq/5/6 lits1 named1:7 field1:3 lits1",
+        ),
+        (
+            "<M> ::= { bit | octet } ** 0 null ;",
+            "seq/1/5/6 many:2 choice/3/4 field1:1 field8:1 lits1 null",
+            "seq/1/5/6 many:2 choice/3/4 field1:1 field8:1 lits1 null",
+        ),
+        (
+            "<M> ::= { <A : bit> <B : bit> } // bit (**) ;",
+            "seq/1/6 trunc/2/4 named1:3 field1:1 named1:5 field1:1 rest",
+            "seq/1/6 trunc/2/4 named1:3 field1:1 named1:5 field1:1 rest",
+        ),
+        (
+            "<M> ::= <N : bit (3)> bit (val(N)) octet (2 * val(N)) { 0 | 1 } (val(N) + 1) bit (3 * val(N) + 4) & { 1 } ** ;",
+            "seq/1/3/4/5/9 named1:2 field1:3 field1:1*@1+0 field8:2*@1+0 times1*@1+1:6 choice/7/8 lits1 lits1 window1:3*@1+4:10 many:11 lits1",
+            "seq/1/3/4/5/9 named1:2 field1:3 field1:1*@1+0 field8:2*@1+0 times1*@1+1:6 choice/7/8 lits1 lits1 window1:3*@1+4:10 many:11 lits1",
+        ),
+        (
+            "<M> ::= <N : bit (3)> <N : bit (4)> { bit (val(N)) <N : octet> } octet (val(N)) ;",
+            "seq/1/3/5/9 named1:2 field1:3 named1:4 field1:4 seq/6/7 field1:1*@3+0 named1:8 field8:1 field8:1*@3+0",
+            "seq/1/3/5/9 named1:2 field1:3 named1:4 field1:4 seq/6/7 field1:1*@3+0 named1:8 field8:1 field8:1*@3+0",
+        ),
+        (
+            "<A> ::= bit (val(N)) ; <M> ::= <N : bit = octet> { 0 | <A> } * 3 ;",
+            "seq/1/3 named1:2 field1:1 times3:4 choice/5/6 lits1 field1:1*@1+0",
+            "seq/1/3 named1:2 field8:1 times3:4 choice/5/6 lits1 field1:1*@1+0",
+        ),
+    ];
+    for (text, received, sent) in cases {
+        let desc = desc_of(rt.alloc(), text, Reading::Received)?;
+        let nodes = spelled(rt.alloc(), &desc)?;
+        assert_eq!(rt; nodes.as_str(), received, "{text}");
+        let desc = desc_of(rt.alloc(), text, Reading::Sent)?;
+        let nodes = spelled(rt.alloc(), &desc)?;
+        assert_eq!(rt; nodes.as_str(), sent, "{text}");
+    }
+    Ok(())
+}
+
+// So many labelled bits, and a field that stands on each of them.
+fn counting(alloc: Global, fields: u32) -> Result<String, Fail> {
+    let mut text = String::new(alloc);
+    text.push_str("<M> ::= ")?;
+    for at in 0..fields {
+        let field = format!(in alloc; "<A{at} : bit> ")?;
+        text.push_str(field.as_str())?;
+    }
+    for at in 0..fields {
+        let counted = format!(in alloc; "bit (val(A{at})) ")?;
+        text.push_str(counted.as_str())?;
+    }
+    text.push_str(";")?;
+    Ok(text)
+}
+
+#[test]
+fn a_field_behind_64_counted_ones_is_refused(rt: HostRuntime) -> Result<(), Fail> {
+    let most = counting(rt.alloc(), 64)?;
+    let desc = desc_of(rt.alloc(), most.as_str(), Reading::Received)?;
+    assert_eq!(rt; desc.len(), 193);
+    let more = counting(rt.alloc(), 65)?;
+    let refusal = refusal_of(rt.alloc(), more.as_str(), "M", Reading::Received)?;
+    assert_eq!(rt; refusal, Some((13, 766)));
     Ok(())
 }

@@ -1,0 +1,40 @@
+use Rattle.std.proofs.Common.{◌≡◌, ◌+◌, ◌-◌, ◌<◌, ℕ, List, [], true, false, Some, None, take, length, min, get_or, sym, ◌∙◌, ap, arith}
+use Rattle.std.proofs.lemmas.Option.{slice_get-get_or}
+use Rattle.csn_grammar.specs.Names.{same_name}
+use Rattle.csn_resolve.specs.Seen.{seen_in}
+use Rattle.csn_resolve.specs.Made.{frame_before}
+use Rattle.csn_resolve.proofs.MadeFacts.{passed-by, other-label, has-label, frame-all}
+use Rattle.csn_resolve.proofs.shown.last_with.Goals as goal
+
+pub loop-at-init : goal.loop-at-init
+loop-at-init c =
+    let least = c.min-at.ensures ∙ ap (λ k. min (length c.args.nodes.now) k) c.len.ensures.len in
+    ap (λ f. seen_in f c.args.label.now) (sym (frame-all c.args.reading [] c.args.items.now c.args.nodes.now c.min-at.result least))
+
+pub loop-at-preserved-in_default : goal.loop-at-preserved-in_default
+loop-at-preserved-in_default c =
+    let step : c.loop-at.at ≡ c.loop-at.at - 1 + 1 = omega arith in
+    let within : c.loop-at.at - 1 < length c.args.nodes.now = omega arith in
+    c.loop-at.invariant ∙ (ap (λ (k : ℕ). seen_in (frame_before c.args.reading [] (take k c.args.items.now) (take k c.args.nodes.now)) c.args.label.now) step
+    ∙ passed-by c.args.reading c.args.items.now c.args.nodes.now (c.loop-at.at - 1) c.get.result.now (get_or c.args.nodes.now (c.loop-at.at - 1) 0) c.args.label.now c.get.ensures
+    (slice_get-get_or c.args.nodes.now (c.loop-at.at - 1) 0 within) c.in_default.ensures)
+
+pub returns-then-eq : goal.returns-then-eq
+returns-then-eq c =
+    let step : c.loop-at.at ≡ c.loop-at.at - 1 + 1 = omega arith in
+    let within : c.loop-at.at - 1 < length c.args.nodes.now = omega arith in
+    let sure : same_name c.in-Some.found.label.now c.args.label.now ≡ true =
+    ap (λ (l : List ℕ). same_name l c.args.label.now) (sym c.bytes.ensures.value) ∙ (sym c.eq.ensures ∙ c.if-eq.true) in
+    sym (c.loop-at.invariant ∙ (ap (λ (k : ℕ). seen_in (frame_before c.args.reading [] (take k c.args.items.now) (take k c.args.nodes.now)) c.args.label.now) step
+    ∙ has-label c.args.reading c.args.items.now c.args.nodes.now (c.loop-at.at - 1) c.get.result.now (get_or c.args.nodes.now (c.loop-at.at - 1) 0) c.args.label.now c.in-Some.found.label.now c.get.ensures
+    (slice_get-get_or c.args.nodes.now (c.loop-at.at - 1) 0 within) c.in-Some.ensures.0 sure))
+
+pub loop-at-preserved : goal.loop-at-preserved
+loop-at-preserved c =
+    let step : c.loop-at.at ≡ c.loop-at.at - 1 + 1 = omega arith in
+    let within : c.loop-at.at - 1 < length c.args.nodes.now = omega arith in
+    let unlike : same_name c.in-Some.found.label.now c.args.label.now ≡ false =
+    ap (λ (l : List ℕ). same_name l c.args.label.now) (sym c.bytes.ensures.value) ∙ (sym c.eq.ensures ∙ c.if-eq.false) in
+    c.loop-at.invariant ∙ (ap (λ (k : ℕ). seen_in (frame_before c.args.reading [] (take k c.args.items.now) (take k c.args.nodes.now)) c.args.label.now) step
+    ∙ other-label c.args.reading c.args.items.now c.args.nodes.now (c.loop-at.at - 1) c.get.result.now (get_or c.args.nodes.now (c.loop-at.at - 1) 0) c.args.label.now c.in-Some.found.label.now c.get.ensures
+    (slice_get-get_or c.args.nodes.now (c.loop-at.at - 1) 0 within) c.in-Some.ensures.0 unlike)

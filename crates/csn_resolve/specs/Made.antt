@@ -1,0 +1,166 @@
+-- Words of the private functions that make nodes: what they ask of an expression, and what they add to the
+-- nodes that are made. No public clause cites them.
+use Rattle.std.specs.Prelude.{◌≡◌, ℕ, suc, ◌+◌, ◌≤◌, Bool, true, false, ⊤, List, [], ◌∷◌, ◌++◌, length, slice_get, Option, Some, None}
+use Rattle.csn_desc.specs.declared.reading.Reading.{Reading}
+use Rattle.csn_desc.specs.declared.node.Count.{Count}
+use Rattle.csn_desc.specs.declared.node.Node.{Node}
+use Rattle.csn_desc.specs.declared.node.Node.TheVariants.{Lits, Seq, Many}
+use Rattle.csn_desc.specs.Overfull.{IsFirstOverfull}
+use Rattle.csn_grammar.specs.declared.exponent.Exponent.{Exponent}
+use Rattle.csn_grammar.specs.declared.rules.Rule.{Rule}
+use Rattle.csn_grammar.specs.ExprV.{ExprV, BranchV, exprs_of, branches_of}
+use Rattle.csn_grammar.specs.RulesV.{RulesV}
+use Rattle.csn_grammar.specs.Environment.{label_of}
+use Rattle.csn_grammar.specs.TailForm.{TailV, tail_of}
+use Rattle.csn_grammar.specs.Void.{Void, Kept}
+use Rattle.csn_resolve.specs.declared.why.Why.{Why}
+use Rattle.csn_resolve.specs.declared.why.Why.TheVariants.{TooManyVals}
+use Rattle.csn_resolve.specs.declared.shown.Shown.{Shown, fold-Shown}
+use Rattle.csn_resolve.specs.declared.shown.Shown.TheOpen.{Shown-F}
+use Rattle.csn_resolve.specs.Seen.{Frame, Seen, with_labelled}
+use Rattle.csn_resolve.specs.Gives.{Placed, placed, count_at, start_of, Gives, ItemsGive, EachGives, RuleGives}
+use Rattle.csn_resolve.specs.Steps.{Step, Quiet}
+use Rattle.csn_resolve.specs.Counts.{is_too_large}
+use Rattle.csn_resolve.specs.Walk.{Around, Walk, RuleWalk}
+use Rattle.csn_resolve.specs.Resolved.{nodes_of}
+
+-- ---- what contracts see of the values that are passed on
+
+-- nodes, each with its place
+abbrev pub paired : List Node → List ℕ → List Placed
+paired (n ∷ nodes) (p ∷ places) = placed n p ∷ paired nodes places
+paired _ _ = []
+
+-- a frame behind the items that have nodes, each with its node
+abbrev pub frame_before : Reading → Frame ℕ → List ExprV → List ℕ → Frame ℕ
+frame_before r frame (x ∷ xs) (node ∷ nodes) = frame_before r (with_labelled (label_of r x) node frame) xs nodes
+frame_before r frame _ _ = frame
+
+abbrev pub shown_step : Reading → Shown-F (Seen ℕ) → Seen ℕ
+shown_step r Shown-F.Nothing = []
+shown_step r (Shown-F.Behind items nodes outer) = frame_before r [] items.now nodes.now ∷ outer.now
+
+-- the labelled items that are seen, each with its node
+abbrev pub shown_view : Reading → Shown → Seen ℕ
+shown_view r = fold-Shown (Seen ℕ) (shown_step r)
+
+-- ---- what is asked
+
+-- the exponent is a count, and its numbers are not too large
+pub record IsCounted (seen : Seen ℕ) (k : Exponent) : Type 0 where
+  pub count : Count
+  pub is : count_at seen k ≡ Some count
+  pub small : is_too_large k ≡ false
+
+-- the one of a list that has one
+abbrev pub only : List ExprV → Option ExprV
+only (x ∷ []) = Some x
+only _ = None
+
+-- the field that is refused last, and the place of it
+pub record IsOverfullAt (nodes : List Placed) (why : Why) (place : ℕ) : Type 0 where
+  pub crowded : why ≡ TooManyVals
+  pub number : ℕ
+  pub field : Placed
+  pub first : IsFirstOverfull (nodes_of nodes) number
+  pub here : slice_get nodes number ≡ Some field
+  pub at : place ≡ field.place
+
+module _ (rules : RulesV) (r : Reading) where
+  -- the walk through x meets no refusal where `names` names or more are put in round it
+  pub record QuietAt (names : ℕ) (x : ExprV) : Type 0 where
+    pub around : Around
+    pub steps : List Step
+    pub walk : Walk rules r around x steps
+    pub quiet : Quiet steps
+    pub below : names ≤ around.depth
+    pub shallow : around.depth ≤ 64
+
+  abbrev pub AllQuiet : ℕ → List ExprV → Type 0
+  AllQuiet names [] = ⊤
+  AllQuiet names (x ∷ xs) = QuietAt names x × AllQuiet names xs
+
+  abbrev pub BranchesQuiet : ℕ → List BranchV → Type 0
+  BranchesQuiet names [] = ⊤
+  BranchesQuiet names (b ∷ bs) = QuietAt names b.body × BranchesQuiet names bs
+
+  -- the same of what a rule says
+  pub record RuleQuiet (names : ℕ) (rule : Rule) : Type 0 where
+    pub around : Around
+    pub steps : List Step
+    pub walk : RuleWalk rules r around rule steps
+    pub quiet : Quiet steps
+    pub below : names ≤ around.depth
+    pub shallow : around.depth ≤ 64
+
+  -- an alternative is kept
+  pub record IsKept (b : BranchV) : Type 0 where
+    pub plain : b.error ≡ false
+    pub full : ¬ Void rules r b.body
+
+  -- what is repeated of a rule in tail form gives these nodes, of which the first has the number `many`
+  pub record TurnGives (tail : TailV) (many : ℕ) (seen : Seen ℕ) (nodes : List Placed) : Type 0 where
+    pub parts : List ℕ
+    pub turn : List Placed
+    pub given : ItemsGive rules r tail.items (many + 3) [] seen parts turn
+    pub are : nodes ≡ placed (Many (many + 1)) tail.end.braces
+        ∷ placed (Seq ((many + 2) ∷ parts)) tail.end.again.at
+        ∷ placed (Lits tail.end.again.run) tail.end.again.at
+        ∷ turn
+
+  -- ---- nodes are given, and there is room for them behind the first `at`
+
+  abbrev pub GivesFew : ExprV → ℕ → Seen ℕ → Type 0
+  GivesFew x at seen = (nodes : List Placed) × Gives rules r x at seen nodes × (at + length nodes ≤ 16384)
+
+  abbrev pub ItemsGiveFew : List ExprV → ℕ → Seen ℕ → Type 0
+  ItemsGiveFew xs at seen =
+      (parts : List ℕ) × (nodes : List Placed) × ItemsGive rules r (exprs_of xs) at [] seen parts nodes
+      × (at + length nodes ≤ 16384)
+
+  abbrev pub KeptGiveFew : List BranchV → ℕ → Seen ℕ → Type 0
+  KeptGiveFew bs at seen =
+      (xs : List ExprV) × (parts : List ℕ) × (nodes : List Placed) × Kept rules r (branches_of bs) xs
+      × EachGives rules r xs at seen parts nodes × (at + length nodes ≤ 16384)
+
+  abbrev pub RuleGivesFew : Rule → ℕ → Seen ℕ → Type 0
+  RuleGivesFew rule at seen =
+      (nodes : List Placed) × RuleGives rules r rule at seen nodes × (at + length nodes ≤ 16384)
+
+  -- of a rule in this tail form, whose items begin at this place
+  abbrev pub TailGivesFew : ℕ → TailV → ℕ → Seen ℕ → Type 0
+  TailGivesFew place tail at seen =
+      (rule : Rule) × (tail_of rule ≡ Some tail) × (start_of rule.body ≡ place) × RuleGivesFew rule at seen
+
+  abbrev pub TurnGivesFew : TailV → ℕ → Seen ℕ → Type 0
+  TurnGivesFew tail many seen =
+      (nodes : List Placed) × TurnGives tail many seen nodes × (many + length nodes ≤ 16384)
+
+  -- ---- the nodes that are given were added to those before, and the numbers of parts to those before
+
+  abbrev pub Adds : ExprV → Seen ℕ → List Placed → List Placed → Type 0
+  Adds x seen before after =
+      (nodes : List Placed) → Gives rules r x (length before) seen nodes → after ≡ before ++ nodes
+
+  abbrev pub AddsItems : List ExprV → Seen ℕ → List ℕ → List ℕ → List Placed → List Placed → Type 0
+  AddsItems xs seen parts_before parts_after before after =
+      (parts : List ℕ) (nodes : List Placed) → ItemsGive rules r (exprs_of xs) (length before) [] seen parts nodes
+      → (parts_after ≡ parts_before ++ parts) × (after ≡ before ++ nodes)
+
+  abbrev pub AddsKept : List BranchV → Seen ℕ → List ℕ → List ℕ → List Placed → List Placed → Type 0
+  AddsKept bs seen parts_before parts_after before after =
+      (xs : List ExprV) (parts : List ℕ) (nodes : List Placed)
+      → Kept rules r (branches_of bs) xs → EachGives rules r xs (length before) seen parts nodes
+      → (parts_after ≡ parts_before ++ parts) × (after ≡ before ++ nodes)
+
+  abbrev pub AddsRule : Rule → Seen ℕ → List Placed → List Placed → Type 0
+  AddsRule rule seen before after =
+      (nodes : List Placed) → RuleGives rules r rule (length before) seen nodes → after ≡ before ++ nodes
+
+  abbrev pub AddsTail : ℕ → TailV → Seen ℕ → List Placed → List Placed → Type 0
+  AddsTail place tail seen before after =
+      (rule : Rule) → tail_of rule ≡ Some tail → start_of rule.body ≡ place → AddsRule rule seen before after
+
+  abbrev pub AddsTurn : TailV → Seen ℕ → List Placed → List Placed → Type 0
+  AddsTurn tail seen before after =
+      (nodes : List Placed) → TurnGives tail (length before) seen nodes → after ≡ before ++ nodes
