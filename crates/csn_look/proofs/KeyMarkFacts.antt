@@ -5,7 +5,7 @@ use Rattle.std.proofs.lemmas.Bool.{eqb-true}
 use Rattle.std.proofs.lemmas.Bool.Decides.{eqb_tells, nat_tests}
 use Rattle.csn_bits.specs.Octets.{IsBits}
 use Rattle.csn_desc.proofs.BitFacts.{IsBits-front}
-use Rattle.csn_look.specs.KeyMarks.{IsWord, is_marked, place_of, key_mark, has_key, Adds, BeginsWithKey}
+use Rattle.csn_look.specs.KeyMarks.{IsWord, is_marked, place_of, key_mark, has_key, Adds, BeginsWithKey, StartsKey}
 use Rattle.csn_look.specs.KeyTables.{IsKeyTable, IsFront, AddsKey}
 use Rattle.csn_look.proofs.Places.{place_of-half, place_of-small, place_of-same, place_of-one, LastBit, no_bits, last_bit, last_of, fronts, word_front}
 
@@ -231,7 +231,7 @@ pub key_added : (old new word : List ℕ) (whole : Bool) → IsWord word → len
 key_added old new word whole is size table adds = record {
   size = size ∙ table.size;
   starts = λ f word_f. (
-    λ h. elim ((adds.starts f word_f).0 h) [
+    λ h. elim ((adds.starts table f word_f).0 h) [
       | inl before ↦
           let s = (table.starts f word_f).0 before in
           record { next = s.next; back = s.back; whole = s.whole; word = s.word; key = (adds.keys (f ++ s.next ∷ s.back) s.whole s.word).1 (inl s.key) }
@@ -244,7 +244,7 @@ key_added old new word whole is size table adds = record {
             key = (let Q : List ℕ → Type 0 = λ v. IsTrue (has_key new v whole) in subst Q p.parts ((adds.keys word whole is).1 (inr (refl, refl))));
           }
     ],
-    λ s. (adds.starts f word_f).1 (elim ((adds.keys (f ++ s.next ∷ s.back) s.whole s.word).0 s.key) [
+    λ s. (adds.starts table f word_f).1 (elim ((adds.keys (f ++ s.next ∷ s.back) s.whole s.word).0 s.key) [
       | inl before ↦ inl ((table.starts f word_f).1 (record { next = s.next; back = s.back; whole = s.whole; word = s.word; key = before }))
       | inr same ↦ inr (record { next = s.next; back = s.back; parts = sym same.0 })
     ]),
@@ -292,13 +292,25 @@ no_keys marks none size = record {
   );
 }
 
--- the key and the marks of its prefixes are set
-pub raised_last :
-    (old mid new word : List ℕ) (at : ℕ) (whole : Bool) → IsWord word → at ≡ 1
-    → ((n : ℕ) → is_marked mid n ≡ (nat_eq n (key_mark (place_of word) whole) || is_marked old n))
-    → IsRaised mid new word at → AddsKey old new word whole
-raised_last old mid new word at whole is one set r = record {
-  keys = λ key mark word_k. (
+-- ---- a key and the marks of its prefixes
+
+far_mark : (n m : ℕ) → n < 16384 → nat_eq (16384 + m) n ≡ false
+far_mark n m h = grind (arith, nat_tests)
+
+-- the list that the first lists are prefixes of, where one is not longer
+prefix_of : (f g a b : List ℕ) → f ++ a ≡ g ++ b → length f ≤ length g → (rest : List ℕ) × (g ≡ f ++ rest)
+prefix_of [] g a b e short = (g, refl)
+prefix_of (x ∷ f) [] a b e short = absurd (omega arith)
+prefix_of (x ∷ f) (y ∷ g) a b e short =
+    let same : x ≡ y = cc in
+    let others : f ++ a ≡ g ++ b = cc in
+    let r = prefix_of f g a b others (omega arith) in
+    (r.0, ap (λ n. n ∷ g) (sym same) ∙ ap (λ l. x ∷ l) r.1)
+
+module _ (old mid new word : List ℕ) (at : ℕ) (whole : Bool) (is : IsWord word)
+    (set : (n : ℕ) → is_marked mid n ≡ (nat_eq n (key_mark (place_of word) whole) || is_marked old n)) (r : IsRaised mid new word at) where
+  raised_keys : Adds old new (λ key mark. (key ≡ word) × (mark ≡ whole))
+  raised_keys = λ key mark word_k. (
     λ h. elim (or_cases (nat_eq (key_mark (place_of key) mark) (key_mark (place_of word) whole)) (has_key old key mark)
         (sym (set (key_mark (place_of key) mark)) ∙ sym (r.keys (key_mark (place_of key) mark) (key_mark-low key mark word_k)) ∙ h)) [
           | inl e ↦ inr (key_mark-same key word mark whole word_k is (eqb-true (key_mark (place_of key) mark) (key_mark (place_of word) whole) e))
@@ -309,32 +321,105 @@ raised_last old mid new word at whole is one set r = record {
       | inr e ↦ or_left (nat_eq (key_mark (place_of key) mark) (key_mark (place_of word) whole)) (has_key old key mark)
           (eq-eqb (key_mark (place_of key) mark) (key_mark (place_of word) whole) (ap (λ k. key_mark (place_of k) mark) e.0 ∙ ap (λ m. key_mark (place_of word) m) e.1))
     ],
-  );
-  starts = λ f word_f. (
-    λ h. elim ((r.starts f word_f).0 h) [
-      | inl e ↦ inl (sym (same f) ∙ e)
-      | inr p ↦ inr p.0
-    ],
-    λ h. (r.starts f word_f).1 (elim h [
-      | inl e ↦ inl (same f ∙ e)
-      | inr p ↦
-          let none : length r.front ≡ 0 = ap length empty in
-          inr (p, omega arith)
-    ]),
-  );
-}
-  where
-    bits : IsBits r.front
-    bits = IsBits-front r.front r.back (let P : List ℕ → Type 0 = IsBits in subst P r.parts is.bits)
+  )
 
-    empty : r.front ≡ []
-    empty = place_of-one r.front bits (r.here ∙ one)
+  same_start : (f : List ℕ) → is_marked mid (16384 + place_of f) ≡ is_marked old (16384 + place_of f)
+  same_start f = set (16384 + place_of f) ∙ ap (λ b. b || is_marked old (16384 + place_of f)) (far_mark (key_mark (place_of word) whole) (place_of f) (key_mark-low word whole is))
 
-    far : (n m : ℕ) → n < 16384 → nat_eq (16384 + m) n ≡ false
-    far n m h = grind (arith, nat_tests)
+  -- all of these are set
+  pub raised_last : at ≡ 1 → AddsKey old new word whole
+  raised_last one = record {
+    keys = raised_keys;
+    starts = λ table f word_f. (
+      λ h. elim ((r.starts f word_f).0 h) [
+        | inl e ↦ inl (sym (same_start f) ∙ e)
+        | inr p ↦ inr p.0
+      ],
+      λ h. (r.starts f word_f).1 (elim h [
+        | inl e ↦ inl (same_start f ∙ e)
+        | inr p ↦
+            let none : length r.front ≡ 0 = ap length empty in
+            inr (p, omega arith)
+      ]),
+    );
+  }
+    where
+      bits : IsBits r.front
+      bits = IsBits-front r.front r.back (let P : List ℕ → Type 0 = IsBits in subst P r.parts is.bits)
 
-    same : (f : List ℕ) → is_marked mid (16384 + place_of f) ≡ is_marked old (16384 + place_of f)
-    same f = set (16384 + place_of f) ∙ ap (λ b. b || is_marked old (16384 + place_of f)) (far (key_mark (place_of word) whole) (place_of f) (key_mark-low word whole is))
+      empty : r.front ≡ []
+      empty = place_of-one r.front bits (r.here ∙ one)
+
+  -- the next one is set already, and so are those before it
+  pub raised_enough : 1 < at → is_marked new (16384 + at / 2) ≡ true → AddsKey old new word whole
+  raised_enough more marked = record { keys = raised_keys; starts = λ table. by_last table r.front r.back r.parts r.here r.starts (last_of r.front) }
+    where
+      by_last :
+          IsKeyTable old → (front back : List ℕ) → word ≡ front ++ back → place_of front ≡ at
+          → ((f : List ℕ) → IsWord f → IsTrue (is_marked new (16384 + place_of f)) ↔ (IsTrue (is_marked mid (16384 + place_of f)) ⊎ (IsFront f word × (length front ≤ length f))))
+          → LastBit front → (f : List ℕ) → IsWord f
+          → IsTrue (is_marked new (16384 + place_of f)) ↔ (IsTrue (is_marked old (16384 + place_of f)) ⊎ IsFront f word)
+      by_last table front back parts here starts (no_bits e) f word_f =
+          let one : place_of front ≡ 1 = ap place_of e in absurd (omega arith)
+      by_last table front back parts here starts (last_bit g x e) f word_f = (
+        λ h. elim ((starts f word_f).0 h) [
+          | inl m ↦ inl (sym (same_start f) ∙ m)
+          | inr p ↦ inr p.0
+        ],
+        λ h. (starts f word_f).1 (elim h [
+          | inl m ↦ inl (same_start f ∙ m)
+          | inr p ↦ elim (le_or_gt (length front) (length f)) [
+            | inl long ↦ inr (p, long)
+            | inr short ↦ inl (same_start f ∙ (table.starts f word_f).1 (begun p short))
+          ]
+        ]),
+      )
+        where
+          le_or_gt : (m n : ℕ) → (m ≤ n) ⊎ (n < m)
+          le_or_gt m n = grind arith
+
+          split : word ≡ g ++ x ∷ back
+          split = parts ∙ ap (λ f. f ++ back) e ∙ append_assoc g (x ∷ []) back
+
+          whole_word : IsWord (g ++ x ∷ back)
+          whole_word = let P : List ℕ → Type 0 = IsWord in subst P split is
+
+          word_g : IsWord g
+          word_g = word_front g (x ∷ back) whole_word
+
+          lengths : length front ≡ length g + 1
+          lengths = ap length e ∙ length-append g (x ∷ [])
+
+          last_small : (g : List ℕ) (x : ℕ) → IsBits (g ++ x ∷ []) → x ≤ 1
+          last_small [] x h = h.0
+          last_small (y ∷ g) x h = last_small g x h.1
+
+          half : place_of g ≡ at / 2
+          half =
+              let bits : IsBits (g ++ x ∷ []) = let P : List ℕ → Type 0 = IsBits in subst P e (IsBits-front front back (let Q : List ℕ → Type 0 = IsBits in subst Q parts is.bits)) in
+              sym (place_of-half g x (last_small g x bits)) ∙ ap (λ f. place_of f / 2) (sym e) ∙ ap (λ n. n / 2) here
+
+          -- a key goes on from the prefix whose mark was set
+          goes_on : StartsKey old g
+          goes_on =
+              elim ((starts g word_g).0 (ap (λ n. is_marked new (16384 + n)) half ∙ marked)) [
+                | inl m ↦ (table.starts g word_g).0 (sym (same_start g) ∙ m)
+                | inr p ↦ let long = p.1 in absurd (omega (arith, lengths))
+              ]
+
+          begun : IsFront f word → length f < length front → StartsKey old f
+          begun p short =
+              let r = prefix_of f g (p.next ∷ p.back) (x ∷ back) (sym p.parts ∙ split) (omega (arith, lengths)) in
+              shorter r.0 r.1
+            where
+              shorter : (rest : List ℕ) → g ≡ f ++ rest → StartsKey old f
+              shorter [] same = let P : List ℕ → Type 0 = StartsKey old in subst P (same ∙ append-nil f) goes_on
+              shorter (y ∷ rest) same =
+                  let k = goes_on in
+                  let on : g ++ k.next ∷ k.back ≡ f ++ y ∷ (rest ++ k.next ∷ k.back) = ap (λ l. l ++ k.next ∷ k.back) same ∙ append_assoc f (y ∷ rest) (k.next ∷ k.back) in
+                  let P : List ℕ → Type 0 = IsWord in
+                  let Q : List ℕ → Type 0 = λ l. IsTrue (has_key old l k.whole) in
+                  record { next = y; back = rest ++ k.next ∷ k.back; whole = k.whole; word = subst P on k.word; key = subst Q on k.key }
 
 -- the look at the empty word decides the search
 pub searched_last :

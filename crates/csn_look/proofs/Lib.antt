@@ -26,3 +26,8 @@ pub mod Extensions
 pub mod Products
 pub mod KeyLists
 pub mod NodeKeys
+pub mod RowFacts
+pub mod RowKeys
+pub mod RowsMade
+pub mod ProductsMade
+pub mod LookKeyFacts

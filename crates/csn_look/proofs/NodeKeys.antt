@@ -1,5 +1,5 @@
 -- The keys of nodes by the sets of keys of their parts.
-use Rattle.std.proofs.Common.{◌≡◌, ℕ, zero, suc, ◌+◌, ◌%◌, Bool, true, false, List, [], ◌∷◌, length, ◌↔◌, refl, sym, subst, arith}
+use Rattle.std.proofs.Common.{◌≡◌, ℕ, zero, suc, ◌+◌, ◌%◌, ◌≤◌, Bool, true, false, List, [], ◌∷◌, length, ◌↔◌, refl, sym, subst, arith}
 use Rattle.std.proofs.lemmas.List.{length-take}
 use Rattle.csn_bits.specs.Octets.{IsBits}
 use Rattle.csn_bits.proofs.Packing.{IsBits-append, IsBits-take}
@@ -95,10 +95,10 @@ module _ (d : DescV) where
 
   -- one more repetition gives the same keys
   abbrev pub IsStable : ℕ → ℕ → Type 0
-  IsStable i n = (o : ℕ) (word : List ℕ) (mark : Bool) → TimesKeys d 12 n i o word mark ↔ TimesKeys d 12 (suc n) i o word mark
+  IsStable i n = (o : ℕ) (word : List ℕ) (mark : Bool) → o ≤ 7 → TimesKeys d 12 n i o word mark ↔ TimesKeys d 12 (suc n) i o word mark
 
   stable_next : (i n : ℕ) → IsStable i n → IsStable i (suc n)
-  stable_next i n stable = λ o word mark. (up o word mark, down o word mark)
+  stable_next i n stable = λ o word mark low. (up o word mark, down o word mark)
     where
       up : (o : ℕ) (word : List ℕ) (mark : Bool) → TimesKeys d 12 (suc n) i o word mark → TimesKeys d 12 (suc (suc n)) i o word mark
       up o word mark (times_none e f m) = absurd (omega (arith, e))
@@ -106,7 +106,7 @@ module _ (d : DescV) where
       up o word mark (times_whole m e front back rest h hs left) =
           let same : m ≡ n = omega (arith, e) in
           let P : ℕ → Type 0 = λ k. TimesKeys d 12 k i ((o + length front) % 8) back rest in
-          times_whole (suc n) refl front back rest h ((stable ((o + length front) % 8) back rest).0 (subst P same hs)) left
+          times_whole (suc n) refl front back rest h ((stable ((o + length front) % 8) back rest (omega arith)).0 (subst P same hs)) left
 
       down : (o : ℕ) (word : List ℕ) (mark : Bool) → TimesKeys d 12 (suc (suc n)) i o word mark → TimesKeys d 12 (suc n) i o word mark
       down o word mark (times_none e f m) = absurd (omega (arith, e))
@@ -114,16 +114,16 @@ module _ (d : DescV) where
       down o word mark (times_whole m e front back rest h hs left) =
           let same : m ≡ suc n = omega (arith, e) in
           let P : ℕ → Type 0 = λ k. TimesKeys d 12 k i ((o + length front) % 8) back rest in
-          times_whole n refl front back rest h ((stable ((o + length front) % 8) back rest).1 (subst P same hs)) left
+          times_whole n refl front back rest h ((stable ((o + length front) % 8) back rest (omega arith)).1 (subst P same hs)) left
 
-  pub stable_for_ever : (i n more : ℕ) → IsStable i n → (o : ℕ) (word : List ℕ) (mark : Bool) → TimesKeys d 12 (more + n) i o word mark ↔ TimesKeys d 12 n i o word mark
-  stable_for_ever i n zero stable o word mark =
+  pub stable_for_ever : (i n more : ℕ) → IsStable i n → (o : ℕ) (word : List ℕ) (mark : Bool) → o ≤ 7 → TimesKeys d 12 (more + n) i o word mark ↔ TimesKeys d 12 n i o word mark
+  stable_for_ever i n zero stable o word mark low =
       let none : 0 + n ≡ n = omega arith in
       let P : ℕ → Type 0 = λ k. TimesKeys d 12 k i o word mark ↔ TimesKeys d 12 n i o word mark in
       subst P (sym none) (λ h. h, λ h. h)
-  stable_for_ever i n (suc more) stable o word mark =
-      let earlier = stable_for_ever i n more stable o word mark in
-      let step = always i n more stable o word mark in
+  stable_for_ever i n (suc more) stable o word mark low =
+      let earlier = stable_for_ever i n more stable o word mark low in
+      let step = always i n more stable o word mark low in
       let next : suc more + n ≡ suc (more + n) = omega arith in
       let P : ℕ → Type 0 = λ k. TimesKeys d 12 k i o word mark ↔ TimesKeys d 12 n i o word mark in
       subst P (sym next) (λ h. earlier.0 (step.1 h), λ h. step.0 (earlier.1 h))

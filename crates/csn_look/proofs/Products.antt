@@ -25,6 +25,9 @@ word_back a b word parts is = bits_back a b (let P : List ℕ → Type 0 = IsBit
 word_join : (a b : List ℕ) → IsWord a → IsBits b → length a + length b ≤ 12 → IsWord (a ++ b)
 word_join a b h k short = record { bits = IsBits-append a b h.bits k; short = omega (arith, length-append a b) }
 
+lt_or_le : (m n : ℕ) → (m < n) ⊎ (n ≤ m)
+lt_or_le m n = grind arith
+
 below_or : (m n : ℕ) → m < n + 1 → (m < n) ⊎ (m ≡ n)
 below_or m n h = grind arith
 
@@ -46,15 +49,20 @@ module _ (marks : List ℕ) (plane : ℕ) (first : List ℕ) (size : ℕ) (whole
   mark_of words number back power many writes =
       let same : 2 ^ length back ≡ words = ap (λ n. 2 ^ n) many ∙ sym power in omega arith
 
+  -- where none of some words has its mark set, none is added
   pub behind_skip :
-      (old mid : List ℕ) (words number : ℕ) → words ≡ 2 ^ size → is_marked marks (plane + words + number) ≡ false
-      → Extends old mid (Behind number) → Extends old mid (Behind (number + 1))
-  behind_skip old mid words number power not e =
-      extends_same old mid (Behind number) (Behind (number + 1)) e (behind_more number)
-      (λ word mark is h. elim (below_or (number_of h.0.back) number h.0.below) [
+      (old mid : List ℕ) (words number upto : ℕ) → words ≡ 2 ^ size → number ≤ upto
+      → ((k : ℕ) → number ≤ k → k < upto → is_marked marks (plane + words + k) ≡ false)
+      → Extends old mid (Behind number) → Extends old mid (Behind upto)
+  behind_skip old mid words number upto power further not e =
+      extends_same old mid (Behind number) (Behind upto) e
+      (λ word mark is h. let b = h.0.below in (record { back = h.0.back; parts = h.0.parts; many = h.0.many; below = omega arith; marked = h.0.marked }, h.1))
+      (λ word mark is h. elim (lt_or_le (number_of h.0.back) number) [
         | inl b ↦ (record { back = h.0.back; parts = h.0.parts; many = h.0.many; below = b; marked = h.0.marked }, h.1)
-        | inr same ↦
-            let there : is_marked marks (plane + words + number) ≡ true = ap (λ n. is_marked marks n) (mark_of words number h.0.back power h.0.many same) ∙ h.0.marked in
+        | inr high ↦
+            let k = number_of h.0.back in
+            let unmarked = not k high h.0.below in
+            let there : is_marked marks (plane + words + k) ≡ true = ap (λ n. is_marked marks n) (mark_of words k h.0.back power h.0.many refl) ∙ h.0.marked in
             absurd (cc)
       ])
 
@@ -254,14 +262,18 @@ module _ (first rest : List ℕ) (size : ℕ) where
       let same : 2 ^ length front ≡ words = ap (λ n. 2 ^ n) many ∙ sym power in omega arith
 
   pub after_skip :
-      (old mid : List ℕ) (words number : ℕ) → words ≡ 2 ^ size → is_marked first (words + number) ≡ false
-      → Extends old mid (IsAfter first rest size number) → Extends old mid (IsAfter first rest size (number + 1))
-  after_skip old mid words number power not e =
-      extends_same old mid (IsAfter first rest size number) (IsAfter first rest size (number + 1)) e (after_more number)
-      (λ word mark is h. elim (below_or (number_of h.front) number h.below) [
+      (old mid : List ℕ) (words number upto : ℕ) → words ≡ 2 ^ size → number ≤ upto
+      → ((k : ℕ) → number ≤ k → k < upto → is_marked first (words + k) ≡ false)
+      → Extends old mid (IsAfter first rest size number) → Extends old mid (IsAfter first rest size upto)
+  after_skip old mid words number upto power further not e =
+      extends_same old mid (IsAfter first rest size number) (IsAfter first rest size upto) e
+      (λ word mark is h. let b = h.below in record { front = h.front; is = h.is; many = h.many; below = omega arith; key = h.key; behind = h.behind })
+      (λ word mark is h. elim (lt_or_le (number_of h.front) number) [
         | inl b ↦ record { front = h.front; is = h.is; many = h.many; below = b; key = h.key; behind = h.behind }
-        | inr same ↦
-            let there : is_marked first (words + number) ≡ true = ap (λ n. is_marked first n) (whole_mark words number h.front power h.many same) ∙ h.key in
+        | inr high ↦
+            let k = number_of h.front in
+            let unmarked = not k high h.below in
+            let there : is_marked first (words + k) ≡ true = ap (λ n. is_marked first n) (whole_mark words k h.front power h.many refl) ∙ h.key in
             absurd (cc)
       ])
 

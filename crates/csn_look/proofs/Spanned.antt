@@ -57,9 +57,9 @@ module _ (nodes : List Node) where
   pub span_parts : {i end : ℕ} {n : Node} → slice_get nodes i ≡ Some n → Spans nodes i end → PartsSpan nodes (parts_of n) (suc i) end
   span_parts {i} {end} {n} at (spans m is h) = let same : m ≡ n = cc in subst (λ k. PartsSpan nodes (parts_of k) (suc i) end) same h
 
--- where the sets of all later nodes are known, those of its parts are
-pub parts_known : (d : DescV) (i : ℕ) (n : Node) (known : List NodeSets) → IsDescription d → slice_get d.nodes i ≡ Some n → ((j : ℕ) → i < j → j < length d.nodes → IsKnown d known j) → AreKnown d known (parts_of n)
-parts_known d i n known is at later j p there =
+-- what holds of all later nodes holds of its parts
+pub parts_later : (d : DescV) (i : ℕ) (n : Node) (P : ℕ → Type 0) → IsDescription d → slice_get d.nodes i ≡ Some n → ((j : ℕ) → i < j → j < length d.nodes → P j) → (j p : ℕ) → slice_get (parts_of n) j ≡ Some p → P p
+parts_later d i n P is at later j p there =
     let inside = slice_get_within d.nodes i n at in
     let s = span_inside d.nodes i is.numbered (omega arith) inside in
     let parts = span_parts d.nodes at s.span in
@@ -67,6 +67,10 @@ parts_known d i n known is at later j p there =
     let high = part_before d.nodes j p parts there in
     let end = s.within in
     later p (omega arith) (omega arith)
+
+-- where the sets of all later nodes are known, those of its parts are
+pub parts_known : (d : DescV) (i : ℕ) (n : Node) (known : List NodeSets) → IsDescription d → slice_get d.nodes i ≡ Some n → ((j : ℕ) → i < j → j < length d.nodes → IsKnown d known j) → AreKnown d known (parts_of n)
+parts_known d i n known is at later = parts_later d i n (IsKnown d known) is at later
 
 -- the sets of one node more
 pub known_more : (d : DescV) (i : ℕ) (known : List NodeSets) (sets : NodeSets) → length known ≡ length d.nodes → SetsAre d i sets → ((j : ℕ) → i < j → j < length d.nodes → IsKnown d known j) → (j : ℕ) → i ≤ j → j < length d.nodes → IsKnown d (set known i sets) j

@@ -14,9 +14,9 @@ pub record IsFront (front word : List ℕ) : Type 0 where
   pub back : List ℕ
   pub parts : word ≡ front ++ next ∷ back
 
--- one key more, and marks for its prefixes
+-- one key more, and in a table marks for its prefixes
 pub record AddsKey (old new word : List ℕ) (whole : Bool) : Type 0 where
   pub keys : Adds old new (λ key mark. (key ≡ word) × (mark ≡ whole))
   pub starts :
-      (front : List ℕ) → IsWord front
+      IsKeyTable old → (front : List ℕ) → IsWord front
       → IsTrue (is_marked new (16384 + place_of front)) ↔ (IsTrue (is_marked old (16384 + place_of front)) ⊎ IsFront front word)

@@ -16,6 +16,9 @@ pub mod Sums
 pub mod Counts
 pub mod NodeSets
 pub mod LookV
+pub mod LookKeys
+pub mod KeyRows
+pub mod MadeProducts
 pub mod ReachV
 pub mod Steps
 pub mod FollowV

@@ -47,7 +47,8 @@ pub(crate) fn begins_with_key(marks: &[u64], place: usize) -> bool
     is_key(marks, 1)
 }
 
-/// Makes the word with this place a key, and its prefixes the beginnings of one.
+/// Makes the word with this place a key, and its prefixes the beginnings of one. Where one of them begins a key
+/// already, so do all before it.
 pub(crate) fn add_key(marks: &mut [u64], place: usize, whole: bool)
     requires size { length marks.old ≡ 384 }
     requires some { 0 < place }
@@ -58,6 +59,9 @@ pub(crate) fn add_key(marks: &mut [u64], place: usize, whole: bool)
     let mut at = place;
     while at > 1 {
         at /= 2;
+        if is_marked(marks, STARTS + at) {
+            return;
+        }
         set_mark(marks, STARTS + at);
     }
 }

@@ -6,7 +6,7 @@ ghost use Rattle.csn_look.specs.KeyTables.{IsKeyTable};
 ghost use Rattle.csn_look.specs.KeySteps.{Extends, IsBehind, IsKeyBehind, IsAfter};
 
 use crate::key_marks::{CUT, STARTS, add_key};
-use crate::marks::is_marked;
+use crate::marks::next_marked;
 
 /// How many words of so many bits there are, which is also the place of the first of them.
 pub(crate) fn words_of(size: usize) -> usize
@@ -48,10 +48,12 @@ fn add_marked(
     requires room { (front + 1) * words ≤ 8192 }
     ensures { (first : List ℕ) (size : ℕ) → IsWord first → place_of first ≡ front → words ≡ 2 ^ size → length first + size ≤ 12 → Extends marks.old marks.new (λ word mark. IsBehind rest.now plane first size words word × (mark ≡ whole)) }
 {
-    for number in 0..words {
-        if is_marked(rest, plane + words + number) {
-            add_key(marks, front * words + number, whole);
-        }
+    let start = plane + words;
+    let end = start + words;
+    let mut at = next_marked(rest, start, end);
+    while at < end {
+        add_key(marks, front * words + (at - start), whole);
+        at = next_marked(rest, at + 1, end);
     }
 }
 
@@ -92,10 +94,10 @@ fn add_after_wholes(marks: &mut [u64], first: &[u64], rest: &[u64], size: usize)
     ensures { IsKeyTable rest.now → Extends marks.old marks.new (IsAfter first.now rest.now size (2 ^ size)) }
 {
     let words = words_of(size);
-    for number in 0..words {
-        if is_marked(first, words + number) {
-            add_behind(marks, words + number, rest, 12 - size);
-        }
+    let mut at = next_marked(first, words, 2 * words);
+    while at < 2 * words {
+        add_behind(marks, at, rest, 12 - size);
+        at = next_marked(first, at + 1, 2 * words);
     }
 }
 

@@ -1,4 +1,6 @@
-ghost use Rattle.std.specs.Prelude.{◌≡◌, ◌<◌, ◌≤◌, ◌+◌, ◌++◌, [], List, ℕ, length, slice_index_or, IfOk, OnErr};
+ghost use Rattle.std.specs.Prelude.{◌≡◌, ◌<◌, ◌≤◌, ◌+◌, ◌%◌, ◌++◌, [], List, ℕ, length, slice_index, slice_index_or, IfOk, OnErr};
+ghost use Rattle.csn_look.specs.KeyProducts.{AfterKeys};
+ghost use Rattle.csn_look.specs.KeyRows.{table_of, HasTable};
 
 use crate::key_table::KeyTable;
 use csn_bits::NoMemory;
@@ -64,5 +66,23 @@ impl KeyTables {
         self.tables.push(table)?;
         self.likely.insert(digest, at)?;
         Ok(at)
+    }
+
+    /// Keeps the table of the keys of a first part and of what comes after it, which is in a table of its own for
+    /// each number of bits modulo 8 that the first part may have; and answers its number.
+    pub(crate) fn keep_after(
+        &mut self,
+        alloc: Global,
+        first: usize,
+        rests: &[usize; 8],
+    ) -> Result<usize, NoMemory>
+        requires first { first < length self.old }
+        requires rests { (size : ℕ) → size < 8 → slice_index rests.now size < length self.old }
+        ensures kept { IfOk result (λ at. HasTable self.new at (AfterKeys (table_of self.old first) (λ size. table_of self.old (slice_index rests.now (size % 8))))) }
+        ensures more { (more : List (List ℕ)) × (self.new ≡ self.old ++ more) }
+    {
+        let mut table = KeyTable::new(alloc)?;
+        table.add_after(&self.tables[first], self.tables.as_slice(), rests);
+        self.keep(table)
     }
 }

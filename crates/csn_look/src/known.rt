@@ -278,7 +278,7 @@ fn literal_starts(run: &Run, bit: u8) -> OctetSet
 }
 
 /// The octet positions at which a spare bit may be this one.
-fn spare_starts(reading: Reading, symbol: Symbol, bit: u8) -> OctetSet
+pub(crate) fn spare_starts(reading: Reading, symbol: Symbol, bit: u8) -> OctetSet
     requires { bit ≤ 1 }
     ensures { OctetsAre result (λ o. IsSpare reading symbol o (bit ∷ [])) }
 {
@@ -302,7 +302,7 @@ fn symbol_starts(symbol: Symbol, bit: u8) -> OctetSet
 }
 
 /// The bit that a symbol stands for at an octet position.
-fn bit_of_symbol(symbol: Symbol, octet: u8) -> u8
+pub(crate) fn bit_of_symbol(symbol: Symbol, octet: u8) -> u8
     requires { octet ≤ 7 }
     ensures { result ≡ symbol_bit symbol octet }
 {

@@ -5,17 +5,21 @@ mod follow;
 mod following;
 mod key_marks;
 mod key_products;
+mod key_rows;
 mod key_set;
 mod key_table;
 mod key_tables;
 mod known;
 pub mod laws;
 mod look;
+#[cfg(test)]
+mod look_tests;
 mod marks;
 mod node_sets;
 mod octet_set;
 mod reach;
 mod symbol_set;
+mod table_maker;
 #[cfg(test)]
 mod tests;
 mod word;

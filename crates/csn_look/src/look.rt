@@ -3,15 +3,23 @@ ghost use Rattle.csn_desc.specs.Nodes.{DescV};
 ghost use Rattle.csn_look.specs.Nullable.{Nullable};
 ghost use Rattle.csn_look.specs.Ends.{InEnds};
 ghost use Rattle.csn_look.specs.Starts.{InFirst};
-ghost use Rattle.csn_look.specs.Keys.{IsFirm};
+ghost use Rattle.csn_look.specs.Keys.{IsFirm, InKeys};
 ghost use Rattle.csn_look.specs.Told.{OctetsAre, SignsAre, FollowHas};
 ghost use Rattle.csn_look.specs.NodeSets.{LengthsAre, IsLookOf};
+ghost use Rattle.csn_look.specs.KeyMarks.{KeysAre};
+ghost use Rattle.csn_look.specs.KeyLists.{IsKeyList};
+ghost use Rattle.csn_look.specs.LookKeys.{table_at, IsKeysOf, ListsKeys};
 
 use crate::follow::Follow;
+use crate::key_rows::rows_of;
+use crate::key_set::KeySet;
+use crate::key_table::KeyTable;
+use crate::key_tables::KeyTables;
 use crate::known::Known;
 use crate::node_sets::NodeSets;
 use crate::octet_set::OctetSet;
 use crate::symbol_set::{Sign, SymbolSet};
+use crate::table_maker::TableMaker;
 use crate::word::MOST_WORD;
 use csn_bits::NoMemory;
 use csn_desc::Desc;
@@ -19,38 +27,40 @@ use std::alloc::Global;
 use std::marker::Model;
 
 /// What look-ahead knows of the nodes of a description, in tables that are made once. A contract sees the
-/// sets of each node, and `IsLookOf` says that they are those of a description.
+/// sets of each node, and `IsLookOf` says that they are those of a description; and it sees the tables of
+/// keys, which `table_at` finds, and `IsKeysOf` says that they have the keys of a description.
 #[derive(Drop)]
 pub struct Look {
     sets: Vec<NodeSets>,
+    tables: KeyTables,
+    // for each node, and each octet position from 0 to 7, which table has its keys
+    rows: Vec<[usize; 8]>,
 }
 
 impl Model for Look {
-    ghost use Rattle.csn_look.specs.LookV.{LookV, look_code};
+    ghost use Rattle.std.specs.Prelude.{length};
+    ghost use Rattle.csn_look.specs.LookV.{LookV, AreRows, look_code};
 
     ghost Value = { LookV };
 
     ghost coded = { look_code };
 
-    ghost view = { λ l. record { sets = l.sets.items } };
+    ghost view = { λ l. record { sets = l.sets.items; tables = l.tables; rows = l.rows.items } };
+
+    ghost invariant = { λ l. AreRows (length l.tables) l.rows.items };
 }
 
 impl Look {
-    /// What look-ahead knows of a description. Its nodes are gone through once, the last one first.
+    /// What look-ahead knows of a description.
     pub fn new(alloc: Global, desc: &Desc) -> Result<Look, NoMemory>
-        ensures { IfOk result (λ look. IsLookOf desc.now look.sets) }
+        ensures sets { IfOk result (λ look. IsLookOf desc.now look.sets) }
+        ensures keys { IfOk result (λ look. IsKeysOf desc.now look) }
     {
-        let count = desc.len();
-        let mut sets = no_sets(alloc, count)?;
-        for i in (0..count).rev() {
-            let known = Known {
-                desc,
-                sets: sets.as_slice(),
-            };
-            let node = known.node(desc.node(i));
-            sets[i as usize] = node;
-        }
-        Ok(Look { sets })
+        let sets = sets_of(alloc, desc)?;
+        let mut maker = TableMaker::new(alloc);
+        let rows = rows_of(alloc, desc, &mut maker)?;
+        let tables = maker.into_tables();
+        Ok(Look { sets, tables, rows })
     }
 
     /// Whether a node may have no bits.
@@ -93,6 +103,27 @@ impl Look {
             .with_if(Sign::One, sets.one.has(octet))
     }
 
+    /// The keys of a node at an octet position, which is from 0 to 7, in the table that was made of them.
+    pub fn key_table(&self, node: u16, octet: u8) -> &KeyTable
+        requires node { node < length self.now.rows }
+        requires octet { octet ≤ 7 }
+        ensures table { result.now ≡ table_at self.now node octet }
+        ensures keys { (d : DescV) → IsKeysOf d self.now → KeysAre result.now (InKeys d MOST_WORD node octet) }
+    {
+        let row = self.rows[node as usize];
+        self.tables.get(row[octet as usize])
+    }
+
+    /// The keys of a node at an octet position, which is from 0 to 7, in a list.
+    pub fn keys(&self, alloc: Global, node: u16, octet: u8) -> Result<KeySet, NoMemory>
+        requires node { node < length self.now.rows }
+        requires octet { octet ≤ 7 }
+        ensures table { IfOk result (λ keys. IsKeyList (table_at self.now node octet) keys) }
+        ensures keys { (d : DescV) → IsKeysOf d self.now → IfOk result (λ keys. ListsKeys keys (InKeys d MOST_WORD node octet)) }
+    {
+        self.key_table(node, octet).keys(alloc)
+    }
+
     /// How many bits a node may have, modulo 8.
     pub(crate) fn lengths(&self, node: u16) -> OctetSet
         requires { node < length self.now.sets }
@@ -108,6 +139,23 @@ impl Look {
     {
         self.sets[node as usize]
     }
+}
+
+/// The sets of all nodes of a description. Its nodes are gone through once, the last one first.
+fn sets_of(alloc: Global, desc: &Desc) -> Result<Vec<NodeSets>, NoMemory>
+    ensures { IfOk result (λ sets. IsLookOf desc.now sets.items) }
+{
+    let count = desc.len();
+    let mut sets = no_sets(alloc, count)?;
+    for i in (0..count).rev() {
+        let known = Known {
+            desc,
+            sets: sets.as_slice(),
+        };
+        let node = known.node(desc.node(i));
+        sets[i as usize] = node;
+    }
+    Ok(sets)
 }
 
 /// As many sets of nothing as there are nodes.

@@ -1,6 +1,6 @@
 //! Marks, each a bit of a list of numbers of 64 bits, the least significant one first.
 
-ghost use Rattle.std.specs.Prelude.{◌≡◌, ℕ, ◌*◌, ◌<◌, ◌||◌, nat_eq, length};
+ghost use Rattle.std.specs.Prelude.{◌≡◌, ℕ, ◌*◌, ◌<◌, ◌≤◌, true, false, ◌||◌, nat_eq, length};
 ghost use Rattle.csn_look.specs.KeyMarks.{is_marked};
 
 /// Whether the mark is set.
@@ -9,6 +9,29 @@ pub(crate) fn is_marked(marks: &[u64], at: usize) -> bool
     ensures { result ≡ is_marked marks.now at }
 {
     (marks[at / 64] >> (at % 64)) % 2 == 1
+}
+
+/// The first place from this one on, and before an end, whose mark is set; and the end where there is none.
+pub(crate) fn next_marked(marks: &[u64], from: usize, end: usize) -> usize
+    requires size { length marks.now ≡ 384 }
+    requires order { from ≤ end }
+    requires within { end ≤ 24576 }
+    ensures low { from ≤ result }
+    ensures high { result ≤ end }
+    ensures none { (at : ℕ) → from ≤ at → at < result → is_marked marks.now at ≡ false }
+    ensures here { result < end → is_marked marks.now result ≡ true }
+{
+    let mut at = from;
+    while at < end {
+        if marks[at / 64] == 0 {
+            at = 64 * (at / 64 + 1);
+        } else if is_marked(marks, at) {
+            return at;
+        } else {
+            at += 1;
+        }
+    }
+    end
 }
 
 /// Sets a mark.

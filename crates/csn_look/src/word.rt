@@ -64,6 +64,17 @@ impl Word {
         self.bits[at as usize]
     }
 
+    /// The same word once more.
+    pub fn copy(&self) -> Word
+        ensures { result ≡ self.now }
+    {
+        let mut word = Word::new();
+        for at in 0..self.len() {
+            word.push(self.get(at));
+        }
+        word
+    }
+
     /// The place of the word among all words: the number that a 1 and then its bits write.
     pub(crate) fn place(&self) -> usize
         ensures value { result ≡ place_of self.now }

@@ -1,6 +1,6 @@
 use Rattle.std.proofs.Common.{◌||◌, nat_eq, arith, sym, ap, ◌∙◌}
 use Rattle.csn_look.specs.KeyMarks.{is_marked, key_mark}
-use Rattle.csn_look.proofs.KeyMarkFacts.{raised_first, raised_next, raised_last}
+use Rattle.csn_look.proofs.KeyMarkFacts.{raised_first, raised_next, raised_last, raised_enough}
 use Rattle.csn_look.proofs.key_marks.add_key.Goals as goal
 
 pub loop-at-init : goal.loop-at-init
@@ -14,8 +14,14 @@ loop-at-preserved c = (
   λ word is here. raised_next c.set_mark.new.marks c.loop-at.marks c.set_mark-in-loop-at.new.marks word c.loop-at.at is c.loop-at-test.true c.set_mark-in-loop-at.ensures (c.loop-at.invariant.2 word is here),
 )
 
+pub returns-then-is_marked : goal.returns-then-is_marked
+returns-then-is_marked c = λ word is here.
+    raised_enough c.args.marks.now c.set_mark.new.marks c.loop-at.marks word c.loop-at.at c.args.whole is
+    (λ n. c.set_mark.ensures n ∙ ap (λ m. nat_eq n m || is_marked c.args.marks.now n) (c.key_mark.ensures ∙ ap (λ p. key_mark p c.args.whole) (sym here)))
+    (c.loop-at.invariant.2 word is here) c.loop-at-test.true (sym c.is_marked.ensures ∙ c.if-is_marked.true)
+
 pub returns : goal.returns
 returns c = λ word is here.
-    raised_last c.args.marks.now c.set_mark.new.marks c.loop-at.marks word c.loop-at.at c.args.whole is (omega arith)
+    raised_last c.args.marks.now c.set_mark.new.marks c.loop-at.marks word c.loop-at.at c.args.whole is
     (λ n. c.set_mark.ensures n ∙ ap (λ m. nat_eq n m || is_marked c.args.marks.now n) (c.key_mark.ensures ∙ ap (λ p. key_mark p c.args.whole) (sym here)))
-    (c.loop-at.invariant.2 word is here)
+    (c.loop-at.invariant.2 word is here) (omega arith)

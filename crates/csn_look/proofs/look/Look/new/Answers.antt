@@ -1,34 +1,19 @@
-use Rattle.std.proofs.Common.{◌-◌, List, sym, subst, arith, ◌∙◌}
-use Rattle.std.proofs.Math.ListN.{length-set}
-use Rattle.csn_desc.specs.Nodes.{parts_of}
-use Rattle.csn_look.specs.declared.node_sets.NodeSets.{NodeSets}
-use Rattle.csn_look.specs.NodeSets.{AreKnown}
-use Rattle.csn_look.proofs.Spanned.{parts_known, known_more}
-use Rattle.csn_look.proofs.Tells.{node_at}
+use Rattle.std.proofs.Common.{ℕ, List, length, sym, subst}
+use Rattle.csn_look.specs.LookV.{AreRows}
+use Rattle.csn_look.specs.LookKeys.{IsKeysOf}
+use Rattle.csn_look.proofs.RowsMade.{keys_of, rows_are}
 use Rattle.csn_look.proofs.look.Look.new.Goals as goal
 
-pub node-node-requires : goal.node-node-requires
-node-node-requires c =
-    let d = c.args.desc.now in
-    let node = c.node.result.now in
-    subst (λ (known : List NodeSets). AreKnown d known (parts_of node)) (sym c.as_slice.ensures.value)
-    (parts_known d (c.loop-i.i - 1) node c.loop-i.sets.items c.len-count.ensures.description c.node.ensures
-    (λ j low high. c.loop-i.invariant.1 j (omega (arith, low)) high))
+pub invariant_of-result : goal.invariant_of-result
+invariant_of-result c =
+    let rows = c.in_ok-rows.rows.items in
+    let P : List (List ℕ) → Type 0 = λ tables. AreRows (length tables) rows in
+    subst P (sym c.into_tables-tables.ensures) (rows_are c.args.desc.now c.rows_of.new.tables rows c.in_ok-rows.ensures)
 
-pub loop-i-preserved : goal.loop-i-preserved
-loop-i-preserved c =
+pub returns-clause-keys : goal.returns-clause-keys
+returns-clause-keys c =
     let d = c.args.desc.now in
-    let items = c.loop-i.sets.items in
-    let sets = c.node-node.result in
-    let at = c.loop-i.i - 1 in (
-      length-set items at sets ∙ c.loop-i.invariant.0,
-      known_more d at items sets c.loop-i.invariant.0 (node_at d at c.node.result.now sets c.node.ensures c.node-node.ensures)
-          (λ j low high. c.loop-i.invariant.1 j (omega (arith, low)) high),
-    )
-
-pub returns : goal.returns
-returns c =
-    record {
-      same = c.loop-i.invariant.0;
-      known = λ j high. c.loop-i.invariant.1 j (omega arith) high;
-    }
+    let sets = c.in_ok-sets.sets.items in
+    let rows = c.in_ok-rows.rows.items in
+    let P : List (List ℕ) → Type 0 = λ tables. IsKeysOf d (record { sets = sets; tables = tables; rows = rows }) in
+    subst P (sym c.into_tables-tables.ensures) (keys_of d sets c.rows_of.new.tables rows c.in_ok-rows.ensures)

@@ -1,6 +1,6 @@
 use Rattle.std.proofs.Common.{◌≡◌, ℕ, ◌<◌, ◌≤◌, length}
 use Rattle.csn_look.specs.NodeSets.{IsKnown}
-use Rattle.csn_look.proofs.look.Look.new.Given as goal
+use Rattle.csn_look.proofs.look.sets_of.Given as goal
 
 abbrev pub invariant-loop-i : goal.invariant-loop-i
 invariant-loop-i l =

@@ -1,0 +1,20 @@
+use Rattle.std.proofs.Common.{ℕ, List, sym, subst, arith}
+use Rattle.csn_look.specs.KeyMarks.{KeysAre}
+use Rattle.csn_look.specs.Keys.{InKeys}
+use Rattle.csn_look.proofs.RowKeys.{choice_none, choice_next, choice_all}
+use Rattle.csn_look.proofs.key_rows.Rowed.union.Goals as goal
+
+pub loop-at-init : goal.loop-at-init
+loop-at-init c = choice_none c.args.self.now.desc.now c.args.parts.now c.args.octet c.in_ok-table.table c.in_ok-table.ensures
+
+pub loop-at-preserved : goal.loop-at-preserved
+loop-at-preserved c =
+    let d = c.args.self.now.desc.now in
+    let other = c.get-in-loop-at.result.now in
+    let P : List ℕ → Type 0 = λ m. KeysAre m (InKeys d 12 c.get.result c.args.octet) in
+    choice_next d c.args.parts.now c.args.octet c.loop-at.table c.add_all.new.self other c.loop-at.at c.get.result c.get.ensures c.loop-at.invariant
+    (subst P (sym c.get-in-loop-at.ensures) (c.of-row.ensures.keys c.args.octet c.requires.octet).keys)
+    c.add_all.ensures
+
+pub returns : goal.returns
+returns c = choice_all c.args.self.now.desc.now c.args.parts.now c.args.octet c.loop-at.table c.loop-at.at (omega (arith, c.len-at-end.ensures.len)) c.loop-at.invariant
