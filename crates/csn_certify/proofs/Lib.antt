@@ -1,4 +1,12 @@
 pub mod Ranks
+pub mod Searching
+pub mod ConflictKinds
+pub mod SearchFacts
+pub mod ChoiceSearch
+pub mod RepeatSearch
+pub mod KeyOrder
+pub mod TablesMeet
+pub mod OverlapSearch
 pub mod ShorterWords
 pub mod Pieces
 pub mod Decisions
@@ -7,3 +15,7 @@ pub mod PickFacts
 pub mod PicksRight
 pub mod BeginsString
 pub mod NoFurther
+pub mod OnePick
+pub mod Choices
+pub mod Answered
+pub mod ExampleFacts

@@ -10,9 +10,10 @@ use Rattle.csn_desc.specs.Follows.{NFollow}
 use Rattle.csn_desc.specs.Formed.{IsDescription}
 use Rattle.csn_look.specs.Reached.{Reached}
 use Rattle.csn_certify.specs.declared.conflict.Conflict.{Conflict}
+use Rattle.csn_certify.specs.declared.pick.Pick.{Pick}
 use Rattle.csn_certify.specs.declared.pick.Pick.TheVariants.{Take, Leave, Refuse}
 use Rattle.csn_certify.specs.Conflicts.{IsFirstConflict, Certified}
-use Rattle.csn_certify.specs.Picks.{Picks}
+use Rattle.csn_certify.specs.Picks.{IsAsked, Picks}
 use Rattle.csn_certify.specs.Ahead.{FitWidths, LiesAhead}
 
 abbrev pub FirstConflictIsOne : Type 0
@@ -39,6 +40,14 @@ BlocksHaveOneTree =
     (d : DescV) (most : ℕ) (b : List ℕ) (t u : TreeV) → IsDescription d → Certified d most → NMeans d 0 0 [] b t
     → NMeans d 0 0 [] b u
     → t ≡ u
+
+-- look-ahead has at most one answer
+abbrev pub PicksAreOne : Type 0
+PicksAreOne =
+    (d : DescV) (most node octet : ℕ) (held : List ℕ) (ended : Bool) (p q : Pick)
+    → Certified d most → IsAsked d node octet → Picks d most node octet held ended p
+    → Picks d most node octet held ended q
+    → p ≡ q
 
 -- the tree is of the alternative with this number
 abbrev pub HasAlternative : ℕ → TreeV → Type 0

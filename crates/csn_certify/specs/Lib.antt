@@ -1,5 +1,10 @@
 pub mod Conflicts
+pub mod Search
+pub mod Overlaps
+pub mod Certifying
 pub mod Picks
+pub mod Choosing
+pub mod Plans
 pub mod Ahead
 pub mod Laws
 pub mod Examples

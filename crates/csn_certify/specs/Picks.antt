@@ -5,10 +5,22 @@ use Rattle.csn_desc.specs.declared.node.Node.TheVariants.{Choice, Many}
 use Rattle.csn_desc.specs.Nodes.{DescV}
 use Rattle.csn_look.specs.Starts.{InStart}
 use Rattle.csn_look.specs.Keys.{InKeys}
-use Rattle.csn_look.specs.Reached.{InFollow}
+use Rattle.csn_look.specs.Reached.{Reached, InFollow}
 use Rattle.csn_certify.specs.declared.pick.Pick.{Pick}
 use Rattle.csn_certify.specs.declared.pick.Pick.TheVariants.{Take, Leave, Wait, Refuse}
 use Rattle.csn_certify.specs.Conflicts.{IsNull, IsBegunBy}
+
+module _ (d : DescV) where
+  -- where look-ahead is asked: at a choice that is reached, and at a free repetition whose part is
+  pub data IsAsked : ℕ → ℕ → Type 0 where
+    asked_choice :
+        {node octet : ℕ}
+        (parts : List ℕ) → slice_get d.nodes node ≡ Some (Choice parts) → Reached d node octet
+        → IsAsked node octet
+    asked_many :
+        {node octet : ℕ}
+        (part : ℕ) → slice_get d.nodes node ≡ Some (Many part) → Reached d part octet
+        → IsAsked node octet
 
 module _ (d : DescV) (most : ℕ) where
   -- the held bits begin with a key of the alternative j, which takes bits

@@ -1,6 +1,6 @@
 //! Laws over the definitions, each the contract of a function that does nothing.
 
-ghost use Rattle.csn_certify.specs.Laws.{FirstConflictIsOne, CertifiedHasNoConflict, LongerWordsCertify, NoContinuation, BlocksHaveOneTree, ChoicesTakeTheOne, ChoicesRefuseNone, RepetitionsGoOn, RepetitionsStop, FollowedTakeTheOne, FollowedRefuseNone, FollowedBeginStrings, FollowedInOneWay};
+ghost use Rattle.csn_certify.specs.Laws.{FirstConflictIsOne, CertifiedHasNoConflict, LongerWordsCertify, NoContinuation, BlocksHaveOneTree, PicksAreOne, ChoicesTakeTheOne, ChoicesRefuseNone, RepetitionsGoOn, RepetitionsStop, FollowedTakeTheOne, FollowedRefuseNone, FollowedBeginStrings, FollowedInOneWay};
 
 /// A description has at most one first conflict, and is not certified where it has one.
 pub fn first_conflict_is_one()
@@ -23,6 +23,11 @@ pub fn no_continuation()
 /// Any bits, of any length, have at most one tree where the description is certified.
 pub fn blocks_have_one_tree()
     ensures { BlocksHaveOneTree }
+{}
+
+/// Look-ahead has at most one answer where the description is certified.
+pub fn picks_are_one()
+    ensures { PicksAreOne }
 {}
 
 /// What look-ahead answers is right, where the description is certified: every tree of what lies ahead at a

@@ -2,9 +2,23 @@
 //! where it cannot.
 #![tactic(auto)]
 
+mod alternatives;
+mod certifying;
+mod clashes;
 mod conflict;
+pub mod examples;
+mod lasts;
 pub mod laws;
+mod meets;
+mod overlaps;
 mod pick;
+mod plan;
+mod repeats;
+mod search;
+mod steps;
 
+pub use certifying::{CertifyFault, certify};
 pub use conflict::Conflict;
 pub use pick::Pick;
+pub use plan::Plan;
+pub use steps::Steps;

@@ -1,0 +1,45 @@
+use Rattle.std.proofs.Common.{inr}
+use Rattle.csn_certify.proofs.SearchFacts.{denied}
+use Rattle.csn_certify.specs.Overlaps.{MeetUnder}
+use Rattle.csn_certify.proofs.TablesMeet.{apart_left, apart_right, by_left_key, by_right_key, no_touch, never, always, met_at_zero, met_at_one}
+use Rattle.csn_certify.proofs.meets.+tables_meet.Goals as goal
+
+pub returns-in-Neither : goal.returns-in-Neither
+returns-in-Neither t c =
+    let left = c.args.left.now in
+    let right = c.args.right.now in
+    let word = c.args.word.now in
+    never (MeetUnder left right word) (apart_left left right word c.requires (no_touch left word c.in-Neither.ensures.0 c.in-Neither.ensures.1))
+
+pub returns-in-Key : goal.returns-in-Key
+returns-in-Key t c = by_left_key c.args.left.now c.args.right.now c.args.word.now c.requires c.touches.result c.in-Key.ensures c.touches.ensures
+
+pub returns-in-Neither-begins : goal.returns-in-Neither-begins
+returns-in-Neither-begins t c =
+    let left = c.args.left.now in
+    let right = c.args.right.now in
+    let word = c.args.word.now in
+    never (MeetUnder left right word) (apart_right left right word c.requires (no_touch right word c.in-Neither-begins.ensures.0 c.in-Neither-begins.ensures.1))
+
+pub returns-in-Key-begins : goal.returns-in-Key-begins
+returns-in-Key-begins t c =
+    let left = c.args.left.now in
+    let right = c.args.right.now in
+    let word = c.args.word.now in
+    always (MeetUnder left right word) (by_right_key left right word c.requires (inr c.in-Proper.ensures.1) c.in-Key-begins.ensures)
+
+pub returns-then-tables_meet : goal.returns-then-tables_meet
+returns-then-tables_meet t c =
+    let left = c.args.left.now in
+    let right = c.args.right.now in
+    let word = c.args.word.now in
+    always (MeetUnder left right word)
+    (met_at_zero left right word c.requires c.in-Proper.ensures.0 c.in-Proper-begins.ensures.0 c.longer.result c.longer.ensures (c.tables_meet.ensures.0 c.if-tables_meet.true))
+
+pub returns-else-tables_meet : goal.returns-else-tables_meet
+returns-else-tables_meet t c =
+    let left = c.args.left.now in
+    let right = c.args.right.now in
+    let word = c.args.word.now in
+    met_at_one left right word c.requires c.in-Proper.ensures.0 c.in-Proper-begins.ensures.0 c.tables_meet-in-Proper-begins.result c.longer.result c.longer-in-Proper-begins.result
+    c.longer.ensures c.longer-in-Proper-begins.ensures (denied c.tables_meet.result (MeetUnder left right c.longer.result) c.tables_meet.ensures c.if-tables_meet.false) c.tables_meet-in-Proper-begins.ensures

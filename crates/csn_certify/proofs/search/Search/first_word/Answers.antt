@@ -1,0 +1,21 @@
+use Rattle.std.proofs.Common.{ℕ, List, sym, subst, Some}
+use Rattle.csn_certify.specs.Overlaps.{IsFirstBegun}
+use Rattle.csn_certify.proofs.OverlapSearch.{only_key, begun_none, begun_some}
+use Rattle.csn_certify.proofs.search.Search.first_word.Goals as goal
+
+pub returns-in-Some : goal.returns-in-Some
+returns-in-Some c =
+    let d = c.args.self.now.desc.now in
+    let keys = c.in_ok-keys.keys in
+    let lists = c.in_ok-keys.ensures.keys d c.requires.known.keys in
+    let are = only_key c.in_ok-only.only c.add.new.self c.args.word.now c.in_ok-only.ensures c.add.ensures in
+    subst (λ (w : List ℕ). IsFirstBegun d c.args.octet c.args.part c.args.word.now (Some w)) (sym c.copy.ensures)
+    (begun_some d c.args.octet c.args.part keys lists c.add.new.self c.args.word.now c.requires.word are c.in-Some.at c.get.result.now c.in-Some.ensures c.get.ensures)
+
+pub returns : goal.returns
+returns c =
+    let d = c.args.self.now.desc.now in
+    let keys = c.in_ok-keys.keys in
+    let lists = c.in_ok-keys.ensures.keys d c.requires.known.keys in
+    let are = only_key c.in_ok-only.only c.add.new.self c.args.word.now c.in_ok-only.ensures c.add.ensures in
+    begun_none d c.args.octet c.args.part keys lists c.add.new.self c.args.word.now c.requires.word are c.in-None.ensures

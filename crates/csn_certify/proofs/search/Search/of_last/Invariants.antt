@@ -1,0 +1,6 @@
+use Rattle.std.proofs.Common.{[], ◌∷◌}
+use Rattle.csn_certify.proofs.Searching.{NoneBelow}
+use Rattle.csn_certify.proofs.search.Search.of_last.Given as goal
+
+abbrev pub invariant-loop-octet : goal.invariant-loop-octet
+invariant-loop-octet l = NoneBelow l.self.desc.now (l.node ∷ 3 ∷ []) l.octet

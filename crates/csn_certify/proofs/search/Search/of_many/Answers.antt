@@ -1,0 +1,24 @@
+use Rattle.std.proofs.Common.{arith}
+use Rattle.csn_look.specs.Keys.{IsFirm}
+use Rattle.csn_certify.proofs.SearchFacts.{many_inside, denied, not_firm}
+use Rattle.csn_certify.proofs.RepeatSearch.{many_some, many_firm}
+use Rattle.csn_certify.proofs.search.Search.of_many.Goals as goal
+
+pub firm-requires : goal.firm-requires
+firm-requires c =
+    let inside = many_inside c.args.self.now.desc.now c.args.node c.args.part c.requires.known.description c.requires.many in
+    let same = c.requires.known.sets.same in
+    omega (arith, inside, same)
+
+pub returns-then-not-firm : goal.returns-then-not-firm
+returns-then-not-firm c =
+    let d = c.args.self.now.desc.now in
+    let sets = c.requires.known.sets in
+    let inside = many_inside d c.args.node c.args.part c.requires.known.description c.requires.many in
+    many_some d c.args.node c.args.part c.requires.many
+    (not_firm d c.args.self.now.look.now.sets c.args.part sets inside (denied c.firm.result (IsFirm d 12 c.args.part) (c.firm.ensures d sets) c.if-not-firm.true))
+
+pub returns : goal.returns
+returns c =
+    let d = c.args.self.now.desc.now in
+    many_firm d c.args.node c.args.part c.requires.many c.loop_clash.result ((c.firm.ensures d c.requires.known.sets).0 c.if-not-firm.false) c.loop_clash.ensures

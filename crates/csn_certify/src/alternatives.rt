@@ -1,0 +1,139 @@
+//! Conflicts of a choice.
+
+ghost use Rattle.std.specs.Prelude.{◌≡◌, ℕ, ◌<◌, ◌≤◌, ◌↔◌, [], ◌∷◌, length, slice_get, Some, IsTrue, IfSome, IfOk};
+ghost use Rattle.csn_desc.specs.declared.node.Node.TheVariants.{Choice};
+ghost use Rattle.csn_look.specs.Reached.{Reached};
+ghost use Rattle.csn_certify.specs.Conflicts.{IsNull};
+ghost use Rattle.csn_certify.specs.Search.{IsSurveyed, IsFirstUnder, IsLeastFrom, IsNullAt};
+
+use crate::conflict::Conflict;
+use crate::search::Search;
+use csn_bits::NoMemory;
+use csn_desc::{Node, Parts};
+use std::alloc::Global;
+
+impl Search<'_> {
+    /// The first conflict of a choice with these alternatives.
+    pub fn of_choice(
+        &self,
+        alloc: Global,
+        node: u16,
+        parts: &Parts,
+    ) -> Result<Option<Conflict>, NoMemory>
+        requires known { IsSurveyed self.now.desc.now self.now.look.now self.now.reach.now }
+        requires choice { slice_get self.now.desc.now.nodes node ≡ Some (Choice parts.now) }
+        ensures { IfOk result (IsFirstUnder self.now.desc.now (node ∷ [])) }
+    {
+        if let Some(conflict) = self.two_empty(node, parts) {
+            return Ok(Some(conflict));
+        }
+        if let Some(conflict) = self.choice_not_firm(node, parts) {
+            return Ok(Some(conflict));
+        }
+        self.choice_clash(alloc, node, parts)
+    }
+
+    /// Two alternatives that take no bits.
+    fn two_empty(&self, node: u16, parts: &Parts) -> Option<Conflict>
+        requires known { IsSurveyed self.now.desc.now self.now.look.now self.now.reach.now }
+        requires choice { slice_get self.now.desc.now.nodes node ≡ Some (Choice parts.now) }
+        ensures { IsFirstUnder self.now.desc.now (node ∷ 1 ∷ []) result }
+    {
+        let i = self.first_null(node, parts, 0)?;
+        let j = self.first_null(node, parts, i + 1)?;
+        Some(Conflict::TwoEmpty { node, i, j })
+    }
+
+    /// The first alternative of a choice that takes no bits, from one on.
+    fn first_null(&self, node: u16, parts: &Parts, from: u16) -> Option<u16>
+        requires known { IsSurveyed self.now.desc.now self.now.look.now self.now.reach.now }
+        requires choice { slice_get self.now.desc.now.nodes node ≡ Some (Choice parts.now) }
+        ensures least { IsLeastFrom from (IsNullAt self.now.desc.now parts.now) result }
+        ensures small { IfSome result (λ j. j < 16384) }
+    {
+        for j in from..parts.len() {
+            if self.is_null(parts.get(j)) {
+                return Some(j);
+            }
+        }
+        None
+    }
+
+    /// Whether a node takes no bits.
+    pub fn is_null(&self, node: u16) -> bool
+        requires { node < length self.now.desc.now.nodes }
+        ensures { IsTrue result ↔ IsNull self.now.desc.now node }
+    {
+        matches!(self.desc.node(node), Node::Null)
+    }
+
+    /// The first alternative that takes bits and is not firm.
+    fn choice_not_firm(&self, node: u16, parts: &Parts) -> Option<Conflict>
+        requires known { IsSurveyed self.now.desc.now self.now.look.now self.now.reach.now }
+        requires choice { slice_get self.now.desc.now.nodes node ≡ Some (Choice parts.now) }
+        ensures { IsFirstUnder self.now.desc.now (node ∷ 2 ∷ []) result }
+    {
+        for i in 0..parts.len() {
+            let part = parts.get(i);
+            if !self.is_null(part) & !self.look.firm(part) {
+                return Some(Conflict::NotFirm { node, i });
+            }
+        }
+        None
+    }
+
+    /// The first overlap or clash of a choice.
+    fn choice_clash(
+        &self,
+        alloc: Global,
+        node: u16,
+        parts: &Parts,
+    ) -> Result<Option<Conflict>, NoMemory>
+        requires known { IsSurveyed self.now.desc.now self.now.look.now self.now.reach.now }
+        requires choice { slice_get self.now.desc.now.nodes node ≡ Some (Choice parts.now) }
+        ensures { IfOk result (IsFirstUnder self.now.desc.now (node ∷ 3 ∷ [])) }
+    {
+        for octet in 0..8 {
+            if let Some(conflict) = self.choice_clash_at(alloc, node, parts, octet)? {
+                return Ok(Some(conflict));
+            }
+        }
+        Ok(None)
+    }
+
+    /// The first overlap or clash of a choice at an octet position.
+    fn choice_clash_at(
+        &self,
+        alloc: Global,
+        node: u16,
+        parts: &Parts,
+        octet: u8,
+    ) -> Result<Option<Conflict>, NoMemory>
+        requires known { IsSurveyed self.now.desc.now self.now.look.now self.now.reach.now }
+        requires choice { slice_get self.now.desc.now.nodes node ≡ Some (Choice parts.now) }
+        requires octet { octet ≤ 7 }
+        ensures { IfOk result (IsFirstUnder self.now.desc.now (node ∷ 3 ∷ octet ∷ [])) }
+    {
+        if !self.reach.reached(node).has(octet) {
+            return Ok(None);
+        }
+        if let Some(conflict) = self.overlap(alloc, node, parts, octet)? {
+            return Ok(Some(conflict));
+        }
+        Ok(self.empty_clash(node, parts, octet))
+    }
+
+    /// The first bit at an octet position that an alternative may begin with and that may follow the
+    /// choice, beside one that takes no bits.
+    fn empty_clash(&self, node: u16, parts: &Parts, octet: u8) -> Option<Conflict>
+        requires known { IsSurveyed self.now.desc.now self.now.look.now self.now.reach.now }
+        requires choice { slice_get self.now.desc.now.nodes node ≡ Some (Choice parts.now) }
+        requires octet { octet ≤ 7 }
+        requires reached { Reached self.now.desc.now node octet }
+        ensures { IsFirstUnder self.now.desc.now (node ∷ 3 ∷ octet ∷ 4 ∷ []) result }
+    {
+        self.first_null(node, parts, 0)?;
+        let bit = self.clashing_bit(node, node, octet)?;
+        Some(Conflict::EmptyClash { node, octet, bit })
+    }
+}

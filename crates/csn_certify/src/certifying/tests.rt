@@ -1,0 +1,230 @@
+use super::*;
+use csn_desc::{Count, DescBuilder, Head, Label, Reading, Run, Symbol};
+use csn_look::Word;
+use std::test::Fail;
+
+/// What comes next in a description: a node that has parts, a part, or the end of a node's parts.
+#[derive(Clone, Copy)]
+enum Step {
+    Seq,
+    Choice,
+    Many,
+    /// A literal of so many zeros and a last symbol.
+    Literal(u32, Symbol),
+    Null,
+    Rest,
+    /// A label on so many bits.
+    Bits(u32),
+    /// A label on a rest.
+    Any,
+    End,
+}
+
+const ZERO: Step = Step::Literal(0, Symbol::Zero);
+
+const ONE: Step = Step::Literal(0, Symbol::One);
+
+const LOW: Step = Step::Literal(0, Symbol::Low);
+
+fn enter(builder: &mut DescBuilder, head: Head) -> Result<(), Fail> {
+    if !builder.takes(&head) {
+        return Err(Fail::from("no node is taken there"));
+    }
+    builder.enter(head).map_err(|_| "no node")?;
+    Ok(())
+}
+
+fn end(builder: &mut DescBuilder) -> Result<(), Fail> {
+    if !builder.may_leave() {
+        return Err(Fail::from("a part is missing"));
+    }
+    builder.leave();
+    Ok(())
+}
+
+fn leaf(builder: &mut DescBuilder, head: Head) -> Result<(), Fail> {
+    enter(builder, head)?;
+    end(builder)
+}
+
+fn add(run: &mut Run, symbol: Symbol) -> Result<(), Fail> {
+    if run.len() >= 16 {
+        return Err(Fail::from("too many symbols"));
+    }
+    run.push(symbol).map_err(|_| "out of memory")?;
+    Ok(())
+}
+
+fn literal(alloc: Global, builder: &mut DescBuilder, zeros: u32, last: Symbol) -> Result<(), Fail> {
+    let mut run = Run::new(alloc);
+    for _ in 0..zeros {
+        add(&mut run, Symbol::Zero)?;
+    }
+    add(&mut run, last)?;
+    leaf(builder, Head::Lits(run))
+}
+
+fn labelled(alloc: Global, builder: &mut DescBuilder, head: Head) -> Result<(), Fail> {
+    let label = Label::new(alloc, b"A").map_err(|_| "no label")?;
+    enter(builder, Head::Named(label))?;
+    leaf(builder, head)?;
+    end(builder)
+}
+
+fn take(alloc: Global, builder: &mut DescBuilder, step: Step) -> Result<(), Fail> {
+    match step {
+        Step::Seq => enter(builder, Head::Seq),
+        Step::Choice => enter(builder, Head::Choice),
+        Step::Many => enter(builder, Head::Many),
+        Step::Literal(zeros, last) => literal(alloc, builder, zeros, last),
+        Step::Null => leaf(builder, Head::Null),
+        Step::Rest => leaf(builder, Head::Rest),
+        Step::Bits(n) => {
+            let count = Count::Fixed(n);
+            labelled(alloc, builder, Head::Field { unit: 1, count })
+        }
+        Step::Any => labelled(alloc, builder, Head::Rest),
+        Step::End => end(builder),
+    }
+}
+
+fn built(alloc: Global, steps: &[Step]) -> Result<Desc, Fail> {
+    let mut builder = DescBuilder::new(alloc, Reading::Received);
+    for step in steps {
+        take(alloc, &mut builder, *step)?;
+    }
+    if !builder.whole() {
+        return Err(Fail::from("a part is missing"));
+    }
+    Ok(builder.finish().map_err(|_| "no description")?)
+}
+
+/// The conflict that is told of a description, and none where it is certified.
+fn told(alloc: Global, steps: &[Step]) -> Result<Option<Conflict>, Fail> {
+    let desc = built(alloc, steps)?;
+    match certify(alloc, desc) {
+        Ok(_plan) => Ok(None),
+        Err(CertifyFault::Conflict(conflict)) => Ok(Some(conflict)),
+        Err(CertifyFault::NoMemory) => Err(Fail::from("out of memory")),
+    }
+}
+
+/// How many nodes a description has that is certified.
+fn nodes(alloc: Global, steps: &[Step]) -> Result<u16, Fail> {
+    let desc = built(alloc, steps)?;
+    let plan = certify(alloc, desc).map_err(|_| "not certified")?;
+    Ok(plan.len())
+}
+
+fn word(bits: &[u8]) -> Word {
+    let mut word = Word::new();
+    for bit in bits {
+        if *bit <= 1 && word.len() < 12 {
+            word.push(*bit);
+        }
+    }
+    word
+}
+
+#[test]
+fn alternatives_that_are_not_told_apart(rt: HostRuntime) -> Result<(), Fail> {
+    use Step::{Bits, Choice, End, Null, Seq};
+    let alloc = rt.alloc();
+    // { 0 1 | 0 <A : bit> }
+    let steps = [Choice, Seq, ZERO, ONE, End, Seq, ZERO, Bits(1), End, End];
+    let overlap = Conflict::Overlap {
+        node: 0,
+        octet: 0,
+        i: 0,
+        j: 1,
+        word_i: word(&[0, 1]),
+        word_j: word(&[0, 1]),
+    };
+    assert_eq!(rt; told(alloc, &steps)?, Some(overlap));
+    // { L | 0 }
+    let steps = [Choice, LOW, ZERO, End];
+    let overlap = Conflict::Overlap {
+        node: 0,
+        octet: 0,
+        i: 0,
+        j: 1,
+        word_i: word(&[0]),
+        word_j: word(&[0]),
+    };
+    assert_eq!(rt; told(alloc, &steps)?, Some(overlap));
+    // { null | null }
+    let empty = Conflict::TwoEmpty {
+        node: 0,
+        i: 0,
+        j: 1,
+    };
+    assert_eq!(rt; told(alloc, &[Choice, Null, Null, End])?, Some(empty));
+    // { 0 | { null | 1 } }
+    let steps = [Choice, ZERO, Choice, Null, ONE, End, End];
+    assert_eq!(rt;
+        told(alloc, &steps)?,
+        Some(Conflict::NotFirm { node: 0, i: 1 })
+    );
+    // { null | 1 <A : bit> } 1 <A : bit>
+    let steps = [
+        Seq,
+        Choice,
+        Null,
+        Seq,
+        ONE,
+        Bits(1),
+        End,
+        End,
+        ONE,
+        Bits(1),
+        End,
+    ];
+    let clash = Conflict::EmptyClash {
+        node: 1,
+        octet: 0,
+        bit: 1,
+    };
+    assert_eq!(rt; told(alloc, &steps)?, Some(clash));
+    Ok(())
+}
+
+#[test]
+fn parts_whose_end_is_not_told(rt: HostRuntime) -> Result<(), Fail> {
+    use Step::{Any, Bits, End, Many, Rest, Seq};
+    let alloc = rt.alloc();
+    // { 1 <A : bit> } ** 1
+    let steps = [Seq, Many, Seq, ONE, Bits(1), End, End, ONE, End];
+    let clash = Conflict::LoopClash {
+        node: 1,
+        octet: 0,
+        bit: 1,
+    };
+    assert_eq!(rt; told(alloc, &steps)?, Some(clash));
+    // bit ** 1
+    let last = Conflict::NotLast { node: 1, octet: 0 };
+    assert_eq!(rt; told(alloc, &[Seq, Rest, ONE, End])?, Some(last));
+    // { <A : bit (**)> } **
+    let soft = Conflict::NotFirm { node: 0, i: 0 };
+    assert_eq!(rt; told(alloc, &[Many, Any, End])?, Some(soft));
+    Ok(())
+}
+
+#[test]
+fn descriptions_that_are_certified(rt: HostRuntime) -> Result<(), Fail> {
+    use Step::{Bits, Choice, End, Literal, Seq};
+    let alloc = rt.alloc();
+    // <A : bit (3)> 0 <A : bit (4)>
+    assert_eq!(rt; nodes(alloc, &[Seq, Bits(3), ZERO, Bits(4), End])?, 6);
+    // 00 { L | 0 }
+    let zeros = Literal(1, Symbol::Zero);
+    assert_eq!(rt;
+        nodes(alloc, &[Seq, zeros, Choice, LOW, ZERO, End, End])?,
+        5
+    );
+    // { 000000000 <A : bit> | 000000001 }
+    let nine = Literal(8, Symbol::Zero);
+    let last = Literal(8, Symbol::One);
+    let steps = [Choice, Seq, nine, Bits(1), End, last, End];
+    assert_eq!(rt; nodes(alloc, &steps)?, 6);
+    Ok(())
+}
