@@ -15,3 +15,4 @@ pub mod Shaped
 pub mod Made
 pub mod Laws
 pub mod Examples
+pub mod Saying
