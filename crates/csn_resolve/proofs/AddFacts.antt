@@ -1,8 +1,6 @@
 -- Nodes that are added one after another are those that an expression gives, form by form.
-use Rattle.std.proofs.Common.{◌≡◌, ℕ, zero, suc, ◌+◌, ◌≤◌, ◌<◌, Bool, true, false, List, [], ◌∷◌, ◌++◌, length, codes, refl, sym, ◌∙◌, ap, subst, arith, append_assoc, length-append, Option, Some, None, Result, Ok, Err}
+use Rattle.std.proofs.Common.{◌≡◌, ℕ, suc, ◌+◌, ◌≤◌, ◌<◌, Bool, true, false, List, [], ◌∷◌, ◌++◌, length, codes, refl, sym, ◌∙◌, ap, subst, arith, append_assoc, length-append, Option, Some, None, Result, Ok, Err}
 use Rattle.std.specs.Prelude.{OnOk}
-use Rattle.std.specs.Option.{option_copied}
-use Rattle.std.specs.Borrow.{Bor}
 use Rattle.csn_desc.specs.declared.reading.Reading.{Reading}
 use Rattle.csn_desc.specs.declared.reading.Reading.TheVariants.{Received, Sent}
 use Rattle.csn_desc.specs.declared.symbol.Symbol.{Symbol}
@@ -18,13 +16,12 @@ use Rattle.csn_grammar.specs.ExprV.{ExprV, expr, lits, null, bit, octet, name, l
 use Rattle.csn_grammar.specs.RulesV.{RulesV}
 use Rattle.csn_grammar.specs.Names.{is_built_in, rule_of}
 use Rattle.csn_grammar.specs.Forms.{unit_of, is_bit, WidthV, width_of, WindowV, window_of}
-use Rattle.csn_grammar.specs.TailForm.{TailV, tail_of}
+use Rattle.csn_grammar.specs.TailForm.{tail_of}
 use Rattle.csn_grammar.specs.Void.{Kept}
 use Rattle.csn_grammar.proofs.VoidFacts.{no_rule, same_rule, same_window}
 use Rattle.csn_resolve.specs.Seen.{Frame, Seen}
-use Rattle.csn_resolve.specs.Gives.{Placed, placed, count_at, start_of, Gives, ItemsGive, EachGives, RuleGives, gives_lits, gives_null, gives_bit, gives_octet, gives_field, gives_rest, gives_spare_bit, gives_spare_low, gives_padding, gives_seq, gives_choice, gives_only, gives_times, gives_many, gives_cut, gives_window, gives_labelled, gives_name, gives_group, gives_received, gives_sent, rule_plain, rule_tail}
-use Rattle.csn_resolve.specs.Made.{only, TurnGives, GivesFew, ItemsGiveFew, KeptGiveFew, RuleGivesFew, Adds, AddsItems, AddsKept, AddsRule, AddsTurn, TurnGivesFew}
-use Rattle.csn_resolve.proofs.Once.{same_tail}
+use Rattle.csn_resolve.specs.Gives.{Placed, placed, count_at, Gives, ItemsGive, EachGives, RuleGives, gives_lits, gives_null, gives_bit, gives_octet, gives_field, gives_rest, gives_spare_bit, gives_spare_low, gives_padding, gives_seq, gives_choice, gives_only, gives_times, gives_many, gives_cut, gives_window, gives_labelled, gives_name, gives_group, gives_received, gives_sent, rule_plain, rule_tail}
+use Rattle.csn_resolve.specs.Made.{only, GivesFew, ItemsGiveFew, KeptGiveFew, RuleGivesFew, Adds, AddsItems, AddsKept, AddsRule}
 
 clash : {b : Bool} → b ≡ true → b ≡ false → ⊥
 clash p q = cc

@@ -1,5 +1,5 @@
 -- Items and alternatives whose nodes are added one by one, and rules in tail form.
-use Rattle.std.proofs.Common.{◌≡◌, ℕ, zero, suc, ◌+◌, ◌≤◌, ◌<◌, Bool, true, false, List, [], ◌∷◌, ◌++◌, length, refl, sym, ◌∙◌, ap, subst, arith, append_assoc, append-nil, length-append, Option, Some, None}
+use Rattle.std.proofs.Common.{◌≡◌, ℕ, suc, ◌+◌, ◌≤◌, ◌<◌, Bool, true, false, List, [], ◌∷◌, ◌++◌, length, refl, sym, ◌∙◌, ap, subst, arith, append_assoc, append-nil, length-append, Option, Some, None}
 use Rattle.csn_desc.specs.declared.reading.Reading.{Reading}
 use Rattle.csn_desc.specs.declared.node.Node.{Node}
 use Rattle.csn_desc.specs.declared.node.Node.TheVariants.{Lits, Seq, Many}
@@ -11,8 +11,8 @@ use Rattle.csn_grammar.specs.Environment.{label_of}
 use Rattle.csn_grammar.specs.TailForm.{TailV, tail_of}
 use Rattle.csn_grammar.specs.Void.{Void, Kept, kept_end, kept_next, kept_void, kept_error}
 use Rattle.csn_resolve.specs.Seen.{Frame, Seen, with_labelled}
-use Rattle.csn_resolve.specs.Gives.{Placed, placed, start_of, Gives, ItemsGive, EachGives, RuleGives, items_end, items_next, each_end, each_next, rule_plain, rule_tail}
-use Rattle.csn_resolve.specs.Made.{IsKept, QuietAt, BranchesQuiet, TurnGives, GivesFew, ItemsGiveFew, KeptGiveFew, RuleGivesFew, TailGivesFew, TurnGivesFew, Adds, AddsItems, AddsKept, AddsTail, AddsTurn}
+use Rattle.csn_resolve.specs.Gives.{Placed, placed, start_of, ItemsGive, EachGives, RuleGives, items_end, items_next, each_end, each_next, rule_plain, rule_tail}
+use Rattle.csn_resolve.specs.Made.{IsKept, QuietAt, BranchesQuiet, TurnGives, GivesFew, ItemsGiveFew, KeptGiveFew, TailGivesFew, TurnGivesFew, Adds, AddsItems, AddsKept, AddsTail, AddsTurn}
 use Rattle.csn_resolve.proofs.Once.{same_tail}
 use Rattle.csn_resolve.proofs.AddFacts.{some-given}
 

@@ -1,12 +1,12 @@
 -- The one alternative that is kept, found by going through all.
-use Rattle.std.proofs.Common.{◌≡◌, ℕ, Bool, true, false, List, [], ◌∷◌, refl, sym, ◌∙◌, ap, subst, Option, Some, None}
+use Rattle.std.proofs.Common.{◌≡◌, true, false, List, [], ◌∷◌, refl, sym, ◌∙◌, ap, Option, Some, None}
 use Rattle.std.specs.Prelude.{is_some}
 use Rattle.std.specs.Option.{option_copied}
 use Rattle.std.specs.Borrow.{Bor}
 use Rattle.csn_desc.specs.declared.reading.Reading.{Reading}
 use Rattle.csn_grammar.specs.ExprV.{ExprV, BranchV, branches_of}
 use Rattle.csn_grammar.specs.RulesV.{RulesV}
-use Rattle.csn_grammar.specs.Void.{Kept, kept_end}
+use Rattle.csn_grammar.specs.Void.{Kept}
 use Rattle.csn_resolve.specs.Made.{IsKept, only}
 use Rattle.csn_resolve.proofs.BuildFacts.{kept-as, kept-first, not-kept, none-left}
 

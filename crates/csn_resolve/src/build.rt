@@ -20,8 +20,8 @@ use csn_desc::{Count, Label, Node, Parts, Reading};
 use csn_grammar::{Branch, Branches, Exponent, Expr, Exprs, Form, Rule};
 use std::alloc::Global;
 
-/// What the second way through the rules asks, on which the nodes are made: the rules by their names, and
-/// which of them are empty of strings in the reading.
+/// What the second walk through the rules, which makes the nodes, asks: the rules by their names, and which
+/// of them are empty of strings in the reading.
 #[derive(Clone, Copy)]
 pub(crate) struct Builder<'a> {
     pub alloc: Global,
@@ -32,7 +32,7 @@ pub(crate) struct Builder<'a> {
 }
 
 impl<'a> Builder<'a> {
-    /// Adds the nodes of an expression.
+    /// Adds the nodes of an expression, whose walk meets no refusal.
     #[cycle(build)]
     pub(crate) fn build(&self, round: Round<'_>, x: &Expr, made: &mut Made) -> Result<(), NoMemory>
         requires quiet { QuietAt self.now.names.now self.now.reading round.names x.now }

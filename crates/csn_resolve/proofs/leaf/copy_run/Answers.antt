@@ -1,4 +1,4 @@
-use Rattle.std.proofs.Common.{◌≡◌, ◌++◌, ◌∷◌, [], sym, ◌∙◌, ap}
+use Rattle.std.proofs.Common.{◌++◌, ◌∷◌, [], sym, ◌∙◌, ap}
 use Rattle.csn_resolve.proofs.Parts.{take_next}
 use Rattle.csn_resolve.proofs.leaf.copy_run.Goals as goal
 

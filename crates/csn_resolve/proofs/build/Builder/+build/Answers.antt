@@ -1,8 +1,8 @@
-use Rattle.std.proofs.Common.{◌≡◌, ◌≤◌, ◌<◌, ◌+◌, ℕ, true, false, List, [], ◌∷◌, ◌++◌, Some, None, take, drop, length, max, refl, sym, ◌∙◌, ap, subst, take_all, append_assoc, length-append, rules, arith}
+use Rattle.std.proofs.Common.{◌≡◌, ◌<◌, ◌+◌, ℕ, true, false, List, [], ◌∷◌, ◌++◌, Some, None, take, drop, length, max, refl, sym, ◌∙◌, ap, subst, take_all, append_assoc, length-append, rules, arith}
 use Rattle.std.proofs.lemmas.List.{drop_all}
 use Rattle.std.specs.Prelude.{slice_get}
 use Rattle.csn_desc.specs.declared.node.Node.TheVariants.{Lits, Named}
-use Rattle.csn_grammar.specs.ExprV.{ExprV, BranchV, expr, power, both, exprs_of}
+use Rattle.csn_grammar.specs.ExprV.{ExprV, BranchV, expr, power, both}
 use Rattle.csn_grammar.specs.declared.exponent.Exponent.TheVariants.{Any}
 use Rattle.csn_grammar.specs.ExprCode.{expr_size, list_size, branch_list_size}
 use Rattle.csn_grammar.specs.Names.{rule_of}
@@ -11,9 +11,9 @@ use Rattle.csn_grammar.specs.TailForm.{tail_of}
 use Rattle.csn_resolve.specs.declared.shown.Shown as s
 use Rattle.csn_resolve.specs.Seen.{Frame, Seen, with_labelled}
 use Rattle.csn_grammar.specs.Environment.{label_of}
-use Rattle.csn_resolve.specs.Gives.{Placed, placed, start_of}
-use Rattle.csn_resolve.specs.Views.{width_view, tail_view, count_view}
-use Rattle.csn_resolve.specs.Made.{frame_before, shown_view, IsKept, AllQuiet, QuietAt, GivesFew, ItemsGiveFew, Adds, AddsItems, AddsKept}
+use Rattle.csn_resolve.specs.Gives.{placed}
+use Rattle.csn_resolve.specs.Views.{width_view, tail_view}
+use Rattle.csn_resolve.specs.Made.{frame_before, shown_view, AllQuiet, GivesFew, ItemsGiveFew, Adds, AddsItems, AddsKept}
 use Rattle.csn_resolve.proofs.Parts.{item_size, branch_size_of, take_get, take_short, drop_at}
 use Rattle.csn_resolve.proofs.LeastFacts.{get_within}
 use Rattle.csn_resolve.proofs.DepthFacts.{in_deepest, entered}
@@ -22,7 +22,7 @@ use Rattle.csn_resolve.proofs.MarkFacts.{both_ways}
 use Rattle.csn_resolve.proofs.MadeFacts.{shown-Behind, frame-push, no-nodes, not-bit}
 use Rattle.csn_resolve.proofs.QuietFacts.{quiet-as, quiet-labelled, quiet-group, quiet-left, quiet-right, quiet-seq, quiet-cut, quiet-choice, quiet-count, quiet-times, quiet-many, quiet-window, quiet-behind, quiet-name, quiet-plain, quiet-tail, quiet-at, quiet-branch}
 use Rattle.csn_resolve.proofs.AddFacts.{on-ok, adds-as, few-as, room, adds-lits, adds-null, adds-bit, adds-octet, adds-group, few-group, adds-received, adds-sent, few-received, few-sent, adds-name, few-name, adds-spare, adds-labelled, few-labelled, adds-rest, adds-many, few-many, adds-field, adds-times, few-times, counted-given, left-window, right-window, adds-window, few-window, window-count, some-window, adds-seq, adds-cut, few-seq, few-cut, adds-only, few-only, adds-choice, few-choice, adds-plain, few-plain}
-use Rattle.csn_resolve.proofs.BuildFacts.{ItemsLeft, items-begin, items-next, items-few, items-done, parts-room, KeptLeft, kept-begin, kept-more, kept-past, kept-few, kept-done, kept-quiet, tail-few, tail-items, items-in, turn-few, parts-fit, stop-room, adds-tail, turn-items, adds-turn, items-longer, kept-longer, tail-longer}
+use Rattle.csn_resolve.proofs.BuildFacts.{ItemsLeft, items-begin, items-next, items-few, items-done, parts-room, kept-more, kept-past, kept-few, kept-done, kept-quiet, tail-few, tail-items, items-in, turn-few, parts-fit, stop-room, adds-tail, turn-items, adds-turn, items-longer, kept-longer, tail-longer}
 use Rattle.csn_resolve.proofs.build.Builder.+build.Goals as goal
 
 pub build-build_name-requires : goal.build-build_name-requires

@@ -1,4 +1,4 @@
-use Rattle.std.proofs.Common.{◌≡◌, ℕ, ◌+◌, ◌*◌, ◌≤◌, max, take, drop, length, []}
+use Rattle.std.proofs.Common.{◌≡◌, ◌+◌, ◌*◌, ◌≤◌, max, take, drop, length, []}
 use Rattle.csn_grammar.specs.ExprCode.{expr_size, list_size, branch_list_size}
 use Rattle.csn_resolve.specs.Depths.{left}
 use Rattle.csn_resolve.specs.Made.{frame_before, shown_view}

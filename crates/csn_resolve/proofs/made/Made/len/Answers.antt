@@ -1,4 +1,4 @@
-use Rattle.std.proofs.Common.{◌≡◌, length, arith, ap}
+use Rattle.std.proofs.Common.{length, arith, ap}
 use Rattle.csn_resolve.proofs.MadeFacts.{paired_long}
 use Rattle.csn_resolve.proofs.made.Made.len.Goals as goal
 

@@ -1,4 +1,4 @@
-use Rattle.std.proofs.Common.{◌≡◌, length, ◌∙◌, ap, arith}
+use Rattle.std.proofs.Common.{length, ◌∙◌, ap, arith}
 use Rattle.csn_resolve.proofs.MadeFacts.{paired_long, paired_set}
 use Rattle.csn_resolve.proofs.made.Made.set.Goals as goal
 
