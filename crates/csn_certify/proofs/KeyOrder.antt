@@ -9,9 +9,7 @@ use Rattle.csn_desc.specs.declared.symbol.Symbol.TheVariants.{Low}
 use Rattle.csn_desc.specs.Nodes.{DescV}
 use Rattle.csn_desc.proofs.BitFacts.{IsBits-front, IsBits-along, IsBits-spelled, IsBits-spare}
 use Rattle.csn_look.specs.declared.word.Key.{Key}
-use Rattle.csn_look.specs.KeyMarks.{IsWord, has_key, KeysAre, IsBeginning}
-use Rattle.csn_look.specs.declared.key_table.Begins.{Begins}
-use Rattle.csn_look.specs.declared.key_table.Begins.TheVariants as answer
+use Rattle.csn_look.specs.KeyMarks.{IsWord, has_key, KeysAre}
 use Rattle.csn_look.specs.KeyLists.{IsBefore, cut_first, shorter, lower, IsBeforeAll, IsRising}
 use Rattle.csn_look.specs.Keys.{Cut, kept, cut, InKeys, NodeKeys, PartsKeys, TimesKeys, keys_at, keys_lits, keys_spare, keys_field, keys_pad, keys_null, keys_rest, keys_many, keys_trunc, keys_window, keys_counted_field, keys_counted_times, keys_seq, keys_times, keys_choice, keys_named, parts_none, parts_cut, parts_whole, times_none, times_cut, times_whole}
 use Rattle.csn_certify.specs.Conflicts.{text_of, NotAfter}
@@ -186,14 +184,3 @@ module _ (marks : List ℕ) (keys : List Key) where
   pub meeting_end : (count : ℕ) → length keys ≤ count → NoneMeetBelow count → IsLeastFrom 0 (MeetsAt marks keys) None
   meeting_end count all before n up met =
       let inside = slice_get_within keys n met.0 met.1 in before n (omega (arith, all, inside)) met
-
--- what an answer on the beginning of a word says
-pub said_neither : (marks word : List ℕ) (b : Begins) → b ≡ answer.Neither → IsBeginning b marks word → ¬ Meets marks word
-said_neither marks word answer.Key is h = absurd (cc)
-said_neither marks word answer.Proper is h = absurd (cc)
-said_neither marks word answer.Neither is h = λ meets. elim meets [ inl key ↦ h.0 key | inr start ↦ h.1 start ]
-
-pub said_other : (marks word : List ℕ) (b : Begins) → (b ≡ answer.Neither → ⊥) → IsBeginning b marks word → Meets marks word
-said_other marks word answer.Key apart h = inl h
-said_other marks word answer.Proper apart h = inr h.1
-said_other marks word answer.Neither apart h = absurd (apart refl)

@@ -263,17 +263,9 @@ module _ (d : DescV) (node : ℕ) where
 
 -- ---- what tests say
 
-no_test : (b : Bool) (P : Type 0) → (IsTrue b ↔ P) → b ≡ false → ¬ P
-no_test b P f fails p = let shown = f.1 p in let differ : true ≡ false = sym shown ∙ fails in absurd (cc)
-
 -- a test that failed denies
 pub denied : (b : Bool) (P : Type 0) → (IsTrue b ↔ P) → b ≡ false → ¬ P
-denied b P f fails = no_test b P f fails
-
--- a negated test that holds denies
-pub negated : (b : Bool) (P : Type 0) → (IsTrue b ↔ P) → not b ≡ true → ¬ P
-negated true P f shown = absurd (cc)
-negated false P f shown = no_test false P f refl
+denied b P f fails p = let shown = f.1 p in let differ : true ≡ false = sym shown ∙ fails in absurd (cc)
 
 -- an octet position is in the set or not
 pub reached_there : (d : DescV) (node octet : ℕ) (s : set.FinSet nat_cmp) (b : Bool) → OctetsAre s (Reached d node) → octet ≤ 7 → b ≡ set.contains s octet → IsTrue b ↔ Reached d node octet
@@ -286,7 +278,7 @@ module _ (d : DescV) (look : List NodeSets) (p : ℕ) (a b : Bool) (is : IsLookO
       by_tests : (x y : Bool) → a ≡ x → b ≡ y → (not x && not y) ≡ true → (¬ IsNull d p) × IsNotFirm d 12 p
       by_tests true y is_x is_y shown = absurd (cc)
       by_tests false true is_x is_y shown = absurd (cc)
-      by_tests false false is_x is_y shown = (no_test a (IsNull d p) null is_x, not_firm d look p is inside (no_test b (IsFirm d 12 p) firm is_y))
+      by_tests false false is_x is_y shown = (denied a (IsNull d p) null is_x, not_firm d look p is inside (denied b (IsFirm d 12 p) firm is_y))
 
   pub good_part : (not a && not b) ≡ false → IsNull d p ⊎ IsFirm d 12 p
   good_part fails = by_tests a b refl refl fails

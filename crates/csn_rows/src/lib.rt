@@ -15,6 +15,8 @@ use std::collections::BTreeMap;
 #[cfg(test)]
 mod catalogue;
 #[cfg(test)]
+mod descriptions;
+#[cfg(test)]
 mod tests;
 #[cfg(test)]
 mod texts;
