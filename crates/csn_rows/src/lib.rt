@@ -1,11 +1,12 @@
 //! The whole program over memory, and the worked examples of it.
 #![tactic(auto)]
 
-ghost use Rattle.std.specs.Prelude.{◌≡◌, ◌≢◌, List, ℕ, Some, Err, IfOk, map};
+ghost use Rattle.std.specs.Prelude.{◌≡◌, ◌≢◌, ◌↔◌, List, ℕ, Some, Err, IfOk, map};
 ghost use Rattle.std.specs.String.{string_bytes};
 ghost use Rattle.csn_io.specs.Files.{file_of};
 ghost use Rattle.csn_io.specs.ShelfFault.{LacksFile};
-ghost use Rattle.csn_run.specs.Command.{NamesFile};
+ghost use Rattle.csn_run.specs.Command.{IsCommand, NamesFile};
+ghost use Rattle.csn_run.specs.Result.{BeginsResult, IsFinished, Result};
 
 use csn_io::{MemShelf, MemSink, MemSource};
 use csn_run::{Ended, run};
@@ -29,13 +30,17 @@ pub struct Ran {
 }
 
 /// Runs the program over files and an input in memory, of which no call fails. So no fault is seen
-/// but that of a file which is not held.
+/// but that of a file which is not held. What is written is the result for the words, the files and the
+/// input, or begins it.
 pub fn run_in_memory(
     alloc: Global,
     words: &[String],
     files: BTreeMap<String, Vec<u8>>,
     input: Vec<u8>,
 ) -> Result<Ran, AllocError>
+    ensures usage { IfOk result (λ ran. (ran.ended ≡ Ended.Usage) ↔ (IsCommand (map string_bytes words.now) → ⊥)) }
+    ensures result { IfOk result (λ ran. IsFinished ran.ended → Result (map string_bytes words.now) (file_of files) input.items ran.text.items ran.ended) }
+    ensures begins { IfOk result (λ ran. ran.ended ≢ Ended.Usage → BeginsResult (map string_bytes words.now) (file_of files) input.items ran.text.items) }
     ensures no_write_fault { IfOk result (λ ran. ran.ended ≢ Ended.WriteFault) }
     ensures read_fault { IfOk result (λ ran. ran.ended ≡ Ended.ReadFault
         → (name : List ℕ) × NamesFile (map string_bytes words.now) name × LacksFile (Some (file_of files)) name) }
