@@ -1,35 +1,35 @@
 -- In a certified description bits of a node are followed in one way: where they have a tree, and a bit goes on
 -- behind them that may stand there, the node does not follow them and that bit together.
-use Rattle.std.proofs.Common.{◌≡◌, ℕ, zero, suc, ◌+◌, ◌*◌, ◌%◌, ◌<◌, ◌≤◌, ◌⊎◌, inl, inr, Bool, true, false, List, [], ◌∷◌, ◌++◌, length, refl, sym, ◌∙◌, ap, subst, arith, append_assoc, append-nil, length-append, Some, slice_get}
+use Rattle.std.proofs.Common.{◌≡◌, ℕ, ◌+◌, ◌*◌, ◌%◌, inl, inr, true, List, [], ◌∷◌, ◌++◌, length, refl, sym, ◌∙◌, ap, subst, arith, append_assoc, append-nil, length-append, Some, slice_get}
 use Rattle.std.proofs.lemmas.List.{append_cancel_left}
 use Rattle.csn_desc.specs.declared.node.Count.{Count}
 use Rattle.csn_desc.specs.declared.node.Node.{Node}
-use Rattle.csn_desc.specs.declared.node.Node.TheVariants.{Lits, Spare, Pad, Null, Field, Rest, Seq, Choice, Times, Many, Trunc, Window, Named}
+use Rattle.csn_desc.specs.declared.node.Node.TheVariants.{Seq, Choice, Times, Many, Trunc}
 use Rattle.csn_desc.specs.TreeV.{TreeV, Trees}
 use Rattle.csn_desc.specs.Nodes.{DescV, parts_of}
 use Rattle.csn_desc.specs.Values.{Values, with_value}
-use Rattle.csn_desc.specs.Means.{NMeans, NodeMeans, PartsMean, TimesMean, ManyMean, means_at, means_lits, means_spare, means_pad, means_null, means_field, means_rest, means_seq, means_choice, means_times, means_many, means_cut, means_trunc, means_window, means_named, parts_end, parts_next, times_end, times_next, many_end, many_next}
-use Rattle.csn_desc.specs.Follows.{NFollow, NodeFollows, PartsFollow, TimesFollow, ManyFollow, follows_at, follows_whole, follows_lits, follows_spare, follows_pad, follows_field, follows_seq, follows_choice, follows_times, follows_many, follows_trunc, follows_window, follows_named, parts_here, parts_later, times_here, times_later, many_here, many_later}
-use Rattle.csn_desc.specs.Formed.{shows_earlier, Formed, PartsFormed, formed, formed_end, formed_next, IsDescription}
+use Rattle.csn_desc.specs.Means.{NMeans, NodeMeans, PartsMean, TimesMean, ManyMean, means_at, means_seq, means_choice, means_times, means_many, means_cut, means_trunc, means_window, means_named, parts_end, parts_next, times_end, times_next, many_end, many_next}
+use Rattle.csn_desc.specs.Follows.{NFollow, NodeFollows, PartsFollow, TimesFollow, ManyFollow, follows_whole, follows_lits, follows_spare, follows_pad, follows_field, follows_seq, follows_choice, follows_times, follows_many, follows_trunc, follows_window, follows_named, parts_here, parts_later, times_here, times_later, many_here, many_later}
+use Rattle.csn_desc.specs.Formed.{shows_earlier, Formed, PartsFormed, formed, formed_next, IsDescription}
 use Rattle.csn_desc.proofs.Nodewise.{follow_at}
 use Rattle.csn_look.specs.Ends.{PartsEnd, ManyEnd}
 use Rattle.csn_look.specs.Ends as end
 use Rattle.csn_look.specs.Keys.{InKeys}
 use Rattle.csn_look.specs.Reached.{Reached}
-use Rattle.csn_look.proofs.ShapeFacts.{Shaped, Placed, placed, within_nodes, Widths, widths_kept, place-split}
+use Rattle.csn_look.proofs.ShapeFacts.{Shaped, Placed, placed, within_nodes, Widths, widths_kept}
 use Rattle.csn_look.proofs.EndsFacts.{ends}
 use Rattle.csn_look.proofs.StartFacts.{follows, many_follow_start}
-use Rattle.csn_look.proofs.KeyFacts.{Begun, keys}
+use Rattle.csn_look.proofs.KeyFacts.{keys}
 use Rattle.csn_look.proofs.NearFacts.{Near, near_begun, near_within, near_keys, held_along}
 use Rattle.csn_look.proofs.KeyFollowed.{choice_formed}
 use Rattle.csn_look.proofs.FollowFacts.{Stands, cuts, end_stands, choice_stands, named_stands, seq_stands, times_stands, many_stands, seq_stands_followed, times_stands_followed, many_stands_followed}
 use Rattle.csn_look.proofs.ReachFacts.{Turn, turn_first, turn_next, turn_reached, parts_end_more, many_end_more, seq_reached, choice_reached, named_reached, many_reached}
 use Rattle.csn_certify.specs.declared.conflict.Conflict.TheVariants.{LoopClash}
-use Rattle.csn_certify.specs.Conflicts.{IsNull, IsLast, loop_clash, Certified}
-use Rattle.csn_certify.proofs.Pieces.{order, equal_numbers, first_less, second_less, cut_rest, begun_both}
+use Rattle.csn_certify.specs.Conflicts.{IsNull, loop_clash, Certified}
+use Rattle.csn_certify.proofs.Pieces.{order, equal_numbers, first_less, second_less, begun_both}
 use Rattle.csn_certify.proofs.Decisions.{nothing_behind, stands_here, null_bits}
-use Rattle.csn_certify.proofs.OneTree.{one_tree, meaning_along, behind_first}
-use Rattle.csn_certify.proofs.PickFacts.{same_number, null_followed, part_null, apart, one_null, no_clash}
+use Rattle.csn_certify.proofs.OneTree.{one_tree, behind_first}
+use Rattle.csn_certify.proofs.PickFacts.{null_followed, part_null, apart, no_clash}
 
 not_both : (b x : List ℕ) (a : ℕ) (r : List ℕ) → x ≡ a ∷ r → b ++ x ≡ [] → ⊥
 not_both [] x a r is none = absurd (cc)

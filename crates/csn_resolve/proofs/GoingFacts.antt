@@ -8,7 +8,7 @@ use Rattle.csn_resolve.specs.declared.fault.ResolveFault.TheVariants.{Refused, N
 use Rattle.csn_resolve.specs.declared.begun.Begun.{Begun}
 use Rattle.csn_resolve.specs.Why.{Refusal}
 use Rattle.csn_resolve.specs.Steps.{Step, begins, refused, refusals_after}
-use Rattle.csn_resolve.specs.Going.{Way, gone, stopped, way, on_way, Stops, Goes, Checks}
+use Rattle.csn_resolve.specs.Going.{Way, gone, stopped, way, on_way, Stops, Goes}
 
 pub way-append : (begun : ℕ) (xs ys : List Step) → way begun (xs ++ ys) ≡ on_way (way begun xs) ys
 way-append begun [] ys = refl

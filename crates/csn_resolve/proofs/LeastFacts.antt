@@ -1,5 +1,5 @@
 -- The marked rules are those that pass: what is found with them passes, and what passes is found with them.
-use Rattle.std.proofs.Common.{◌≡◌, ℕ, zero, suc, ◌+◌, ◌≤◌, ◌<◌, Bool, true, false, ◌↔◌, List, [], ◌∷◌, length, set, slice_get, Some, None, Option, refl, sym, ◌∙◌, ap, subst, arith, codes, ◌⊎◌, inl, inr}
+use Rattle.std.proofs.Common.{◌≡◌, ℕ, zero, suc, ◌<◌, Bool, true, false, List, [], ◌∷◌, length, set, slice_get, Some, None, Option, refl, ◌∙◌, ap, subst, arith, codes, ◌⊎◌, inl, inr}
 use Rattle.csn_desc.specs.declared.reading.Reading.{Reading}
 use Rattle.csn_grammar.specs.declared.rules.Rule.{Rule}
 use Rattle.csn_grammar.specs.ExprV.{ExprV, expr, ExprsV, BranchesV}
@@ -14,7 +14,7 @@ use Rattle.csn_grammar.specs.Forms.{width_of}
 use Rattle.csn_resolve.specs.declared.marks.Test.{Test}
 use Rattle.csn_resolve.specs.declared.marks.Test.TheVariants.{Void, Narrow}
 use Rattle.csn_resolve.specs.Numbers.{number_in}
-use Rattle.csn_resolve.specs.Marked.{Passes, passes, mark_at, is_set, marked, AreSound, IsClosedAt, AreClosed, unmarked}
+use Rattle.csn_resolve.specs.Marked.{Passes, passes, mark_at, is_set, marked, AreSound, AreClosed, unmarked}
 use Rattle.csn_resolve.proofs.Bools.{or_left, or_right, both_true}
 use Rattle.csn_resolve.proofs.NumberFacts.{rule_found, rule_number}
 use Rattle.csn_resolve.proofs.VoidDecided as v

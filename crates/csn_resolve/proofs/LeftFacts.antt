@@ -11,7 +11,7 @@ use Rattle.csn_resolve.specs.declared.fault.ResolveFault.{ResolveFault}
 use Rattle.csn_resolve.specs.declared.why.Why.TheVariants.{NoString}
 use Rattle.csn_resolve.specs.Seen.{Seen, seen_of}
 use Rattle.csn_resolve.specs.Steps.{Step, refused}
-use Rattle.csn_resolve.specs.Counts.{Narrow, CountSteps, size_steps, count_number, count_unknown, count_wide, count_narrow}
+use Rattle.csn_resolve.specs.Counts.{Narrow, CountSteps, size_steps, count_unknown, count_wide, count_narrow}
 use Rattle.csn_resolve.specs.Walk.{TurnLeft, left_void_turn, left_full_turn}
 use Rattle.csn_resolve.specs.Going.{Checks}
 

@@ -1,10 +1,7 @@
 -- Facts about rules that are marked as passing a test.
-use Rattle.std.proofs.Common.{◌≡◌, ℕ, zero, suc, ◌+◌, ◌≤◌, ◌<◌, Bool, true, false, ◌||◌, ◌&&◌, List, [], ◌∷◌, length, drop, slice_get, Some, None, Option, refl, sym, ◌∙◌, ap, subst, arith}
-use Rattle.std.specs.Prelude.{if◌then◌else◌}
+use Rattle.std.proofs.Common.{◌≡◌, ℕ, ◌+◌, Bool, true, false, ◌||◌, ◌&&◌, List, drop, slice_get, Some, refl, ◌∙◌, ap}
 use Rattle.csn_desc.specs.declared.reading.Reading.{Reading}
-use Rattle.csn_grammar.specs.declared.rules.Rule.{Rule}
 use Rattle.csn_grammar.specs.ExprV.{ExprV, BranchV, branch, exprs_of, branches_of}
-use Rattle.csn_grammar.specs.RulesV.{RulesV}
 use Rattle.csn_resolve.specs.Tests.{is_void, some_void, all_void}
 use Rattle.csn_resolve.proofs.Parts.{drop_at}
 

@@ -1,5 +1,5 @@
 -- Whether what stands behind a label is a field of constant width, of 1 to 16 bits, is decided.
-use Rattle.std.proofs.Common.{◌≡◌, ℕ, zero, suc, ◌*◌, ◌≤◌, Bool, true, false, nat_le, ◌&&◌, ◌||◌, List, ◌⊎◌, inl, inr, refl, sym, ◌∙◌, ap, Option, Some, None}
+use Rattle.std.proofs.Common.{◌≡◌, ℕ, zero, suc, ◌*◌, ◌≤◌, Bool, true, nat_le, List, ◌⊎◌, inl, inr, refl, sym, ◌∙◌, ap, Option, Some, None}
 use Rattle.std.proofs.lemmas.Bool.{leb-true, le-leb}
 use Rattle.csn_desc.specs.declared.reading.Reading.{Reading}
 use Rattle.csn_desc.specs.declared.reading.Reading.TheVariants.{Received, Sent}

@@ -1,18 +1,18 @@
 -- The rules of a text are shaped as nodes need them.
-use Rattle.std.proofs.Common.{◌≡◌, ℕ, ◌≤◌, List, [], ◌∷◌, length, map, slice_range, get_or, refl, sym, ◌∙◌, ap, subst, arith}
+use Rattle.std.proofs.Common.{◌≡◌, ℕ, ◌≤◌, List, [], ◌∷◌, length, slice_range, sym, ap, subst, arith}
 use Rattle.csn_desc.specs.declared.symbol.Symbol.{Symbol}
 use Rattle.csn_grammar.specs.declared.rules.Rule.{Rule}
-use Rattle.csn_grammar.specs.ExprV.{ExprV, expr, FormV, lits, null, bit, octet, name, labelled, group, seq, choice, power, cut, both, sends, ExprsV, no_item, item, BranchesV, item_list, branch_list}
+use Rattle.csn_grammar.specs.ExprV.{ExprV, expr, lits, null, bit, octet, name, labelled, group, seq, choice, power, cut, both, sends, ExprsV, BranchesV, item_list, branch_list}
 use Rattle.csn_grammar.specs.RulesV.{RulesV}
 use Rattle.csn_lexer.specs.declared.token.Token.{Token}
 use Rattle.csn_lexer.specs.Tokens.{IsLongest, AreTokens, nothing}
 use Rattle.csn_lexer.specs.Tokens as tokens
 use Rattle.csn_lexer.proofs.Pieces.{slice_range_more}
-use Rattle.csn_grammar.specs.TokenV.{TokenV, token, token_in, tokens_in}
+use Rattle.csn_grammar.specs.TokenV.{TokenV, token, tokens_in}
 use Rattle.csn_grammar.specs.Place.{HasRules}
 use Rattle.csn_grammar.specs.declared.exponent.Exponent.{Exponent}
 use Rattle.csn_grammar.specs.Counts.{IsName, IsVal, IsProduct, IsCount, IsExponent, last_word, more_words, val, alone, factor_before, factor_behind, number, product, summand_behind, summand_before, count, times_number, times_val, times_count, any, any_star, any_stars}
-use Rattle.csn_grammar.specs.Writing.{IsLits, letter_of}
+use Rattle.csn_grammar.specs.Writing.{IsLits}
 use Rattle.csn_grammar.specs.Grammar.{IsBase, IsSide, IsWindow, IsItem, AreItems, IsSeq, AreBranches, IsExpr, IsRule, AreRules, components_of, bit_base, octet_base, name_base, labelled_base, group_base, lits_side, null_side, base_side, power_side, cut_side, side_window, both_window, window_item, sends_item, last_item, more_items, one_item, items, cut_items, last_branch, last_error, more_branches, more_errors, one_seq, branches, rule, last_rule, more_rules}
 use Rattle.csn_resolve.specs.Shaped.{IsShaped, ItemsShaped, BranchesShaped, AreShaped}
 

@@ -1,10 +1,10 @@
 -- Facts about rules in tail form.
-use Rattle.std.proofs.Common.{◌≡◌, ℕ, zero, suc, ◌+◌, ◌-◌, ◌≤◌, ◌<◌, Bool, true, false, List, [], ◌∷◌, length, take, slice_get, Some, None, Option, refl, sym, ◌∙◌, ap, arith}
+use Rattle.std.proofs.Common.{◌≡◌, ℕ, ◌-◌, ◌≤◌, ◌<◌, Bool, true, false, List, [], ◌∷◌, length, take, slice_get, Some, None, Option, refl, sym, ◌∙◌, ap, arith}
 use Rattle.std.specs.Prelude.{if◌then◌else◌}
 use Rattle.std.specs.Option.{option_map, option_or}
 use Rattle.csn_grammar.specs.ExprV.{ExprV, BranchV, expr, name, group, seq, choice, item, no_item, branch, no_branch, exprs_of, branches_of}
 use Rattle.csn_grammar.specs.Names.{same_name}
-use Rattle.csn_grammar.specs.TailForm.{WordV, EndV, TailV, word_of, again_of, end_with, end_of, last_item, front_items, tail_of_body}
+use Rattle.csn_grammar.specs.TailForm.{WordV, word_of, again_of, end_with, end_of, last_item, front_items, tail_of_body}
 use Rattle.csn_resolve.specs.Views.{name_in}
 
 -- the word of an item that the name stands behind

@@ -1,9 +1,7 @@
 -- Facts about what contracts see of the values that a walk passes on.
-use Rattle.std.proofs.Common.{◌≡◌, ℕ, zero, suc, ◌+◌, ◌≤◌, Bool, true, false, ◌||◌, List, [], ◌∷◌, ◌++◌, take, slice_get, Some, None, Option, refl, sym, ◌∙◌, ap, rules, length, min, arith}
+use Rattle.std.proofs.Common.{◌≡◌, ℕ, zero, suc, ◌+◌, true, false, ◌||◌, List, [], ◌∷◌, ◌++◌, take, slice_get, Some, None, refl, sym, ◌∙◌, ap, rules, length, min, arith}
 use Rattle.std.specs.Prelude.{if◌then◌else◌}
 use Rattle.std.specs.Borrow.{Bor}
-use Rattle.std.specs.List.{list_any}
-use Rattle.std.proofs.lemmas.List.{take_all}
 use Rattle.csn_desc.specs.declared.reading.Reading.{Reading}
 use Rattle.csn_grammar.specs.declared.expr.Span.{Span}
 use Rattle.csn_grammar.specs.declared.expr.Form.{Form}
@@ -13,7 +11,6 @@ use Rattle.csn_grammar.specs.Names.{same_name}
 use Rattle.csn_grammar.specs.Environment.{label_of}
 use Rattle.csn_resolve.specs.declared.around.Entered as e
 use Rattle.csn_resolve.specs.declared.around.Seen as s
-use Rattle.csn_resolve.specs.Seen as seen
 use Rattle.csn_resolve.specs.Seen.{Frame, with_labelled, inner_of, seen_in}
 use Rattle.csn_resolve.specs.Walk.{is_among}
 use Rattle.csn_resolve.specs.Views.{entered_view, frame_after, seen_view}

@@ -1,5 +1,5 @@
 -- Whether an expression is empty of strings is decided.
-use Rattle.std.proofs.Common.{◌≡◌, ℕ, zero, suc, ◌+◌, ◌≤◌, Bool, true, false, ◌||◌, ◌&&◌, List, ◌⊎◌, inl, inr, refl, sym, ◌∙◌, ap, arith, codes, Option, Some, None}
+use Rattle.std.proofs.Common.{◌≡◌, ℕ, zero, suc, ◌+◌, ◌≤◌, Bool, true, false, ◌||◌, List, ◌⊎◌, inl, inr, refl, sym, ◌∙◌, ap, arith, codes, Option, Some, None}
 use Rattle.std.specs.Cmp.Lexicographic.{same_text}
 use Rattle.csn_desc.specs.declared.reading.Reading.{Reading}
 use Rattle.csn_desc.specs.declared.reading.Reading.TheVariants.{Received, Sent}

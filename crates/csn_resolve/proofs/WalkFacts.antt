@@ -1,9 +1,9 @@
 -- What the private functions that walk pass on, in terms of the walk.
-use Rattle.std.proofs.Common.{◌≡◌, ℕ, zero, suc, ◌+◌, ◌≤◌, ◌<◌, Bool, true, false, List, [], ◌∷◌, length, take, drop, slice_get, Some, None, Option, refl, sym, ◌∙◌, ap, subst, arith}
+use Rattle.std.proofs.Common.{◌≡◌, ℕ, zero, suc, ◌+◌, List, [], ◌∷◌, take, drop, slice_get, Some, sym, ◌∙◌, ap, subst, arith}
 use Rattle.std.specs.Borrow.{Bor}
 use Rattle.csn_desc.specs.declared.reading.Reading.{Reading}
 use Rattle.csn_grammar.specs.declared.rules.Rule.{Rule}
-use Rattle.csn_grammar.specs.ExprV.{ExprV, BranchV, item, no_item, branch, no_branch, exprs_of, branches_of}
+use Rattle.csn_grammar.specs.ExprV.{ExprV, BranchV, item, branch, exprs_of, branches_of}
 use Rattle.csn_grammar.specs.RulesV.{RulesV}
 use Rattle.csn_grammar.specs.Void.{Void, SomeVoid, void_here, void_later}
 use Rattle.csn_resolve.specs.declared.around.Entered as e

@@ -3,7 +3,7 @@
 use Rattle.std.specs.Prelude.{◌≡◌, ℕ, suc, Bool, ◌==◌, if◌then◌else◌, is_some, List, [], ◌∷◌, Result, Ok, MatchResult}
 use Rattle.csn_desc.specs.declared.reading.Reading.{Reading}
 use Rattle.csn_grammar.specs.declared.exponent.Exponent.{Exponent}
-use Rattle.csn_grammar.specs.declared.exponent.Exponent.TheVariants.{Any, Number, Linear}
+use Rattle.csn_grammar.specs.declared.exponent.Exponent.TheVariants.{Any}
 use Rattle.csn_grammar.specs.ExprV.{ExprV}
 use Rattle.csn_grammar.specs.RulesV.{RulesV}
 use Rattle.csn_grammar.specs.Forms.{unit_of, is_bit}

@@ -1,6 +1,6 @@
 -- Words of the private functions that make nodes: what they ask of an expression, and what they add to the
 -- nodes that are made. No public clause cites them.
-use Rattle.std.specs.Prelude.{◌≡◌, ℕ, suc, ◌+◌, ◌≤◌, Bool, true, false, ⊤, List, [], ◌∷◌, ◌++◌, length, slice_get, Option, Some, None}
+use Rattle.std.specs.Prelude.{◌≡◌, ℕ, ◌+◌, ◌≤◌, false, ⊤, List, [], ◌∷◌, ◌++◌, length, slice_get, Option, Some, None}
 use Rattle.csn_desc.specs.declared.reading.Reading.{Reading}
 use Rattle.csn_desc.specs.declared.node.Count.{Count}
 use Rattle.csn_desc.specs.declared.node.Node.{Node}

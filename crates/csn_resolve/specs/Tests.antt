@@ -1,6 +1,6 @@
 -- Is an expression empty of strings, and is it a field of constant width, where these names are? The answers
 -- are found rule by rule; no public clause cites them, since the relations say what they mean.
-use Rattle.std.specs.Prelude.{◌≡◌, ℕ, ◌*◌, Bool, true, false, nat_le, ◌||◌, ◌&&◌, List, codes, Option, Some, None}
+use Rattle.std.specs.Prelude.{ℕ, ◌*◌, Bool, true, false, nat_le, ◌||◌, ◌&&◌, List, codes, Option, Some, None}
 use Rattle.csn_desc.specs.declared.reading.Reading.{Reading}
 use Rattle.csn_desc.specs.declared.reading.Reading.TheVariants.{Received, Sent}
 use Rattle.csn_grammar.specs.declared.exponent.Exponent.{Exponent}

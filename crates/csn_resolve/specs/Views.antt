@@ -1,7 +1,6 @@
 -- What the contracts of the private functions that walk see of the values that they pass on; no public clause
 -- cites it.
 use Rattle.std.specs.Prelude.{ℕ, List, [], ◌∷◌, Option, Some, None, take}
-use Rattle.std.specs.Option.{option_map}
 use Rattle.std.specs.Borrow.{Bor}
 use Rattle.csn_desc.specs.declared.reading.Reading.{Reading}
 use Rattle.csn_grammar.specs.declared.exponent.Exponent.{Exponent}

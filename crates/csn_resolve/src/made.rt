@@ -90,7 +90,10 @@ impl Made {
             Err(DescFault::TooManyVals { node }) => {
                 Err(refusal(Why::TooManyVals, places[node as usize]))
             }
-            Err(_) => Err(ResolveFault::NoMemory),
+            Err(DescFault::NoMemory) => Err(ResolveFault::NoMemory),
+            // a whole list of nodes is never refused so
+            Err(DescFault::TooManyNodes) => unreachable!(),
+            Err(DescFault::TooDeep) => unreachable!(),
         }
     }
 }

@@ -1,9 +1,9 @@
-use Rattle.std.proofs.Common.{◌≡◌, ◌+◌, ◌≤◌, true, false, ◌∷◌, drop, refl, sym, ◌∙◌, ap, arith, rules}
-use Rattle.csn_grammar.specs.ExprV.{ExprV, BranchV, exprs_of, branches_of}
+use Rattle.std.proofs.Common.{◌≡◌, false, sym, ◌∙◌, ap, arith, rules}
+use Rattle.csn_grammar.specs.ExprV.{BranchV}
 use Rattle.csn_grammar.specs.ExprCode.{expr_size}
-use Rattle.csn_resolve.specs.Tests.{is_void, some_void, all_void}
+use Rattle.csn_resolve.specs.Tests.{is_void}
 use Rattle.csn_resolve.specs.Marked.{marked}
-use Rattle.csn_resolve.proofs.Parts.{item_size, branch_size_of, drop_at}
+use Rattle.csn_resolve.proofs.Parts.{item_size, branch_size_of}
 use Rattle.csn_resolve.proofs.MarkFacts.{some-next, some-here, all-next, all-not, both_ways}
 use Rattle.csn_resolve.proofs.marks.+void.Goals.{all_void-else-not-branch-via-then-not-branch+else-not-is_void, all_void-else-not-branch-via-else-not-branch}
 use Rattle.csn_resolve.proofs.marks.+void.Goals as goal

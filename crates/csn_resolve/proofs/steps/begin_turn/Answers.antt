@@ -1,9 +1,6 @@
-use Rattle.std.proofs.Common.{◌≡◌, ◌==◌, ◌++◌, ◌∷◌, [], suc, ℕ, ap, arith}
+use Rattle.std.proofs.Common.{◌≡◌, suc, arith}
 use Rattle.std.proofs.lemmas.Result.{err_from_is_err_and}
-use Rattle.csn_resolve.specs.declared.why.Why.TheVariants.{TooDeep}
-use Rattle.csn_resolve.specs.Steps.{refused_if, begins}
-use Rattle.csn_resolve.specs.Walk.{inside, entering, node_at, in_turn}
-use Rattle.csn_resolve.specs.Going.{Stops, way}
+use Rattle.csn_resolve.specs.Walk.{inside, entering, node_at}
 use Rattle.csn_resolve.specs.Views.{around_view}
 use Rattle.csn_resolve.proofs.GoingFacts.{stops-first, stops-later}
 use Rattle.csn_resolve.proofs.steps.begin_turn.Goals as goal

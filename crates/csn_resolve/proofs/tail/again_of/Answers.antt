@@ -1,5 +1,4 @@
-use Rattle.std.proofs.Common.{◌≡◌, true, false, Some, None, length, refl, sym, ◌∙◌, ap, arith}
-use Rattle.csn_grammar.specs.ExprV.{expr, seq, exprs_of}
+use Rattle.std.proofs.Common.{◌≡◌, true, false, length, sym, ◌∙◌, ap, arith}
 use Rattle.csn_grammar.specs.Names.{same_name}
 use Rattle.csn_grammar.specs.TailForm.{again_of}
 use Rattle.csn_resolve.proofs.ViewFacts.{known}

@@ -1,6 +1,5 @@
-use Rattle.std.proofs.Common.{◌≡◌, Bool, true, false, Some, None, length, refl, sym, ◌∙◌, ap, arith}
-use Rattle.csn_grammar.specs.declared.expr.Branch.{Branch}
-use Rattle.csn_grammar.specs.ExprV.{ExprV, BranchV, expr, group, choice, exprs_of, branches_of}
+use Rattle.std.proofs.Common.{◌≡◌, length, sym, ◌∙◌, ap, arith}
+use Rattle.csn_grammar.specs.ExprV.{BranchV, expr, group}
 use Rattle.csn_grammar.specs.TailForm.{end_of}
 use Rattle.csn_resolve.proofs.ViewFacts.{known}
 use Rattle.csn_resolve.proofs.TailFacts.{end-none, end-left-error, end-right-error, end-sides}

@@ -1,6 +1,6 @@
-use Rattle.std.proofs.Common.{◌≡◌, ◌≤◌, ◌<◌, ◌-◌, true, false, Some, None, length, take, refl, sym, ◌∙◌, ap, arith}
+use Rattle.std.proofs.Common.{◌≡◌, ◌≤◌, ◌<◌, ◌-◌, Some, None, length, take, sym, ◌∙◌, ap, arith}
 use Rattle.std.specs.Option.{option_map}
-use Rattle.csn_grammar.specs.ExprV.{expr, seq, exprs_of}
+use Rattle.csn_grammar.specs.ExprV.{exprs_of}
 use Rattle.csn_grammar.specs.TailForm.{EndV, end_of, tail_of_body}
 use Rattle.csn_resolve.specs.Views.{end_view}
 use Rattle.csn_resolve.proofs.ViewFacts.{known}

@@ -1,4 +1,4 @@
-use Rattle.std.proofs.Common.{◌≡◌, true, false, refl, sym, ◌∙◌, ap}
+use Rattle.std.proofs.Common.{◌≡◌, true, false, sym, ◌∙◌, ap}
 use Rattle.csn_grammar.specs.Names.{same_name}
 use Rattle.csn_resolve.specs.Walk.{is_among}
 use Rattle.csn_resolve.specs.Views.{entered_view}

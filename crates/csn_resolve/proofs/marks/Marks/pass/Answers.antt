@@ -1,5 +1,5 @@
-use Rattle.std.proofs.Common.{◌≡◌, Bool, true, List, refl, sym, ◌∙◌, ap}
-use Rattle.csn_resolve.specs.Marked.{MarksV, Passes, passes, marked}
+use Rattle.std.proofs.Common.{◌≡◌, Bool, List, sym, ◌∙◌, ap}
+use Rattle.csn_resolve.specs.Marked.{passes, marked}
 use Rattle.csn_resolve.proofs.LeastFacts.{found_passes, passes_found}
 use Rattle.csn_resolve.proofs.marks.Marks.pass.Goals as goal
 
