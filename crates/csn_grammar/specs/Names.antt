@@ -4,6 +4,8 @@
 use Rattle.std.specs.Prelude.{ℕ, Bool, ◌==◌, if◌then◌else◌, List, [], ◌∷◌, codes, Option, None}
 use Rattle.std.specs.List.{find, list_any}
 use lib.Pointwise.{pointwise}
+use Rattle.csn_grammar.specs.declared.built_in.BuiltIn.{BuiltIn}
+use Rattle.csn_grammar.specs.declared.built_in.BuiltIn.TheVariants.{SpareBit, SpareLow, SparePadding, NoString}
 use Rattle.csn_grammar.specs.declared.rules.Rule.{Rule}
 use Rattle.csn_grammar.specs.RulesV.{RulesV}
 
@@ -11,9 +13,16 @@ use Rattle.csn_grammar.specs.RulesV.{RulesV}
 abbrev pub same_name : List ℕ → List ℕ → Bool
 same_name a b = pointwise (λ x y. x == y) a b
 
+-- how a built-in name is written
+abbrev pub name_of : BuiltIn → List ℕ
+name_of SpareBit = codes "spare bit"
+name_of SpareLow = codes "spare L"
+name_of SparePadding = codes "spare padding"
+name_of NoString = codes "no string"
+
 -- the names that every description has
 abbrev pub built_in_names : List (List ℕ)
-built_in_names = codes "spare bit" ∷ codes "spare L" ∷ codes "spare padding" ∷ codes "no string" ∷ []
+built_in_names = name_of SpareBit ∷ name_of SpareLow ∷ name_of SparePadding ∷ name_of NoString ∷ []
 
 abbrev pub is_built_in : List ℕ → Bool
 is_built_in n = list_any (λ m. same_name m n) built_in_names

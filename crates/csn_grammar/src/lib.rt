@@ -1,6 +1,7 @@
 //! The grammar of CSN.1 descriptions: the rules of a text, and where a text has none.
 #![tactic(auto)]
 
+mod built_in;
 pub mod examples;
 mod exponent;
 mod expr;
@@ -10,6 +11,7 @@ mod read;
 mod reader;
 mod rules;
 
+pub use built_in::BuiltIn;
 pub use exponent::Exponent;
 pub use expr::{Branch, Branches, Expr, Exprs, Form, Span};
 pub use fault::GrammarFault;
