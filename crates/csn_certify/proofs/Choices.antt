@@ -11,7 +11,7 @@ use Rattle.csn_look.specs.declared.key_table.Begins.TheVariants as answer
 use Rattle.csn_look.specs.Keys.{InKeys, NodeKeys, keys_at, keys_null, keys_choice}
 use Rattle.csn_look.specs.KeyMarks as marks
 use Rattle.csn_look.proofs.Places.{word_front}
-use Rattle.csn_look.proofs.NodeKeys.{key_word}
+use Rattle.csn_look.proofs.KeyWords.{key_word}
 use Rattle.csn_certify.specs.Conflicts.{IsNull}
 use Rattle.csn_certify.specs.Picks.{BeginsWithKey, BeginsKey}
 use Rattle.csn_certify.specs.Choosing.{IsNone, BeginsKeyOf, StandsTo, AreWithoutKey}

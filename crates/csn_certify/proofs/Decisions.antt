@@ -7,9 +7,10 @@ use Rattle.csn_desc.specs.TreeV.{TreeV, Trees}
 use Rattle.csn_desc.specs.Nodes.{DescV}
 use Rattle.csn_desc.specs.Values.{Values}
 use Rattle.csn_desc.specs.Means.{NMeans, NodeMeans, ManyMean, means_at, means_null}
+use Rattle.csn_desc.specs.Formed.{FitWidths}
 use Rattle.csn_desc.proofs.Nodewise.{meaning_at}
 use Rattle.csn_look.specs.Reached.{Reached, InFollow}
-use Rattle.csn_look.proofs.ShapeFacts.{Shaped, Widths}
+use Rattle.csn_look.proofs.ShapeFacts.{Shaped}
 use Rattle.csn_look.proofs.NullableFacts.{nullable}
 use Rattle.csn_look.proofs.EndsFacts.{ends}
 use Rattle.csn_look.proofs.StartFacts.{starts, many_start}
@@ -37,7 +38,7 @@ module _ (d : DescV) where
 
 module _ (d : DescV) (most : ℕ) (shaped : Shaped d) (certified : Certified d most) where
   -- no bit stands behind a node that must be last
-  pub nothing_behind : {i o : ℕ} {v : Values} {b : List ℕ} {t : TreeV} (n : Node) (x : List ℕ) → slice_get d.nodes i ≡ Some n → IsLast n → Reached d i (o % 8) → Widths d v → NMeans d i o v b t → Stands d i o b x → x ≡ []
+  pub nothing_behind : {i o : ℕ} {v : Values} {b : List ℕ} {t : TreeV} (n : Node) (x : List ℕ) → slice_get d.nodes i ≡ Some n → IsLast n → Reached d i (o % 8) → FitWidths d v → NMeans d i o v b t → Stands d i o b x → x ≡ []
   nothing_behind n [] at last reached widths h s = refl
   nothing_behind {i} {o} n (a ∷ x) at last reached widths h s =
       absurd (certified (NotLast i (s.place % 8)) (not_last n (o % 8) at last reached (ends d shaped s.place s.is_place widths h) (s.follows a x refl)))
@@ -51,14 +52,14 @@ module _ (d : DescV) (most : ℕ) (shaped : Shaped d) (certified : Certified d m
       subst P place (s.follows a r is)
 
   -- where a free repetition may end, its part does not begin with what stands there
-  pub no_loop : {k i o : ℕ} {v : Values} {b c : List ℕ} {us : Trees} (x y : List ℕ) → slice_get d.nodes k ≡ Some (Many i) → Reached d i (o % 8) → Widths d v → b ≡ [] → 0 < length c → ManyMean d i o v c us → b ++ x ≡ c ++ y → Stands d k o b x → ⊥
+  pub no_loop : {k i o : ℕ} {v : Values} {b c : List ℕ} {us : Trees} (x y : List ℕ) → slice_get d.nodes k ≡ Some (Many i) → Reached d i (o % 8) → FitWidths d v → b ≡ [] → 0 < length c → ManyMean d i o v c us → b ++ x ≡ c ++ y → Stands d k o b x → ⊥
   no_loop {k} {o = o} {b = b} {c = c} x y at reached widths nothing some h e s =
       let a = next_bit b c x y nothing some e in
       let start = many_start d shaped a.bit a.rest a.is widths h in
       certified (LoopClash k (o % 8) a.bit) (loop_clash at reached start (stands_here a.bit a.tail nothing a.next s))
 
   -- beside an alternative that takes no bits, another one has no bits that stand behind the choice
-  pub no_empty : {k i j p q o : ℕ} {v : Values} {parts b c : List ℕ} {u : TreeV} (x y : List ℕ) → slice_get d.nodes k ≡ Some (Choice parts) → slice_get parts i ≡ Some p → slice_get parts j ≡ Some q → j ≢ i → IsNull d p → (IsNull d q → ⊥) → Reached d k (o % 8) → Widths d v → b ≡ [] → NMeans d q o v c u → b ++ x ≡ c ++ y → Stands d k o b x → ⊥
+  pub no_empty : {k i j p q o : ℕ} {v : Values} {parts b c : List ℕ} {u : TreeV} (x y : List ℕ) → slice_get d.nodes k ≡ Some (Choice parts) → slice_get parts i ≡ Some p → slice_get parts j ≡ Some q → j ≢ i → IsNull d p → (IsNull d q → ⊥) → Reached d k (o % 8) → FitWidths d v → b ≡ [] → NMeans d q o v c u → b ++ x ≡ c ++ y → Stands d k o b x → ⊥
   no_empty {k} {j = j} {c = []} x y at at_i at_j other null real reached widths nothing h e s =
       certified (NotFirm k j) (choice_not_firm at at_j real (inl (nullable d shaped h refl)))
   no_empty {k} {o = o} {b = b} {c = a ∷ c} x y at at_i at_j other null real reached widths nothing h e s =
@@ -67,7 +68,7 @@ module _ (d : DescV) (most : ℕ) (shaped : Shaped d) (certified : Certified d m
       certified (EmptyClash k (o % 8) n.bit) (empty_clash at reached at_i null at_j other start (stands_here n.bit n.tail nothing n.next s))
 
   -- two alternatives do not both have bits that go on alike
-  pub no_two : {k i j p q o : ℕ} {v : Values} {parts b c : List ℕ} {t u : TreeV} (x y : List ℕ) → slice_get d.nodes k ≡ Some (Choice parts) → i < j → slice_get parts i ≡ Some p → slice_get parts j ≡ Some q → Reached d k (o % 8) → Widths d v → NMeans d p o v b t → NMeans d q o v c u → b ++ x ≡ c ++ y → Stands d k o b x → Stands d k o c y → ⊥
+  pub no_two : {k i j p q o : ℕ} {v : Values} {parts b c : List ℕ} {t u : TreeV} (x y : List ℕ) → slice_get d.nodes k ≡ Some (Choice parts) → i < j → slice_get parts i ≡ Some p → slice_get parts j ≡ Some q → Reached d k (o % 8) → FitWidths d v → NMeans d p o v b t → NMeans d q o v c u → b ++ x ≡ c ++ y → Stands d k o b x → Stands d k o c y → ⊥
   no_two {k} {i} {j} {o = o} x y at less at_i at_j reached widths h1 h2 e s1 s2 =
       elim (is_null d h1) [
         | inl null_i ↦ elim (is_null d h2) [

@@ -1,70 +1,16 @@
 -- Keys in the order of their words, and words that meet a set of keys.
 use Rattle.std.proofs.Common.{◌≡◌, ℕ, zero, suc, ◌+◌, ◌<◌, ◌≤◌, ◌⊎◌, inl, inr, Bool, List, [], ◌∷◌, ◌++◌, length, take, refl, sym, ◌∙◌, ap, subst, arith, Some, None, slice_get, append-nil, length-append}
-use Rattle.std.proofs.lemmas.List.{length-take}
 use Rattle.std.specs.Prelude.{IsTrue}
 use Rattle.std.proofs.lemmas.Option.{slice_get_within}
-use Rattle.csn_bits.specs.Octets.{IsBits}
-use Rattle.csn_bits.proofs.Packing.{IsBits-append, IsBits-take}
-use Rattle.csn_desc.specs.declared.symbol.Symbol.TheVariants.{Low}
-use Rattle.csn_desc.specs.Nodes.{DescV}
-use Rattle.csn_desc.proofs.BitFacts.{IsBits-front, IsBits-along, IsBits-spelled, IsBits-spare}
+use Rattle.csn_desc.proofs.BitFacts.{IsBits-front, IsBits-along}
 use Rattle.csn_look.specs.declared.word.Key.{Key}
 use Rattle.csn_look.specs.KeyMarks.{IsWord, has_key, KeysAre}
 use Rattle.csn_look.specs.KeyLists.{IsBefore, cut_first, shorter, lower, IsBeforeAll, IsRising}
-use Rattle.csn_look.specs.Keys.{Cut, kept, cut, InKeys, NodeKeys, PartsKeys, TimesKeys, keys_at, keys_lits, keys_spare, keys_field, keys_pad, keys_null, keys_rest, keys_many, keys_trunc, keys_window, keys_counted_field, keys_counted_times, keys_seq, keys_times, keys_choice, keys_named, parts_none, parts_cut, parts_whole, times_none, times_cut, times_whole}
 use Rattle.csn_certify.specs.Conflicts.{text_of, NotAfter}
 use Rattle.csn_certify.specs.Search.{IsLeastFrom}
 use Rattle.csn_certify.specs.Overlaps.{AreBegun, Meets, MeetsAt}
 use Rattle.csn_certify.proofs.Pieces.{order, equal_numbers, first_less, second_less}
 use Rattle.csn_certify.proofs.Searching.{first_of_one}
-
--- ---- keys are words
-
-length-take12 : (w : List ℕ) → length (take 12 w) ≤ 12
-length-take12 w = omega (arith, length-take 12 w)
-
-length-front : (a b : List ℕ) → length (a ++ b) ≡ length a + length b
-length-front a b = length-append a b
-
-cut_word : {w x : List ℕ} {whole mark : Bool} → IsBits w → Cut 12 w whole x mark → IsWord x
-cut_word bits (kept short is same) = record { bits = IsBits-along is bits; short = let size = ap length is in omega (arith, short, size) }
-cut_word {w = w} bits (cut long is same) =
-    record { bits = IsBits-along is (IsBits-take 12 w bits); short = let size = ap length is in omega (arith, size, length-take12 w) }
-
-empty_word : {x : List ℕ} → x ≡ [] → IsWord x
-empty_word is = record { bits = IsBits-along is tt; short = let size = ap length is in omega (arith, size) }
-
-module _ (d : DescV) where
-  mutual
-    pub key_word : {i o : ℕ} {x : List ℕ} {mark : Bool} → InKeys d 12 i o x mark → IsWord x
-    key_word (keys_at n at h) = node_key_word h
-
-    node_key_word : {n : _} {o : ℕ} {x : List ℕ} {mark : Bool} → NodeKeys d 12 n o x mark → IsWord x
-    node_key_word {o = o} (keys_lits {run = run} c) = cut_word (IsBits-spelled run o) c
-    node_key_word {o = o} (keys_spare {s = s} w one spare c) = cut_word (IsBits-spare d.reading s o w spare) c
-    node_key_word (keys_field w size bits c) = cut_word bits c
-    node_key_word {o = o} (keys_pad w one spare c) = cut_word (IsBits-spare d.reading Low o w spare) c
-    node_key_word (keys_null is same) = empty_word is
-    node_key_word (keys_rest is same) = empty_word is
-    node_key_word (keys_many is same) = empty_word is
-    node_key_word (keys_trunc is same) = empty_word is
-    node_key_word (keys_window is same) = empty_word is
-    node_key_word (keys_counted_field is same) = empty_word is
-    node_key_word (keys_counted_times is same) = empty_word is
-    node_key_word (keys_seq h) = parts_key_word h
-    node_key_word (keys_times h) = times_key_word h
-    node_key_word (keys_choice j at h) = key_word h
-    node_key_word (keys_named h) = key_word h
-
-    parts_key_word : {parts : List ℕ} {o : ℕ} {x : List ℕ} {mark : Bool} → PartsKeys d 12 parts o x mark → IsWord x
-    parts_key_word (parts_none is same) = empty_word is
-    parts_key_word (parts_cut h same) = key_word h
-    parts_key_word (parts_whole w1 w2 rest h k c) = cut_word (IsBits-append w1 w2 (key_word h).bits (parts_key_word k).bits) c
-
-    times_key_word : {n i o : ℕ} {x : List ℕ} {mark : Bool} → TimesKeys d 12 n i o x mark → IsWord x
-    times_key_word (times_none over is same) = empty_word is
-    times_key_word (times_cut m over h same) = key_word h
-    times_key_word (times_whole m over w1 w2 rest h k c) = cut_word (IsBits-append w1 w2 (key_word h).bits (times_key_word k).bits) c
 
 -- ---- words as texts
 
@@ -138,7 +84,7 @@ module _ (marks : List ℕ) (P : List ℕ → Bool → Type 0) (are : KeysAre ma
       let bits = IsBits-front b.front b.back (IsBits-along (sym b.parts) is.bits) in
       let size = ap length b.parts in
       let short = is.short in
-      let front : IsWord b.front = record { bits = bits; short = omega (arith, size, short, length-front b.front b.back) } in
+      let front : IsWord b.front = record { bits = bits; short = omega (arith, size, short, length-append b.front b.back) } in
       record { other = b.front; mark = b.whole; key = (are b.front b.whole front).0 b.key; begun = inl (b.back, b.parts) }
   meets_with (inr s) =
       record { other = word ++ s.next ∷ s.back; mark = s.whole; key = (are (word ++ s.next ∷ s.back) s.whole s.word).0 s.key; begun = inr (s.next ∷ s.back, refl) }

@@ -10,20 +10,21 @@ use Rattle.csn_desc.specs.Nodes.{DescV, parts_of}
 use Rattle.csn_desc.specs.Values.{Values, with_value}
 use Rattle.csn_desc.specs.Means.{NMeans, NodeMeans, PartsMean, TimesMean, ManyMean, means_at, means_seq, means_choice, means_times, means_many, means_cut, means_trunc, means_window, means_named, parts_end, parts_next, times_end, times_next, many_end, many_next}
 use Rattle.csn_desc.specs.Follows.{NFollow, NodeFollows, PartsFollow, TimesFollow, ManyFollow, follows_whole, follows_lits, follows_spare, follows_pad, follows_field, follows_seq, follows_choice, follows_times, follows_many, follows_trunc, follows_window, follows_named, parts_here, parts_later, times_here, times_later, many_here, many_later}
-use Rattle.csn_desc.specs.Formed.{shows_earlier, Formed, PartsFormed, formed, formed_next, IsDescription}
+use Rattle.csn_desc.specs.Formed.{shows_earlier, Formed, PartsFormed, formed, formed_next, IsDescription, FitWidths}
 use Rattle.csn_desc.proofs.Nodewise.{follow_at}
 use Rattle.csn_look.specs.Ends.{PartsEnd, ManyEnd}
 use Rattle.csn_look.specs.Ends as end
 use Rattle.csn_look.specs.Keys.{InKeys}
-use Rattle.csn_look.specs.Reached.{Reached}
-use Rattle.csn_look.proofs.ShapeFacts.{Shaped, Placed, placed, within_nodes, Widths, widths_kept}
+use Rattle.csn_look.specs.Reached.{Reached, Turn}
+use Rattle.csn_look.specs.Beginnings.{Near, near_begun, near_within}
+use Rattle.csn_look.proofs.ShapeFacts.{Shaped, Placed, placed, within_nodes, widths_kept}
 use Rattle.csn_look.proofs.EndsFacts.{ends}
 use Rattle.csn_look.proofs.StartFacts.{follows, many_follow_start}
 use Rattle.csn_look.proofs.KeyFacts.{keys}
-use Rattle.csn_look.proofs.NearFacts.{Near, near_begun, near_within, near_keys, held_along}
+use Rattle.csn_look.proofs.NearFacts.{near_keys, held_along}
 use Rattle.csn_look.proofs.KeyFollowed.{choice_formed}
 use Rattle.csn_look.proofs.FollowFacts.{Stands, cuts, end_stands, choice_stands, named_stands, seq_stands, times_stands, many_stands, seq_stands_followed, times_stands_followed, many_stands_followed}
-use Rattle.csn_look.proofs.ReachFacts.{Turn, turn_first, turn_next, turn_reached, parts_end_more, many_end_more, seq_reached, choice_reached, named_reached, many_reached}
+use Rattle.csn_look.proofs.ReachFacts.{turn_first, turn_next, turn_reached, parts_end_more, many_end_more, seq_reached, choice_reached, named_reached, many_reached}
 use Rattle.csn_certify.specs.declared.conflict.Conflict.TheVariants.{LoopClash}
 use Rattle.csn_certify.specs.Conflicts.{IsNull, loop_clash, Certified}
 use Rattle.csn_certify.proofs.Pieces.{order, equal_numbers, first_less, second_less, begun_both}
@@ -77,7 +78,7 @@ node_placed d is {i} (means_at n at h) = placed d.nodes i is.numbered is.well_fo
 
 module _ (d : DescV) (most : ℕ) (shaped_is : Shaped d) (certified : Certified d most) where
   -- not by bits that have a tree, and more behind them or not
-  whole_further : {i o : ℕ} {v : Values} {b whole : List ℕ} {t u : TreeV} (a : ℕ) (r x rest : List ℕ) → x ≡ a ∷ r → Reached d i (o % 8) → Widths d v → NMeans d i o v b t → NMeans d i o v whole u → whole ≡ (b ++ x) ++ rest → Stands d i o b x → ⊥
+  whole_further : {i o : ℕ} {v : Values} {b whole : List ℕ} {t u : TreeV} (a : ℕ) (r x rest : List ℕ) → x ≡ a ∷ r → Reached d i (o % 8) → FitWidths d v → NMeans d i o v b t → NMeans d i o v whole u → whole ≡ (b ++ x) ++ rest → Stands d i o b x → ⊥
   whole_further {i} {o} {b = b} {whole = whole} a r x rest is reached widths h other e s =
       let together : b ++ (x ++ rest) ≡ whole ++ [] = sym (append_assoc b x rest) ∙ sym e ∙ sym (append-nil whole) in
       let same = one_tree d most shaped_is certified h (x ++ rest) [] reached widths other together (stands_more d a r x rest is s) (end_stands d i o whole) in
@@ -86,7 +87,7 @@ module _ (d : DescV) (most : ℕ) (shaped_is : Shaped d) (certified : Certified 
       omega (arith, length-append (b ++ x) rest, length-append b x)
 
   -- two alternatives
-  further_apart : {k p q j m o round : ℕ} {v : Values} {parts seen b c : List ℕ} {t : TreeV} (a : ℕ) (r x : List ℕ) → x ≡ a ∷ r → slice_get d.nodes k ≡ Some (Choice parts) → Reached d k (o % 8) → Widths d v → (j ≡ m → ⊥) → slice_get parts j ≡ Some p → slice_get parts m ≡ Some q → Formed d.nodes seen round q → NMeans d p o v b t → NFollow d q o v c → c ≡ b ++ x → Stands d k o b x → ⊥
+  further_apart : {k p q j m o round : ℕ} {v : Values} {parts seen b c : List ℕ} {t : TreeV} (a : ℕ) (r x : List ℕ) → x ≡ a ∷ r → slice_get d.nodes k ≡ Some (Choice parts) → Reached d k (o % 8) → FitWidths d v → (j ≡ m → ⊥) → slice_get parts j ≡ Some p → slice_get parts m ≡ Some q → Formed d.nodes seen round q → NMeans d p o v b t → NFollow d q o v c → c ≡ b ++ x → Stands d k o b x → ⊥
   further_apart {k} {p} {q} {o = o} {parts = parts} {b = b} {c = c} a r x is at reached widths differs at_j at_m is_formed h followed e s =
       elim (part_null d q) [
         | inl null ↦ not_both b x a r is (sym e ∙ null_followed d null followed)
@@ -111,11 +112,11 @@ module _ (d : DescV) (most : ℕ) (shaped_is : Shaped d) (certified : Certified 
           apart d most shaped_is certified k o parts at reached differs at_j at_m real_p real w.key key (inr (w.rest ++ (x ++ rest), longer))
 
   mutual
-    pub no_further : {seen : List ℕ} {round i o : ℕ} {v : Values} {b : List ℕ} {t : TreeV} → NMeans d i o v b t → Formed d.nodes seen round i → {c : List ℕ} (a : ℕ) (r x : List ℕ) → x ≡ a ∷ r → Reached d i (o % 8) → Widths d v → NFollow d i o v c → c ≡ b ++ x → Stands d i o b x → ⊥
+    pub no_further : {seen : List ℕ} {round i o : ℕ} {v : Values} {b : List ℕ} {t : TreeV} → NMeans d i o v b t → Formed d.nodes seen round i → {c : List ℕ} (a : ℕ) (r x : List ℕ) → x ≡ a ∷ r → Reached d i (o % 8) → FitWidths d v → NFollow d i o v c → c ≡ b ++ x → Stands d i o b x → ⊥
     no_further (means_at n at h) (formed m here few head have room held) a r x is reached widths followed e s =
         let same : m ≡ n = cc in node_further h at (held_along d most same held) a r x is reached widths (follow_at d at followed) e s
 
-    node_further : {seen : List ℕ} {round i o : ℕ} {n : Node} {v : Values} {b : List ℕ} {t : TreeV} → NodeMeans d n o v b t → slice_get d.nodes i ≡ Some n → PartsFormed d.nodes (shows_earlier n) seen round (parts_of n) → {c : List ℕ} (a : ℕ) (r x : List ℕ) → x ≡ a ∷ r → Reached d i (o % 8) → Widths d v → NodeFollows d n o v c → c ≡ b ++ x → Stands d i o b x → ⊥
+    node_further : {seen : List ℕ} {round i o : ℕ} {n : Node} {v : Values} {b : List ℕ} {t : TreeV} → NodeMeans d n o v b t → slice_get d.nodes i ≡ Some n → PartsFormed d.nodes (shows_earlier n) seen round (parts_of n) → {c : List ℕ} (a : ℕ) (r x : List ℕ) → x ≡ a ∷ r → Reached d i (o % 8) → FitWidths d v → NodeFollows d n o v c → c ≡ b ++ x → Stands d i o b x → ⊥
     node_further {n = n} h at held {c = c} a r x is reached widths (follows_whole u other) e s =
         whole_further a r x [] is reached widths (means_at n at h) (means_at n at other) (sym (append-nil c) ∙ ap (λ l. l ++ []) e) s
     node_further {n = n} h at held a r x is reached widths (follows_lits whole rest cut other) e s =
@@ -155,7 +156,7 @@ module _ (d : DescV) (most : ℕ) (shaped_is : Shaped d) (certified : Certified 
     node_further (means_named h) at (formed_next first others) a r x is reached widths (follows_named f) e s =
         no_further h first a r x is (named_reached d at reached) widths f e (named_stands d at s)
 
-    parts_further : {seen : List ℕ} {round k from o : ℕ} {parts after : List ℕ} {v : Values} {b : List ℕ} {ts : Trees} → PartsMean d after o v b ts → slice_get d.nodes k ≡ Some (Seq parts) → (before : List ℕ) → parts ≡ before ++ after → PartsFormed d.nodes true seen round after → {c : List ℕ} (a : ℕ) (r x : List ℕ) → x ≡ a ∷ r → Reached d k from → PartsEnd d before from (o % 8) → Widths d v → PartsFollow d after o v c → c ≡ b ++ x → Stands d k o b x → ⊥
+    parts_further : {seen : List ℕ} {round k from o : ℕ} {parts after : List ℕ} {v : Values} {b : List ℕ} {ts : Trees} → PartsMean d after o v b ts → slice_get d.nodes k ≡ Some (Seq parts) → (before : List ℕ) → parts ≡ before ++ after → PartsFormed d.nodes true seen round after → {c : List ℕ} (a : ℕ) (r x : List ℕ) → x ≡ a ∷ r → Reached d k from → PartsEnd d before from (o % 8) → FitWidths d v → PartsFollow d after o v c → c ≡ b ++ x → Stands d k o b x → ⊥
     parts_further (parts_end nothing) at before whole held a r x is reached ended widths f e s = elim f [ ]
     parts_further (parts_next {parts = after} b1 b2 cut h others) at before whole (formed_next first rest) a r x is reached ended widths (parts_here f) e s =
         let later = some_behind b2 x a r is in
@@ -167,7 +168,7 @@ module _ (d : DescV) (most : ℕ) (shaped_is : Shaped d) (certified : Certified 
         let next = sym (cut_behind b1 (b2 ++ x) c1 c2 same.words together) in
         parts_further others at (before ++ i ∷ []) (whole ∙ sym (append_assoc before (i ∷ []) after)) rest a r x is reached (parts_end_more d ended (ends d shaped_is (o + length b1) refl widths h)) (widths_kept d widths h) (parts_along d i after o v b1 c1 same.words f) next left
 
-    times_further : {seen : List ℕ} {round k i n from o : ℕ} {count : Count} {v : Values} {b : List ℕ} {ts : Trees} → TimesMean d n i o v b ts → slice_get d.nodes k ≡ Some (Times count i) → Formed d.nodes seen round i → {c : List ℕ} (a : ℕ) (r x : List ℕ) → x ≡ a ∷ r → Reached d k from → Turn d count i n from (o % 8) → Widths d v → TimesFollow d n i o v c → c ≡ b ++ x → Stands d k o b x → ⊥
+    times_further : {seen : List ℕ} {round k i n from o : ℕ} {count : Count} {v : Values} {b : List ℕ} {ts : Trees} → TimesMean d n i o v b ts → slice_get d.nodes k ≡ Some (Times count i) → Formed d.nodes seen round i → {c : List ℕ} (a : ℕ) (r x : List ℕ) → x ≡ a ∷ r → Reached d k from → Turn d count i n from (o % 8) → FitWidths d v → TimesFollow d n i o v c → c ≡ b ++ x → Stands d k o b x → ⊥
     times_further (times_end over nothing) at first a r x is reached turn widths (times_here some f) e s = omega arith
     times_further (times_end over nothing) at first a r x is reached turn widths (times_later m suc_m c1 c2 other_cut g f) e s = absurd (omega arith)
     times_further (times_next m over b1 b2 cut h others) at first a r x is reached turn widths (times_here some f) e s =
@@ -181,7 +182,7 @@ module _ (d : DescV) (most : ℕ) (shaped_is : Shaped d) (certified : Certified 
         let count_same : m ≡ l = omega arith in
         times_further others at first a r x is reached (turn_next d over turn (ends d shaped_is (o + length b1) refl widths h)) widths (times_along d o b1 c1 count_same same.words f) next left
 
-    many_further : {seen : List ℕ} {round k i from o : ℕ} {v : Values} {b : List ℕ} {ts : Trees} → ManyMean d i o v b ts → slice_get d.nodes k ≡ Some (Many i) → Formed d.nodes seen round i → {c : List ℕ} (a : ℕ) (r x : List ℕ) → x ≡ a ∷ r → Reached d k from → ManyEnd d i from (o % 8) → Widths d v → ManyFollow d i o v c → c ≡ b ++ x → Stands d k o b x → ⊥
+    many_further : {seen : List ℕ} {round k i from o : ℕ} {v : Values} {b : List ℕ} {ts : Trees} → ManyMean d i o v b ts → slice_get d.nodes k ≡ Some (Many i) → Formed d.nodes seen round i → {c : List ℕ} (a : ℕ) (r x : List ℕ) → x ≡ a ∷ r → Reached d k from → ManyEnd d i from (o % 8) → FitWidths d v → ManyFollow d i o v c → c ≡ b ++ x → Stands d k o b x → ⊥
     many_further {k = k} {o = o} (many_end nothing) at first a r x is reached ended widths f e s =
         let ahead = e ∙ ap (λ l. l ++ x) nothing ∙ is in
         certified (LoopClash k (o % 8) a) (loop_clash at (many_reached d at reached ended) (many_follow_start d shaped_is a r ahead widths f) (stands_here d most shaped_is certified a r nothing is s))
@@ -196,7 +197,7 @@ module _ (d : DescV) (most : ℕ) (shaped_is : Shaped d) (certified : Certified 
         many_further others at first a r x is reached (many_end_more d ended (ends d shaped_is (o + length b1) refl widths h)) widths (many_along d o b1 c1 same.words f) next left
 
   -- what is said of a node ahead of which bits lie that have a tree there
-  pub one_way : {i o : ℕ} {v : Values} {b c : List ℕ} {t : TreeV} (x : List ℕ) → (x ≡ [] → ⊥) → IsDescription d → Reached d i (o % 8) → Widths d v → NMeans d i o v b t → NFollow d i o v c → c ≡ b ++ x → Stands d i o b x → ⊥
+  pub one_way : {i o : ℕ} {v : Values} {b c : List ℕ} {t : TreeV} (x : List ℕ) → (x ≡ [] → ⊥) → IsDescription d → Reached d i (o % 8) → FitWidths d v → NMeans d i o v b t → NFollow d i o v c → c ≡ b ++ x → Stands d i o b x → ⊥
   one_way [] some is reached widths h followed e s = some refl
   one_way (a ∷ r) some is reached widths h followed e s =
       let here = node_placed d is h in no_further h here.is a r (a ∷ r) refl reached widths followed e s

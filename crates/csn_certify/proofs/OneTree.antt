@@ -8,15 +8,15 @@ use Rattle.csn_desc.specs.TreeV.{TreeV, bits, row, alt, named, Trees, none, more
 use Rattle.csn_desc.specs.Nodes.{DescV}
 use Rattle.csn_desc.specs.Values.{Values, with_value}
 use Rattle.csn_desc.specs.Means.{NMeans, NodeMeans, PartsMean, TimesMean, ManyMean, LeadMean, means_at, means_lits, means_spare, means_pad, means_null, means_field, means_rest, means_seq, means_choice, means_times, means_many, means_cut, means_trunc, means_window, means_named, parts_end, parts_next, times_end, times_next, many_end, many_next, lead_last, lead_next}
-use Rattle.csn_desc.specs.Formed.{IsDescription}
+use Rattle.csn_desc.specs.Formed.{IsDescription, FitWidths}
 use Rattle.csn_desc.proofs.Nodewise.{meaning_at}
 use Rattle.csn_look.specs.Ends.{InEnds, PartsEnd, ManyEnd}
 use Rattle.csn_look.specs.Ends as end
-use Rattle.csn_look.specs.Reached.{Reached, reached_root}
-use Rattle.csn_look.proofs.ShapeFacts.{Shaped, shaped, Widths, no_widths, widths_kept, place-split}
+use Rattle.csn_look.specs.Reached.{Reached, reached_root, Turn}
+use Rattle.csn_look.proofs.ShapeFacts.{Shaped, shaped, no_widths, widths_kept, place-split}
 use Rattle.csn_look.proofs.EndsFacts.{ends}
 use Rattle.csn_look.proofs.FollowFacts.{Stands, cuts, end_stands, choice_stands, named_stands, seq_stands, lead_stands, last_stands, times_stands, many_stands}
-use Rattle.csn_look.proofs.ReachFacts.{Turn, turn_first, turn_next, turn_reached, parts_end_more, many_end_more, seq_reached, lead_reached, choice_reached, window_reached, named_reached, many_reached}
+use Rattle.csn_look.proofs.ReachFacts.{turn_first, turn_next, turn_reached, parts_end_more, many_end_more, seq_reached, lead_reached, choice_reached, window_reached, named_reached, many_reached}
 use Rattle.csn_certify.specs.Conflicts.{Certified}
 use Rattle.csn_certify.proofs.Pieces.{order, equal_numbers, first_less, second_less, same_length, same_ends, cut_first, cut_rest}
 use Rattle.csn_certify.proofs.Decisions.{nothing_behind, no_loop, no_two}
@@ -74,10 +74,10 @@ module _ (d : DescV) (most : ℕ) (shaped : Shaped d) (certified : Certified d m
 
   mutual
     -- bits of one node that go on alike, each with what may stand behind them, are the same, with one tree
-    pub one_tree : {i o : ℕ} {v : Values} {b : List ℕ} {t : TreeV} → NMeans d i o v b t → {c : List ℕ} {u : TreeV} (x y : List ℕ) → Reached d i (o % 8) → Widths d v → NMeans d i o v c u → b ++ x ≡ c ++ y → Stands d i o b x → Stands d i o c y → Same b c t u
+    pub one_tree : {i o : ℕ} {v : Values} {b : List ℕ} {t : TreeV} → NMeans d i o v b t → {c : List ℕ} {u : TreeV} (x y : List ℕ) → Reached d i (o % 8) → FitWidths d v → NMeans d i o v c u → b ++ x ≡ c ++ y → Stands d i o b x → Stands d i o c y → Same b c t u
     one_tree (means_at n at h) x y reached widths other e s1 s2 = one_node h at x y reached widths (meaning_at d at other) e s1 s2
 
-    one_node : {n : Node} {i o : ℕ} {v : Values} {b : List ℕ} {t : TreeV} → NodeMeans d n o v b t → slice_get d.nodes i ≡ Some n → {c : List ℕ} {u : TreeV} (x y : List ℕ) → Reached d i (o % 8) → Widths d v → NodeMeans d n o v c u → b ++ x ≡ c ++ y → Stands d i o b x → Stands d i o c y → Same b c t u
+    one_node : {n : Node} {i o : ℕ} {v : Values} {b : List ℕ} {t : TreeV} → NodeMeans d n o v b t → slice_get d.nodes i ≡ Some n → {c : List ℕ} {u : TreeV} (x y : List ℕ) → Reached d i (o % 8) → FitWidths d v → NodeMeans d n o v c u → b ++ x ≡ c ++ y → Stands d i o b x → Stands d i o c y → Same b c t u
     one_node (means_lits left) at x y reached widths (means_lits right) e s1 s2 = record { words = left ∙ sym right; trees = refl }
     one_node {b = b} (means_spare left h1) at {c = c} x y reached widths (means_spare right h2) e s1 s2 =
         let agree = same_length b c x y (left ∙ sym right) e in record { words = agree; trees = ap bits agree }
@@ -141,7 +141,7 @@ module _ (d : DescV) (most : ℕ) (shaped : Shaped d) (certified : Certified d m
         record { words = same.words; trees = ap (named label) same.trees }
 
     -- the later parts of a sequence
-    pub one_parts : {k from o : ℕ} {parts after : List ℕ} {v : Values} {b : List ℕ} {ts : Trees} → PartsMean d after o v b ts → slice_get d.nodes k ≡ Some (Seq parts) → (before : List ℕ) → parts ≡ before ++ after → Reached d k from → PartsEnd d before from (o % 8) → Widths d v → {c : List ℕ} {us : Trees} (x y : List ℕ) → PartsMean d after o v c us → b ++ x ≡ c ++ y → Stands d k o b x → Stands d k o c y → Same b c ts us
+    pub one_parts : {k from o : ℕ} {parts after : List ℕ} {v : Values} {b : List ℕ} {ts : Trees} → PartsMean d after o v b ts → slice_get d.nodes k ≡ Some (Seq parts) → (before : List ℕ) → parts ≡ before ++ after → Reached d k from → PartsEnd d before from (o % 8) → FitWidths d v → {c : List ℕ} {us : Trees} (x y : List ℕ) → PartsMean d after o v c us → b ++ x ≡ c ++ y → Stands d k o b x → Stands d k o c y → Same b c ts us
     one_parts (parts_end left) at before is reached ended widths x y (parts_end right) e s1 s2 = record { words = left ∙ sym right; trees = refl }
     one_parts {o = o} {v = v} (parts_next {i = i} {parts = after} b1 b2 left h1 others1) at before is reached ended widths x y (parts_next c1 c2 right h2 others2) e s1 s2 =
         let t1 = behind_first d b1 b2 left s1 in
@@ -152,7 +152,7 @@ module _ (d : DescV) (most : ℕ) (shaped : Shaped d) (certified : Certified d m
         joined b1 b2 c1 c2 left right first rest
 
     -- the turns that are left of a repetition by number
-    pub one_times : {k i n from o : ℕ} {count : Count} {v : Values} {b : List ℕ} {ts : Trees} → TimesMean d n i o v b ts → slice_get d.nodes k ≡ Some (Times count i) → Reached d k from → Turn d count i n from (o % 8) → Widths d v → {c : List ℕ} {us : Trees} (x y : List ℕ) → TimesMean d n i o v c us → b ++ x ≡ c ++ y → Stands d k o b x → Stands d k o c y → Same b c ts us
+    pub one_times : {k i n from o : ℕ} {count : Count} {v : Values} {b : List ℕ} {ts : Trees} → TimesMean d n i o v b ts → slice_get d.nodes k ≡ Some (Times count i) → Reached d k from → Turn d count i n from (o % 8) → FitWidths d v → {c : List ℕ} {us : Trees} (x y : List ℕ) → TimesMean d n i o v c us → b ++ x ≡ c ++ y → Stands d k o b x → Stands d k o c y → Same b c ts us
     one_times (times_end over1 left) at reached turn widths x y (times_end over2 right) e s1 s2 = record { words = left ∙ sym right; trees = refl }
     one_times (times_end over1 left) at reached turn widths x y (times_next m over2 c1 c2 right h2 others2) e s1 s2 = absurd (omega arith)
     one_times (times_next m over1 b1 b2 left h1 others1) at reached turn widths x y (times_end over2 right) e s1 s2 = absurd (omega arith)
@@ -166,7 +166,7 @@ module _ (d : DescV) (most : ℕ) (shaped : Shaped d) (certified : Certified d m
         joined b1 b2 c1 c2 left right first rest
 
     -- the turns that are left of a free repetition
-    pub one_many : {k i from o : ℕ} {v : Values} {b : List ℕ} {ts : Trees} → ManyMean d i o v b ts → slice_get d.nodes k ≡ Some (Many i) → Reached d k from → ManyEnd d i from (o % 8) → Widths d v → {c : List ℕ} {us : Trees} (x y : List ℕ) → ManyMean d i o v c us → b ++ x ≡ c ++ y → Stands d k o b x → Stands d k o c y → Same b c ts us
+    pub one_many : {k i from o : ℕ} {v : Values} {b : List ℕ} {ts : Trees} → ManyMean d i o v b ts → slice_get d.nodes k ≡ Some (Many i) → Reached d k from → ManyEnd d i from (o % 8) → FitWidths d v → {c : List ℕ} {us : Trees} (x y : List ℕ) → ManyMean d i o v c us → b ++ x ≡ c ++ y → Stands d k o b x → Stands d k o c y → Same b c ts us
     one_many (many_end left) at reached ended widths x y (many_end right) e s1 s2 = record { words = left ∙ sym right; trees = refl }
     one_many (many_end left) at reached ended widths x y (many_next c1 c2 right some h2 others2) e s1 s2 =
         let size = ap length right in
@@ -183,7 +183,7 @@ module _ (d : DescV) (most : ℕ) (shaped : Shaped d) (certified : Certified d m
         joined b1 b2 c1 c2 left right first rest
 
     -- the later parts of a truncation, behind which nothing stands
-    pub one_lead : {k from o : ℕ} {parts after : List ℕ} {v : Values} {b : List ℕ} {ts : Trees} → LeadMean d after o v b ts → slice_get d.nodes k ≡ Some (Trunc parts) → (before : List ℕ) → parts ≡ before ++ after → Reached d k from → PartsEnd d before from (o % 8) → Widths d v → {c : List ℕ} {us : Trees} → LeadMean d after o v c us → b ≡ c → Stands d k o b [] → ts ≡ us
+    pub one_lead : {k from o : ℕ} {parts after : List ℕ} {v : Values} {b : List ℕ} {ts : Trees} → LeadMean d after o v b ts → slice_get d.nodes k ≡ Some (Trunc parts) → (before : List ℕ) → parts ≡ before ++ after → Reached d k from → PartsEnd d before from (o % 8) → FitWidths d v → {c : List ℕ} {us : Trees} → LeadMean d after o v c us → b ≡ c → Stands d k o b [] → ts ≡ us
     one_lead {b = b} (lead_last {parts = after} some1 h1) at before is reached ended widths {c = c} (lead_last some2 h2) agree s =
         let here = last_stands d shaped before after at is s in
         let first = one_tree h1 [] [] (lead_reached d after at is reached ended) widths h2 (ap (λ l. l ++ []) agree) here (last_stands d shaped before after at is (stands_along d b c agree s)) in

@@ -8,18 +8,19 @@ use Rattle.csn_desc.specs.Nodes.{DescV, head_of, parts_of}
 use Rattle.csn_desc.specs.Values.{Values}
 use Rattle.csn_desc.specs.Means.{NMeans, ManyMean, means_null}
 use Rattle.csn_desc.specs.Follows.{NFollow, NodeFollows, follows_whole}
-use Rattle.csn_desc.specs.Formed.{shows_earlier, HasParts, Formed, PartsFormed, formed, IsDescription}
+use Rattle.csn_desc.specs.Formed.{shows_earlier, HasParts, Formed, PartsFormed, formed, IsDescription, FitWidths}
 use Rattle.csn_desc.proofs.Nodewise.{follow_at}
 use Rattle.csn_desc.proofs.Splits.{Splits, splits, inside, behind}
 use Rattle.csn_look.specs.Starts.{InStart}
 use Rattle.csn_look.specs.Keys.{InKeys}
 use Rattle.csn_look.specs.Reached.{Reached, InFollow}
-use Rattle.csn_look.proofs.ShapeFacts.{Shaped, Widths, placed, within_nodes}
+use Rattle.csn_look.proofs.ShapeFacts.{Shaped, placed, within_nodes}
 use Rattle.csn_look.proofs.NullableFacts.{nullable}
 use Rattle.csn_look.proofs.StartFacts.{starts, follows, many_start}
 use Rattle.csn_look.proofs.KeyFacts.{keys}
 use Rattle.csn_look.proofs.KeyMeant.{key_start}
-use Rattle.csn_look.proofs.NearFacts.{Near, near_begun, near_within, near_keys, has_key}
+use Rattle.csn_look.specs.Beginnings.{Near, near_begun, near_within}
+use Rattle.csn_look.proofs.NearFacts.{near_keys, has_key}
 use Rattle.csn_look.proofs.KeyFollowed.{choice_formed}
 use Rattle.csn_look.proofs.FollowFacts.{Stands}
 use Rattle.csn_certify.specs.declared.conflict.Conflict.TheVariants.{TwoEmpty, NotFirm, Overlap, EmptyClash, LoopClash}
@@ -182,7 +183,7 @@ module _ (d : DescV) (most : ℕ) (shaped_is : Shaped d) (certified : Certified 
       no_clash a reached differs at_i at_j null start (subst P same follow)
   begins_behind a r more reached differs at_i at_j null start over (behind_end ended) e = let none = over ended in absurd (cc)
 
-  pub none_decides : {q i : ℕ} {v : Values} {held b : List ℕ} {ended : Bool} {t : TreeV} (m : ℕ) (x more : List ℕ) → Reached d k (o % 8) → Widths d v → TakesNone d most k parts (o % 8) held ended i → (ended ≡ true → more ≡ []) → slice_get parts m ≡ Some q → NMeans d q o v b t → b ++ x ≡ held ++ more → m ≡ i
+  pub none_decides : {q i : ℕ} {v : Values} {held b : List ℕ} {ended : Bool} {t : TreeV} (m : ℕ) (x more : List ℕ) → Reached d k (o % 8) → FitWidths d v → TakesNone d most k parts (o % 8) held ended i → (ended ≡ true → more ≡ []) → slice_get parts m ≡ Some q → NMeans d q o v b t → b ++ x ≡ held ++ more → m ≡ i
   none_decides {q} {i} {v = v} {held = held} {b = b} {ended = ended} {t = t} m x more reached widths h over at_m meaning e =
       same_number m i (λ differs.
       elim (part_null d q) [
@@ -195,13 +196,13 @@ module _ (d : DescV) (most : ℕ) (shaped_is : Shaped d) (certified : Certified 
       by_bits differs real (a ∷ l) is =
           begins_behind a (l ++ x) more reached differs h.is_part at_m h.is_null (starts d shaped_is a l is widths meaning) over h.behind (ap (λ l. l ++ x) (sym is) ∙ e)
 
-  follows_behind : {i m p q : ℕ} {v : Values} {held : List ℕ} {ended : Bool} (more : List ℕ) → Reached d k (o % 8) → Widths d v → m ≢ i → slice_get parts i ≡ Some p → slice_get parts m ≡ Some q → IsNull d p → 0 < length held → StandsBehind d most k (o % 8) held ended → NFollow d q o v (held ++ more) → ⊥
+  follows_behind : {i m p q : ℕ} {v : Values} {held : List ℕ} {ended : Bool} (more : List ℕ) → Reached d k (o % 8) → FitWidths d v → m ≢ i → slice_get parts i ≡ Some p → slice_get parts m ≡ Some q → IsNull d p → 0 < length held → StandsBehind d most k (o % 8) held ended → NFollow d q o v (held ++ more) → ⊥
   follows_behind more reached widths differs at_i at_m null some (behind_bit {bit = bit} {rest = rest} follow) followed =
       no_clash bit reached differs at_i at_m null (follows d shaped_is bit (rest ++ more) refl widths followed) follow
   follows_behind more reached widths differs at_i at_m null some (behind_end is) followed = absurd (omega arith)
 
   -- of bits that an alternative follows, where some are held
-  pub none_decides_followed : {q i : ℕ} {v : Values} {held : List ℕ} {ended : Bool} (m : ℕ) (more : List ℕ) → Reached d k (o % 8) → Widths d v → TakesNone d most k parts (o % 8) held ended i → 0 < length held → slice_get parts m ≡ Some q → NFollow d q o v (held ++ more) → m ≡ i
+  pub none_decides_followed : {q i : ℕ} {v : Values} {held : List ℕ} {ended : Bool} (m : ℕ) (more : List ℕ) → Reached d k (o % 8) → FitWidths d v → TakesNone d most k parts (o % 8) held ended i → 0 < length held → slice_get parts m ≡ Some q → NFollow d q o v (held ++ more) → m ≡ i
   none_decides_followed {q} {i} m more reached widths h some at_m followed =
       same_number m i (λ differs.
       elim (part_null d q) [
@@ -336,6 +337,6 @@ module _ (d : DescV) (most : ℕ) (shaped_is : Shaped d) (certified : Certified 
 
 module _ (d : DescV) (shaped_is : Shaped d) where
   -- where it does not, a repetition has no bits
-  pub stops : {i o : ℕ} {v : Values} {b : List ℕ} {ts : Trees} (x : List ℕ) (a : ℕ) (r : List ℕ) → Widths d v → ¬ InStart d i (o % 8) a → ManyMean d i o v b ts → b ++ x ≡ a ∷ r → b ≡ []
+  pub stops : {i o : ℕ} {v : Values} {b : List ℕ} {ts : Trees} (x : List ℕ) (a : ℕ) (r : List ℕ) → FitWidths d v → ¬ InStart d i (o % 8) a → ManyMean d i o v b ts → b ++ x ≡ a ∷ r → b ≡ []
   stops {b = []} x a r widths never h e = refl
   stops {b = z ∷ b} x a r widths never h e = let same : z ∷ b ≡ a ∷ b = cc in absurd (never (many_start d shaped_is a b same widths h))

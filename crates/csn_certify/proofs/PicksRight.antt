@@ -6,20 +6,18 @@ use Rattle.csn_desc.specs.Nodes.{DescV}
 use Rattle.csn_desc.specs.Values.{Values}
 use Rattle.csn_desc.specs.Means.{NMeans, NodeMeans, ManyMean, means_choice, means_many, many_end, many_next}
 use Rattle.csn_desc.specs.Follows.{NFollow}
+use Rattle.csn_desc.specs.Formed.{FitWidths}
 use Rattle.csn_desc.proofs.Nodewise.{meaning_at}
 use Rattle.csn_look.specs.Starts.{InStart}
 use Rattle.csn_look.specs.Reached.{Reached}
-use Rattle.csn_look.proofs.ShapeFacts.{Shaped, Widths}
+use Rattle.csn_look.proofs.ShapeFacts.{Shaped}
 use Rattle.csn_look.proofs.KeyFollowed.{choice_formed}
 use Rattle.csn_look.proofs.FollowFacts.{Stands}
 use Rattle.csn_certify.specs.declared.pick.Pick.TheVariants.{Take, Leave, Refuse}
 use Rattle.csn_certify.specs.Conflicts.{Certified}
 use Rattle.csn_certify.specs.Picks.{Picks, BeginsWithKey, BeginsKey, TakesNone, pick_key, pick_none, pick_refuse, pick_again, pick_leave, pick_ended}
-use Rattle.csn_certify.specs.Ahead.{FitWidths, LiesAhead}
+use Rattle.csn_certify.specs.Ahead.{LiesAhead}
 use Rattle.csn_certify.proofs.PickFacts.{ChoiceFormed, key_decides, key_decides_followed, none_decides, none_decides_followed, refused_means, refused_follows, goes_on, stops}
-
-pub widths_of : {d : DescV} {v : Values} → FitWidths d v → Widths d v
-widths_of h = record { fit = h.fit }
 
 -- ---- trees of the kinds of node
 
@@ -51,7 +49,7 @@ module _ (d : DescV) where
   none_row (means_many h) is = ap row (none_turns h is)
 
 module _ (d : DescV) (most : ℕ) (shaped_is : Shaped d) (certified : Certified d most) where
-  pub takes_right : {node o j : ℕ} {v : Values} {parts held later : List ℕ} {ended : Bool} {t : TreeV} → slice_get d.nodes node ≡ Some (Choice parts) → Reached d node (o % 8) → Widths d v → (ended ≡ true → later ≡ []) → LiesAhead d node o v (held ++ later) t → Picks d most node (o % 8) held ended (Take j) → (u : TreeV) × (t ≡ alt j u)
+  pub takes_right : {node o j : ℕ} {v : Values} {parts held later : List ℕ} {ended : Bool} {t : TreeV} → slice_get d.nodes node ≡ Some (Choice parts) → Reached d node (o % 8) → FitWidths d v → (ended ≡ true → later ≡ []) → LiesAhead d node o v (held ++ later) t → Picks d most node (o % 8) held ended (Take j) → (u : TreeV) × (t ≡ alt j u)
   takes_right {node} {o} {j} {parts = parts} {held = held} {later = later} at reached widths over ahead (pick_key those is h) =
       let same : those ≡ parts = cc in
       let P : List ℕ → Type 0 = λ l. BeginsWithKey d most l (o % 8) held j in
@@ -75,7 +73,7 @@ module _ (d : DescV) (most : ℕ) (shaped_is : Shaped d) (certified : Certified 
       no_alternative d (meaning_at d at ahead.means)
       (λ m q u at_m meaning. refused_means d most shaped_is certified node o parts at m ended ahead.others later formed_parts (subst P same no_key) (subst Q same no_none) (subst R same no_more) over at_m meaning (sym ahead.split) (stands_of d ahead))
 
-  pub takes_followed : {node o i j part : ℕ} {v : Values} {parts held : List ℕ} {ended : Bool} (later : List ℕ) → ChoiceFormed d parts → slice_get d.nodes node ≡ Some (Choice parts) → Reached d node (o % 8) → Widths d v → 0 < length held → slice_get parts i ≡ Some part → NFollow d part o v (held ++ later) → Picks d most node (o % 8) held ended (Take j) → i ≡ j
+  pub takes_followed : {node o i j part : ℕ} {v : Values} {parts held : List ℕ} {ended : Bool} (later : List ℕ) → ChoiceFormed d parts → slice_get d.nodes node ≡ Some (Choice parts) → Reached d node (o % 8) → FitWidths d v → 0 < length held → slice_get parts i ≡ Some part → NFollow d part o v (held ++ later) → Picks d most node (o % 8) held ended (Take j) → i ≡ j
   takes_followed {node} {o} {i} {j} {part} {parts = parts} {held = held} later formed_parts at reached widths some at_i followed (pick_key those is h) =
       let same : those ≡ parts = cc in
       let P : List ℕ → Type 0 = λ l. BeginsWithKey d most l (o % 8) held j in
@@ -108,7 +106,7 @@ module _ (d : DescV) (shaped_is : Shaped d) where
   no_own [] others e = refl
   no_own (x ∷ own) others e = absurd (cc)
 
-  pub stops_right : {most node part o : ℕ} {v : Values} {held later : List ℕ} {ended : Bool} {t : TreeV} → slice_get d.nodes node ≡ Some (Many part) → Widths d v → (ended ≡ true → later ≡ []) → LiesAhead d node o v (held ++ later) t → Picks d most node (o % 8) held ended Leave → t ≡ row none
+  pub stops_right : {most node part o : ℕ} {v : Values} {held later : List ℕ} {ended : Bool} {t : TreeV} → slice_get d.nodes node ≡ Some (Many part) → FitWidths d v → (ended ≡ true → later ≡ []) → LiesAhead d node o v (held ++ later) t → Picks d most node (o % 8) held ended Leave → t ≡ row none
   stops_right {part = part} {o = o} {v = v} {later = later} at widths over ahead (pick_leave {bit = bit} {rest = rest} those is never) =
       let that : those ≡ part = cc in
       let P : ℕ → Type 0 = λ i. InStart d i (o % 8) bit → ⊥ in

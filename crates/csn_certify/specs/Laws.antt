@@ -7,14 +7,14 @@ use Rattle.csn_desc.specs.Nodes.{DescV}
 use Rattle.csn_desc.specs.Values.{Values}
 use Rattle.csn_desc.specs.Means.{NMeans}
 use Rattle.csn_desc.specs.Follows.{NFollow}
-use Rattle.csn_desc.specs.Formed.{IsDescription}
+use Rattle.csn_desc.specs.Formed.{IsDescription, FitWidths}
 use Rattle.csn_look.specs.Reached.{Reached}
 use Rattle.csn_certify.specs.declared.conflict.Conflict.{Conflict}
 use Rattle.csn_certify.specs.declared.pick.Pick.{Pick}
 use Rattle.csn_certify.specs.declared.pick.Pick.TheVariants.{Take, Leave, Refuse}
 use Rattle.csn_certify.specs.Conflicts.{IsFirstConflict, Certified}
 use Rattle.csn_certify.specs.Picks.{IsAsked, Picks}
-use Rattle.csn_certify.specs.Ahead.{FitWidths, LiesAhead}
+use Rattle.csn_certify.specs.Ahead.{LiesAhead}
 
 abbrev pub FirstConflictIsOne : Type 0
 FirstConflictIsOne =

@@ -1,6 +1,6 @@
 -- Which descriptions are well formed. That a description is numbered nodes, and the limits on it, are this
 -- project's own choice.
-use Rattle.std.specs.Prelude.{◌≡◌, ℕ, suc, ◌*◌, ◌<◌, ◌≤◌, ◌⊎◌, ⊤, Bool, true, false, if◌then◌else◌, ◌==◌, List, [], ◌∷◌, length, map, slice_get, Option, Some, None, IsTrue, IsSome, IsSomeAnd, Contains, count_by}
+use Rattle.std.specs.Prelude.{◌≡◌, ℕ, suc, ◌*◌, ◌^◌, ◌<◌, ◌≤◌, ◌⊎◌, ⊤, Bool, true, false, if◌then◌else◌, ◌==◌, List, [], ◌∷◌, length, map, slice_get, Option, Some, None, IsTrue, IsSome, IsSomeAnd, Contains, count_by}
 use Rattle.std.specs.Option.{option_and_then}
 use Rattle.std.specs.List.{list_any, range_with_len}
 use Rattle.csn_desc.specs.declared.symbol.Symbol.TheVariants.{Zero, Low}
@@ -150,6 +150,10 @@ pub record IsDescription (d : DescV) : Type 0 where
 -- each labelled part that is seen has a value
 abbrev pub HaveValues : Values → List ℕ → Type 0
 HaveValues v seen = (field : ℕ) → Contains seen field → IsSome (value_of v field)
+
+-- the values are of fields with their widths
+pub record FitWidths (d : DescV) (v : Values) : Type 0 where
+  pub fit : (field value width : ℕ) → value_of v field ≡ Some value → value_width d.nodes field ≡ Some width → value < 2 ^ width
 
 -- for each node, whether some count stands on it
 abbrev pub counted_marks : List Node → List Bool

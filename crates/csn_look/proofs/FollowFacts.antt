@@ -7,8 +7,9 @@ use Rattle.csn_desc.specs.Nodes.{DescV}
 use Rattle.csn_desc.specs.Values.{Values}
 use Rattle.csn_desc.specs.Means.{PartsMean, TimesMean, ManyMean, LeadMean}
 use Rattle.csn_desc.specs.Follows.{PartsFollow, TimesFollow, ManyFollow}
+use Rattle.csn_desc.specs.Formed.{FitWidths}
 use Rattle.csn_look.specs.Reached.{InFollow, follow_part, follow_later, follow_seq, follow_kept, follow_trunc, follow_times_again, follow_times, follow_many_again, follow_many, follow_choice, follow_named}
-use Rattle.csn_look.proofs.ShapeFacts.{Shaped, Widths}
+use Rattle.csn_look.proofs.ShapeFacts.{Shaped}
 use Rattle.csn_look.proofs.NullableFacts.{parts_nullable}
 use Rattle.csn_look.proofs.StartFacts.{parts_start, times_start, many_start, lead_start, parts_follow_start, times_follow_start, many_follow_start}
 
@@ -53,49 +54,49 @@ module _ (d : DescV) where
 
 module _ (d : DescV) (shaped : Shaped d) where
   -- the later parts, from the place where the part ends, and then what stands behind the node
-  seq_follows : {k i o : ℕ} {v : Values} {parts after b x : List ℕ} {ts : Trees} (before : List ℕ) → slice_get d.nodes k ≡ Some (Seq parts) → parts ≡ before ++ i ∷ after → Widths d v → PartsMean d after o v b ts → Stands d k o b x → (bit : ℕ) (rest : List ℕ) → b ++ x ≡ bit ∷ rest → InFollow d i (o % 8) (Some bit)
+  pub seq_follows : {k i o : ℕ} {v : Values} {parts after b x : List ℕ} {ts : Trees} (before : List ℕ) → slice_get d.nodes k ≡ Some (Seq parts) → parts ≡ before ++ i ∷ after → FitWidths d v → PartsMean d after o v b ts → Stands d k o b x → (bit : ℕ) (rest : List ℕ) → b ++ x ≡ bit ∷ rest → InFollow d i (o % 8) (Some bit)
   seq_follows {k} {o = o} {parts = parts} {after = after} {b = []} before at is widths h s bit rest e =
       follow_part k (Seq parts) before after at is (follow_seq (parts_nullable d shaped h refl) (behind_none d o s.place (length {A = ℕ} []) s.is_place refl (s.follows bit rest e)))
   seq_follows {k} {parts = parts} {after = after} {b = a ∷ r} before at is widths h s bit rest e =
       let same : a ∷ r ≡ bit ∷ r = cc in follow_part k (Seq parts) before after at is (follow_later (parts_start d shaped bit r same widths h))
 
-  lead_follows : {k i o : ℕ} {v : Values} {parts after b x : List ℕ} {ts : Trees} (before : List ℕ) → slice_get d.nodes k ≡ Some (Trunc parts) → parts ≡ before ++ i ∷ after → Widths d v → LeadMean d after o v b ts → Stands d k o b x → (bit : ℕ) (rest : List ℕ) → b ++ x ≡ bit ∷ rest → InFollow d i (o % 8) (Some bit)
+  pub lead_follows : {k i o : ℕ} {v : Values} {parts after b x : List ℕ} {ts : Trees} (before : List ℕ) → slice_get d.nodes k ≡ Some (Trunc parts) → parts ≡ before ++ i ∷ after → FitWidths d v → LeadMean d after o v b ts → Stands d k o b x → (bit : ℕ) (rest : List ℕ) → b ++ x ≡ bit ∷ rest → InFollow d i (o % 8) (Some bit)
   lead_follows {k} {o = o} {parts = parts} {after = after} {b = []} before at is widths h s bit rest e =
       follow_part k (Trunc parts) before after at is (follow_trunc (behind_none d o s.place (length {A = ℕ} []) s.is_place refl (s.follows bit rest e)))
   lead_follows {k} {parts = parts} {after = after} {b = a ∷ r} before at is widths h s bit rest e =
       let same : a ∷ r ≡ bit ∷ r = cc in follow_part k (Trunc parts) before after at is (follow_kept (lead_start d shaped bit r same widths h))
 
-  times_follows : {k i n o : ℕ} {count : Count} {v : Values} {b x : List ℕ} {ts : Trees} → slice_get d.nodes k ≡ Some (Times count i) → Widths d v → TimesMean d n i o v b ts → Stands d k o b x → (bit : ℕ) (rest : List ℕ) → b ++ x ≡ bit ∷ rest → InFollow d i (o % 8) (Some bit)
+  pub times_follows : {k i n o : ℕ} {count : Count} {v : Values} {b x : List ℕ} {ts : Trees} → slice_get d.nodes k ≡ Some (Times count i) → FitWidths d v → TimesMean d n i o v b ts → Stands d k o b x → (bit : ℕ) (rest : List ℕ) → b ++ x ≡ bit ∷ rest → InFollow d i (o % 8) (Some bit)
   times_follows {k} {i} {o = o} {count = count} {b = []} at widths h s bit rest e =
       follow_part k (Times count i) [] [] at refl (follow_times (behind_none d o s.place (length {A = ℕ} []) s.is_place refl (s.follows bit rest e)))
   times_follows {k} {i} {count = count} {b = a ∷ r} at widths h s bit rest e =
       let same : a ∷ r ≡ bit ∷ r = cc in follow_part k (Times count i) [] [] at refl (follow_times_again (times_start d shaped bit r same widths h))
 
-  many_follows : {k i o : ℕ} {v : Values} {b x : List ℕ} {ts : Trees} → slice_get d.nodes k ≡ Some (Many i) → Widths d v → ManyMean d i o v b ts → Stands d k o b x → (bit : ℕ) (rest : List ℕ) → b ++ x ≡ bit ∷ rest → InFollow d i (o % 8) (Some bit)
+  pub many_follows : {k i o : ℕ} {v : Values} {b x : List ℕ} {ts : Trees} → slice_get d.nodes k ≡ Some (Many i) → FitWidths d v → ManyMean d i o v b ts → Stands d k o b x → (bit : ℕ) (rest : List ℕ) → b ++ x ≡ bit ∷ rest → InFollow d i (o % 8) (Some bit)
   many_follows {k} {i} {o} {b = []} at widths h s bit rest e =
       follow_part k (Many i) [] [] at refl (follow_many (behind_none d o s.place (length {A = ℕ} []) s.is_place refl (s.follows bit rest e)))
   many_follows {k} {i} {b = a ∷ r} at widths h s bit rest e =
       let same : a ∷ r ≡ bit ∷ r = cc in follow_part k (Many i) [] [] at refl (follow_many_again (many_start d shaped bit r same widths h))
 
   -- behind the bits b1 of a part stand the bits b2 of the later ones
-  pub seq_stands : {k i o : ℕ} {v : Values} {parts after b2 x : List ℕ} {ts : Trees} (before b1 : List ℕ) → slice_get d.nodes k ≡ Some (Seq parts) → parts ≡ before ++ i ∷ after → Widths d v → PartsMean d after (o + length b1) v b2 ts → Stands d k (o + length b1) b2 x → Stands d i o b1 (b2 ++ x)
+  pub seq_stands : {k i o : ℕ} {v : Values} {parts after b2 x : List ℕ} {ts : Trees} (before b1 : List ℕ) → slice_get d.nodes k ≡ Some (Seq parts) → parts ≡ before ++ i ∷ after → FitWidths d v → PartsMean d after (o + length b1) v b2 ts → Stands d k (o + length b1) b2 x → Stands d i o b1 (b2 ++ x)
   seq_stands {o = o} before b1 at is widths h s = record { place = o + length b1; is_place = refl; follows = seq_follows before at is widths h s }
 
-  pub lead_stands : {k i o : ℕ} {v : Values} {parts after b2 x : List ℕ} {ts : Trees} (before b1 : List ℕ) → slice_get d.nodes k ≡ Some (Trunc parts) → parts ≡ before ++ i ∷ after → Widths d v → LeadMean d after (o + length b1) v b2 ts → Stands d k (o + length b1) b2 x → Stands d i o b1 (b2 ++ x)
+  pub lead_stands : {k i o : ℕ} {v : Values} {parts after b2 x : List ℕ} {ts : Trees} (before b1 : List ℕ) → slice_get d.nodes k ≡ Some (Trunc parts) → parts ≡ before ++ i ∷ after → FitWidths d v → LeadMean d after (o + length b1) v b2 ts → Stands d k (o + length b1) b2 x → Stands d i o b1 (b2 ++ x)
   lead_stands {o = o} before b1 at is widths h s = record { place = o + length b1; is_place = refl; follows = lead_follows before at is widths h s }
 
   pub last_stands : {k i o : ℕ} {parts b x : List ℕ} (before after : List ℕ) → slice_get d.nodes k ≡ Some (Trunc parts) → parts ≡ before ++ i ∷ after → Stands d k o b x → Stands d i o b x
   last_stands {k} {parts = parts} before after at is s = as_node d (λ p bit f. follow_part k (Trunc parts) before after at is (follow_trunc f)) s
 
-  pub times_stands : {k i n o : ℕ} {count : Count} {v : Values} {b2 x : List ℕ} {ts : Trees} (b1 : List ℕ) → slice_get d.nodes k ≡ Some (Times count i) → Widths d v → TimesMean d n i (o + length b1) v b2 ts → Stands d k (o + length b1) b2 x → Stands d i o b1 (b2 ++ x)
+  pub times_stands : {k i n o : ℕ} {count : Count} {v : Values} {b2 x : List ℕ} {ts : Trees} (b1 : List ℕ) → slice_get d.nodes k ≡ Some (Times count i) → FitWidths d v → TimesMean d n i (o + length b1) v b2 ts → Stands d k (o + length b1) b2 x → Stands d i o b1 (b2 ++ x)
   times_stands {o = o} b1 at widths h s = record { place = o + length b1; is_place = refl; follows = times_follows at widths h s }
 
-  pub many_stands : {k i o : ℕ} {v : Values} {b2 x : List ℕ} {ts : Trees} (b1 : List ℕ) → slice_get d.nodes k ≡ Some (Many i) → Widths d v → ManyMean d i (o + length b1) v b2 ts → Stands d k (o + length b1) b2 x → Stands d i o b1 (b2 ++ x)
+  pub many_stands : {k i o : ℕ} {v : Values} {b2 x : List ℕ} {ts : Trees} (b1 : List ℕ) → slice_get d.nodes k ≡ Some (Many i) → FitWidths d v → ManyMean d i (o + length b1) v b2 ts → Stands d k (o + length b1) b2 x → Stands d i o b1 (b2 ++ x)
   many_stands {o = o} b1 at widths h s = record { place = o + length b1; is_place = refl; follows = many_follows at widths h s }
 
   -- ---- behind which bits stand that the later parts follow
 
-  pub seq_stands_followed : {i o : ℕ} {v : Values} {parts after b2 : List ℕ} (k : ℕ) (before b1 : List ℕ) → slice_get d.nodes k ≡ Some (Seq parts) → parts ≡ before ++ i ∷ after → Widths d v → PartsFollow d after (o + length b1) v b2 → Stands d i o b1 b2
+  pub seq_stands_followed : {i o : ℕ} {v : Values} {parts after b2 : List ℕ} (k : ℕ) (before b1 : List ℕ) → slice_get d.nodes k ≡ Some (Seq parts) → parts ≡ before ++ i ∷ after → FitWidths d v → PartsFollow d after (o + length b1) v b2 → Stands d i o b1 b2
   seq_stands_followed {o = o} {parts = parts} {after = after} k before b1 at is widths h =
       record {
         place = o + length b1;
@@ -103,7 +104,7 @@ module _ (d : DescV) (shaped : Shaped d) where
         follows = λ bit rest e. follow_part k (Seq parts) before after at is (follow_later (parts_follow_start d shaped bit rest e widths h));
       }
 
-  pub lead_stands_followed : {i o : ℕ} {v : Values} {parts after b2 : List ℕ} (k : ℕ) (before b1 : List ℕ) → slice_get d.nodes k ≡ Some (Trunc parts) → parts ≡ before ++ i ∷ after → Widths d v → PartsFollow d after (o + length b1) v b2 → Stands d i o b1 b2
+  pub lead_stands_followed : {i o : ℕ} {v : Values} {parts after b2 : List ℕ} (k : ℕ) (before b1 : List ℕ) → slice_get d.nodes k ≡ Some (Trunc parts) → parts ≡ before ++ i ∷ after → FitWidths d v → PartsFollow d after (o + length b1) v b2 → Stands d i o b1 b2
   lead_stands_followed {o = o} {parts = parts} {after = after} k before b1 at is widths h =
       record {
         place = o + length b1;
@@ -111,7 +112,7 @@ module _ (d : DescV) (shaped : Shaped d) where
         follows = λ bit rest e. follow_part k (Trunc parts) before after at is (follow_kept (parts_follow_start d shaped bit rest e widths h));
       }
 
-  pub times_stands_followed : {i n o : ℕ} {count : Count} {v : Values} {b2 : List ℕ} (k : ℕ) (b1 : List ℕ) → slice_get d.nodes k ≡ Some (Times count i) → Widths d v → TimesFollow d n i (o + length b1) v b2 → Stands d i o b1 b2
+  pub times_stands_followed : {i n o : ℕ} {count : Count} {v : Values} {b2 : List ℕ} (k : ℕ) (b1 : List ℕ) → slice_get d.nodes k ≡ Some (Times count i) → FitWidths d v → TimesFollow d n i (o + length b1) v b2 → Stands d i o b1 b2
   times_stands_followed {i} {o = o} {count = count} k b1 at widths h =
       record {
         place = o + length b1;
@@ -119,7 +120,7 @@ module _ (d : DescV) (shaped : Shaped d) where
         follows = λ bit rest e. follow_part k (Times count i) [] [] at refl (follow_times_again (times_follow_start d shaped bit rest e widths h));
       }
 
-  pub many_stands_followed : {i o : ℕ} {v : Values} {b2 : List ℕ} (k : ℕ) (b1 : List ℕ) → slice_get d.nodes k ≡ Some (Many i) → Widths d v → ManyFollow d i (o + length b1) v b2 → Stands d i o b1 b2
+  pub many_stands_followed : {i o : ℕ} {v : Values} {b2 : List ℕ} (k : ℕ) (b1 : List ℕ) → slice_get d.nodes k ≡ Some (Many i) → FitWidths d v → ManyFollow d i (o + length b1) v b2 → Stands d i o b1 b2
   many_stands_followed {i} {o} k b1 at widths h =
       record {
         place = o + length b1;

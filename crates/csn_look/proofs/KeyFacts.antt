@@ -15,16 +15,8 @@ use Rattle.csn_desc.specs.Spelled.{symbol_bit, spelled, IsSpare}
 use Rattle.csn_desc.specs.Values.{Values, count_of}
 use Rattle.csn_desc.specs.Means.{NMeans, NodeMeans, PartsMean, TimesMean, means_at, means_lits, means_spare, means_pad, means_null, means_field, means_rest, means_seq, means_choice, means_times, means_many, means_cut, means_trunc, means_window, means_named, parts_end, parts_next, times_end, times_next}
 use Rattle.csn_look.specs.Keys.{Cut, kept, cut, InKeys, NodeKeys, PartsKeys, TimesKeys, keys_at, keys_lits, keys_spare, keys_field, keys_pad, keys_null, keys_rest, keys_many, keys_trunc, keys_window, keys_counted_field, keys_counted_times, keys_seq, keys_times, keys_choice, keys_named, parts_none, parts_cut, parts_whole, times_none, times_cut, times_whole}
+use Rattle.csn_look.specs.Beginnings.{Begun}
 use Rattle.csn_look.proofs.StartFacts.{symbol_bit-octet, first_spare}
-
--- bits begin with a word of these, and are it where it is whole
-pub record Begun (P : List ℕ → Bool → Type 0) (b : List ℕ) : Type 0 where
-  pub word : List ℕ
-  pub mark : Bool
-  pub rest : List ℕ
-  pub key : P word mark
-  pub begins : b ≡ word ++ rest
-  pub whole : mark ≡ true → rest ≡ []
 
 pub spelled-octet : (run : List Symbol) (o p : ℕ) → o % 8 ≡ p % 8 → spelled run o ≡ spelled run p
 spelled-octet [] o p same = refl

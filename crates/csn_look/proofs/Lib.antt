@@ -25,6 +25,7 @@ pub mod KeyMarkFacts
 pub mod Extensions
 pub mod Products
 pub mod KeyLists
+pub mod KeyWords
 pub mod NodeKeys
 pub mod RowFacts
 pub mod RowKeys

@@ -21,7 +21,8 @@ use Rattle.csn_desc.specs.Formed.{shows_earlier, Formed, PartsFormed, formed, fo
 use Rattle.csn_desc.proofs.BitFacts.{IsBits-spelled}
 use Rattle.csn_desc.proofs.Splits.{splits, inside, behind}
 use Rattle.csn_look.specs.Keys.{Cut, kept, cut, InKeys, NodeKeys, PartsKeys, TimesKeys, keys_at, keys_lits, keys_spare, keys_field, keys_pad, keys_null, keys_rest, keys_many, keys_trunc, keys_window, keys_counted_field, keys_counted_times, keys_seq, keys_times, keys_choice, keys_named, parts_none, parts_cut, parts_whole, times_none, times_cut, times_whole}
-use Rattle.csn_look.proofs.KeyFacts.{Begun, keys, node_keys, as_key, unread, octet_word, marked_key, whole_word, cut_first, both_words}
+use Rattle.csn_look.specs.Beginnings.{Begun, Near, near_begun, near_within}
+use Rattle.csn_look.proofs.KeyFacts.{keys, node_keys, as_key, unread, octet_word, marked_key, whole_word, cut_first, both_words}
 
 -- ---- there is a key
 
@@ -112,11 +113,6 @@ module _ (d : DescV) (most : ℕ) where
     parts_have_key (formed_next {i = i} {parts = parts} first others) o = parts_found i parts o (has_key first o) (λ p. parts_have_key others p)
 
 -- ---- followed bits
-
--- bits begin with a word of these, or are the beginning of one
-pub data Near (P : List ℕ → Bool → Type 0) (b : List ℕ) : Type 0 where
-  near_begun : Begun P b → Near P b
-  near_within : {word : List ℕ} {mark : Bool} (rest : List ℕ) → P word mark → word ≡ b ++ rest → Near P b
 
 near_as : {P Q : List ℕ → Bool → Type 0} {b : List ℕ} → ((x : List ℕ) (mark : Bool) → P x mark → Q x mark) → Near P b → Near Q b
 near_as make (near_begun h) = near_begun (as_key make h)

@@ -1,59 +1,12 @@
 -- The keys of nodes by the sets of keys of their parts.
 use Rattle.std.proofs.Common.{◌≡◌, ℕ, zero, suc, ◌+◌, ◌%◌, ◌≤◌, Bool, true, false, List, [], ◌∷◌, length, ◌↔◌, refl, sym, subst, arith}
-use Rattle.std.proofs.lemmas.List.{length-take}
-use Rattle.csn_bits.specs.Octets.{IsBits}
-use Rattle.csn_bits.proofs.Packing.{IsBits-append, IsBits-take}
-use Rattle.csn_desc.specs.declared.symbol.Symbol.TheVariants.{Low}
-use Rattle.csn_desc.specs.declared.node.Node.{Node}
 use Rattle.csn_desc.specs.Nodes.{DescV}
-use Rattle.csn_desc.proofs.BitFacts.{IsBits-spelled, IsBits-spare}
-use Rattle.csn_look.specs.Keys.{Cut, kept, cut, InKeys, NodeKeys, PartsKeys, TimesKeys, keys_at, keys_lits, keys_spare, keys_field, keys_pad, keys_null, keys_rest, keys_many, keys_trunc, keys_window, keys_counted_field, keys_counted_times, keys_seq, keys_times, keys_choice, keys_named, parts_none, parts_cut, parts_whole, times_none, times_cut, times_whole}
+use Rattle.csn_look.specs.Keys.{Cut, InKeys, PartsKeys, TimesKeys, parts_cut, parts_whole, times_none, times_cut, times_whole}
 use Rattle.csn_look.specs.KeyMarks.{IsWord, KeysAre}
 use Rattle.csn_look.specs.KeyProducts.{AfterKeys, after_cut, after_whole}
-
--- ---- keys are words
-
-no_word : {x : List ℕ} → x ≡ [] → IsWord x
-no_word none = let P : List ℕ → Type 0 = IsWord in subst P (sym none) (record { bits = tt; short = omega arith })
-
-cut_word : {w x : List ℕ} {whole mark : Bool} → IsBits w → Cut 12 w whole x mark → IsWord x
-cut_word {w = w} bits (kept short is same) = let P : List ℕ → Type 0 = IsWord in subst P (sym is) (record { bits = bits; short = short })
-cut_word {w = w} bits (cut long is same) =
-    let P : List ℕ → Type 0 = IsWord in
-    subst P (sym is) (record { bits = IsBits-take 12 w bits; short = omega (arith, length-take 12 w) })
+use Rattle.csn_look.proofs.KeyWords.{key_word, parts_word, times_word}
 
 module _ (d : DescV) where
-  mutual
-    pub key_word : {i o : ℕ} {x : List ℕ} {mark : Bool} → InKeys d 12 i o x mark → IsWord x
-    key_word (keys_at n at h) = node_word h
-
-    node_word : {n : Node} {o : ℕ} {x : List ℕ} {mark : Bool} → NodeKeys d 12 n o x mark → IsWord x
-    node_word {o = o} (keys_lits {run = run} h) = cut_word (IsBits-spelled run o) h
-    node_word {o = o} (keys_spare {s = s} w one spare h) = cut_word (IsBits-spare d.reading s o w spare) h
-    node_word (keys_field w wide bits h) = cut_word bits h
-    node_word {o = o} (keys_pad w one spare h) = cut_word (IsBits-spare d.reading Low o w spare) h
-    node_word (keys_null e m) = no_word e
-    node_word (keys_rest e m) = no_word e
-    node_word (keys_many e m) = no_word e
-    node_word (keys_trunc e m) = no_word e
-    node_word (keys_window e m) = no_word e
-    node_word (keys_counted_field e m) = no_word e
-    node_word (keys_counted_times e m) = no_word e
-    node_word (keys_seq h) = parts_word h
-    node_word (keys_times h) = times_word h
-    node_word (keys_choice j at h) = key_word h
-    node_word (keys_named h) = key_word h
-
-    pub parts_word : {parts : List ℕ} {o : ℕ} {x : List ℕ} {mark : Bool} → PartsKeys d 12 parts o x mark → IsWord x
-    parts_word (parts_none e m) = no_word e
-    parts_word (parts_cut h m) = key_word h
-    parts_word (parts_whole w1 w2 rest h hs c) = cut_word (IsBits-append w1 w2 (key_word h).bits (parts_word hs).bits) c
-
-    pub times_word : {n i o : ℕ} {x : List ℕ} {mark : Bool} → TimesKeys d 12 n i o x mark → IsWord x
-    times_word (times_none e f m) = no_word f
-    times_word (times_cut m is h mark) = key_word h
-    times_word (times_whole m is w1 w2 rest h hs c) = cut_word (IsBits-append w1 w2 (key_word h).bits (times_word hs).bits) c
-
   -- ---- one part after another
 
   module _ (i o : ℕ) (first : List ℕ) (rests : ℕ → List ℕ) where
@@ -70,7 +23,7 @@ module _ (d : DescV) where
         from : (word : List ℕ) (mark : Bool) → IsWord word → PartsKeys d 12 (i ∷ parts) o word mark → AfterKeys first rests word mark
         from word mark is (parts_cut h same) = after_cut ((one word false is).1 h) same
         from word mark is (parts_whole front back rest h hs left) =
-            after_whole front back rest (key_word h) ((one front true (key_word h)).1 h) (parts_word hs) ((more (length front) back rest (parts_word hs)).1 hs) left
+            after_whole front back rest (key_word d h) ((one front true (key_word d h)).1 h) (parts_word d hs) ((more (length front) back rest (parts_word d hs)).1 hs) left
 
     pub after_is_times :
         (n : ℕ) → KeysAre first (InKeys d 12 i o) → ((size : ℕ) → KeysAre (rests size) (TimesKeys d 12 n i ((o + size) % 8)))
@@ -89,7 +42,7 @@ module _ (d : DescV) where
             let same : m ≡ n = omega (arith, e) in
             let P : ℕ → Type 0 = λ k. TimesKeys d 12 k i ((o + length front) % 8) back rest in
             let hn = subst P same hs in
-            after_whole front back rest (key_word h) ((one front true (key_word h)).1 h) (times_word hs) ((more (length front) back rest (times_word hs)).1 hn) left
+            after_whole front back rest (key_word d h) ((one front true (key_word d h)).1 h) (times_word d hs) ((more (length front) back rest (times_word d hs)).1 hn) left
 
   -- ---- one more repetition that gives no new key means that none does
 

@@ -1,12 +1,17 @@
 -- Where the parts of a node that may begin at an octet position may begin.
-use Rattle.std.proofs.Common.{◌≡◌, ℕ, suc, ◌+◌, List, [], ◌∷◌, ◌++◌, refl, subst, arith, Some, slice_get}
+use Rattle.std.proofs.Common.{◌≡◌, ℕ, suc, ◌+◌, ◌%◌, ◌<◌, List, [], ◌∷◌, ◌++◌, length, refl, subst, arith, Some, slice_get}
 use Rattle.csn_desc.specs.declared.node.Count.{Count}
 use Rattle.csn_desc.specs.declared.node.Count.TheVariants.{Fixed, Counted}
 use Rattle.csn_desc.specs.declared.node.Node.TheVariants.{Seq, Choice, Times, Many, Trunc, Window, Named}
+use Rattle.csn_desc.specs.TreeV.{Trees}
 use Rattle.csn_desc.specs.Nodes.{DescV}
 use Rattle.csn_desc.specs.Values.{Values, count_of}
+use Rattle.csn_desc.specs.Means.{TimesMean}
+use Rattle.csn_desc.specs.Formed.{FitWidths}
 use Rattle.csn_look.specs.Ends.{InEnds, PartsEnd, TimesEnd, ManyEnd, parts_end, parts_next, times_end, times_next, many_end, many_next}
-use Rattle.csn_look.specs.Reached.{Reached, reached_part, reached_seq, reached_trunc, reached_choice, reached_window, reached_named, reached_times, reached_counted, reached_many}
+use Rattle.csn_look.specs.Reached.{Reached, Turn, turn_fixed, turn_counted, reached_part, reached_seq, reached_trunc, reached_choice, reached_window, reached_named, reached_times, reached_counted, reached_many}
+use Rattle.csn_look.proofs.ShapeFacts.{Shaped}
+use Rattle.csn_look.proofs.EndsFacts.{times_ends, counted_ends}
 use Rattle.csn_look.proofs.FollowFacts.{Cuts}
 
 module _ (d : DescV) where
@@ -32,18 +37,12 @@ module _ (d : DescV) where
 
   -- ---- turns of a repetition by number
 
-  -- where `left` turns of the part i are left of a repetition that began at the octet position `from`, the next
-  -- one may begin at o
-  pub data Turn : Count → ℕ → ℕ → ℕ → ℕ → Type 0 where
-    turn_fixed : {k i left from o : ℕ} (m : ℕ) → m + left ≡ k → TimesEnd d m i from o → Turn (Fixed k) i left from o
-    turn_counted : {m field c i left from o : ℕ} → ManyEnd d i from o → Turn (Counted m field c) i left from o
-
-  pub turn_first : {i n : ℕ} (v : Values) (count : Count) (o : ℕ) → count_of v count ≡ Some n → Turn count i n o o
+  pub turn_first : {i n : ℕ} (v : Values) (count : Count) (o : ℕ) → count_of v count ≡ Some n → Turn d count i n o o
   turn_first {n = n} v (Fixed k) o counts =
       let same : k ≡ n = cc in turn_fixed 0 (omega arith) (times_end refl refl)
   turn_first v (Counted m field c) o counts = turn_counted (many_end refl)
 
-  pub turn_next : {count : Count} {i n left from o p : ℕ} → n ≡ suc left → Turn count i n from o → InEnds d i o p → Turn count i left from p
+  pub turn_next : {count : Count} {i n left from o p : ℕ} → n ≡ suc left → Turn d count i n from o → InEnds d i o p → Turn d count i left from p
   turn_next is (turn_fixed m sum h) ends = turn_fixed (suc m) (omega arith) (times_end_more h ends)
   turn_next is (turn_counted h) ends = turn_counted (many_end_more h ends)
 
@@ -67,8 +66,17 @@ module _ (d : DescV) where
   pub many_reached : {k i from o : ℕ} → slice_get d.nodes k ≡ Some (Many i) → Reached d k from → ManyEnd d i from o → Reached d i o
   many_reached {k} {i} {from} at h ends = reached_part k from (Many i) [] [] at refl h (reached_many ends)
 
-  pub turn_reached : {k i n left from o : ℕ} {count : Count} → slice_get d.nodes k ≡ Some (Times count i) → Reached d k from → n ≡ suc left → Turn count i n from o → Reached d i o
-  turn_reached {k} {i} {from = from} at h is (turn_fixed {k = all} m sum ends) =
+  pub turn_reached : {k i n left from o : ℕ} {count : Count} → slice_get d.nodes k ≡ Some (Times count i) → Reached d k from → n ≡ suc left → Turn d count i n from o → Reached d i o
+  turn_reached {k} {i} {from = from} at h is (turn_fixed {n = all} m sum ends) =
       reached_part k from (Times (Fixed all) i) [] [] at refl h (reached_times m (omega arith) ends)
   turn_reached {k} {i} {from = from} at h is (turn_counted {m = m} {field = field} {c = c} ends) =
       reached_part k from (Times (Counted m field c) i) [] [] at refl h (reached_counted ends)
+
+module _ (d : DescV) (shaped : Shaped d) where
+  -- behind fewer turns than there are
+  pub times_reached : {k i o m n : ℕ} {b : List ℕ} {ts : Trees} (count : Count) (v : Values) (p : ℕ) → p ≡ o + length b → slice_get d.nodes k ≡ Some (Times count i) → count_of v count ≡ Some n → m < n → FitWidths d v → Reached d k (o % 8) → TimesMean d m i o v b ts → Reached d i (p % 8)
+  times_reached {k} {i} {o} {m} {n} (Fixed all) v p is at counts less fits h meant =
+      let same : all ≡ n = cc in
+      reached_part k (o % 8) (Times (Fixed all) i) [] [] at refl h (reached_times m (omega arith) (times_ends d shaped p is fits meant))
+  times_reached {k} {i} {o} (Counted m field c) v p is at counts less fits h meant =
+      reached_part k (o % 8) (Times (Counted m field c) i) [] [] at refl h (reached_counted (counted_ends d shaped p is fits meant))

@@ -12,7 +12,8 @@ use Rattle.csn_look.specs.KeyMarks.{KeysAre}
 use Rattle.csn_look.specs.LookV.{IsRow, AreRows}
 use Rattle.csn_look.specs.LookKeys.{IsKeysOf}
 use Rattle.csn_look.specs.KeyRows.{table_of, HasRow, IsMore, Makes, RowAfter, IsRowed, AreRowed, HasRows}
-use Rattle.csn_look.proofs.NodeKeys.{times_word, IsStable, stable_for_ever}
+use Rattle.csn_look.proofs.KeyWords.{times_word}
+use Rattle.csn_look.proofs.NodeKeys.{IsStable, stable_for_ever}
 use Rattle.csn_look.proofs.RowFacts.{more_then, row_stays, row_as, makes_as}
 use Rattle.csn_look.proofs.RowKeys.{row_parts, row_times}
 

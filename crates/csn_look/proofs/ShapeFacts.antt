@@ -12,7 +12,7 @@ use Rattle.csn_desc.specs.Nodes.{DescV, head_of, parts_of}
 use Rattle.csn_desc.specs.Spelled.{spelled}
 use Rattle.csn_desc.specs.Values.{Values, number_of, value_of, count_of, is_named, with_value}
 use Rattle.csn_desc.specs.Means.{NMeans}
-use Rattle.csn_desc.specs.Formed.{value_width, IsUnit, IsCount, IsHead, Spans, PartsSpan, spans, span_end, span_next, Formed, PartsFormed, formed, formed_end, formed_next, IsDescription}
+use Rattle.csn_desc.specs.Formed.{value_width, IsUnit, IsCount, IsHead, Spans, PartsSpan, spans, span_end, span_next, Formed, PartsFormed, formed, formed_end, formed_next, IsDescription, FitWidths}
 use Rattle.csn_desc.proofs.NumberFacts.{number_of-lt, value_has_width}
 use Rattle.csn_desc.proofs.MeantBits.{meant_bits}
 use Rattle.csn_look.specs.Ends.{MayCount, may_fixed, may_counted}
@@ -114,18 +114,16 @@ formed_is {nodes = nodes} {seen = seen} n at (formed m is few head have room oth
     let P : Node → Type 0 = λ k. NodeIs nodes k in
     subst P same (head_is nodes seen m head)
 
+-- each node of a description is well formed
+pub node_placed : (d : DescV) → IsDescription d → (i : ℕ) (n : Node) → slice_get d.nodes i ≡ Some n → Placed d.nodes i
+node_placed d is i n at = placed d.nodes i is.numbered is.well_formed (omega arith) (within_nodes d.nodes i n at)
+
 pub shaped : (d : DescV) → IsDescription d → Shaped d
-shaped d is i n at =
-    let here = placed d.nodes i is.numbered is.well_formed (omega arith) (within_nodes d.nodes i n at) in
-    formed_is n at here.is
+shaped d is i n at = formed_is n at (node_placed d is i n at).is
 
 -- ---- values
 
--- values are below the power of two that the width of their field has
-pub record Widths (d : DescV) (v : Values) : Type 0 where
-  pub fit : (field value width : ℕ) → value_of v field ≡ Some value → value_width d.nodes field ≡ Some width → value < 2 ^ width
-
-pub no_widths : (d : DescV) → Widths d []
+pub no_widths : (d : DescV) → FitWidths d []
 no_widths d = record { fit = λ field value width at is. absurd (cc) }
 
 module _ (d : DescV) where
@@ -136,7 +134,7 @@ module _ (d : DescV) where
       subst P wide (number_of-lt b (meant_bits d h))
 
   -- behind a labelled part too
-  pub widths_kept : {i o : ℕ} {v : Values} {b : List ℕ} {t : TreeV} → Widths d v → NMeans d i o v b t → Widths d (with_value d.nodes i b v)
+  pub widths_kept : {i o : ℕ} {v : Values} {b : List ℕ} {t : TreeV} → FitWidths d v → NMeans d i o v b t → FitWidths d (with_value d.nodes i b v)
   widths_kept {i = i} {v = v} {b = b} widths h = record { fit = λ field value width. behind field value width (is_named d.nodes i) }
     where
       first : (field value width : ℕ) (same : Bool) → (i == field) ≡ same → (if same then Some (number_of b) else value_of v field) ≡ Some value → value_width d.nodes field ≡ Some width → value < 2 ^ width
@@ -152,13 +150,13 @@ module _ (d : DescV) where
       behind field value width true at is = first field value width (i == field) refl at is
       behind field value width false at is = widths.fit field value width at is
 
-  counted_may : {m field c n : ℕ} (v : Values) (value : Option ℕ) → value_of v field ≡ value → Widths d v → (w : ℕ) × (value_width d.nodes field ≡ Some w) → option_map (λ x. m * x + c) value ≡ Some n → MayCount d (Counted m field c) n
+  counted_may : {m field c n : ℕ} (v : Values) (value : Option ℕ) → value_of v field ≡ value → FitWidths d v → (w : ℕ) × (value_width d.nodes field ≡ Some w) → option_map (λ x. m * x + c) value ≡ Some n → MayCount d (Counted m field c) n
   counted_may {field = field} v None at widths is counts = absurd (cc)
   counted_may {field = field} v (Some x) at widths is counts =
       may_counted is.0 x is.1 (widths.fit field x is.0 at is.1) (cc)
 
   -- a count may be what it is
-  pub may_count : (v : Values) (count : Count) {n : ℕ} → CountIs d.nodes count → Widths d v → count_of v count ≡ Some n → MayCount d count n
+  pub may_count : (v : Values) (count : Count) {n : ℕ} → CountIs d.nodes count → FitWidths d v → count_of v count ≡ Some n → MayCount d count n
   may_count v (Fixed k) is widths counts = may_fixed (cc)
   may_count v (Counted m field c) is widths counts = counted_may v (value_of v field) refl widths is counts
 

@@ -6,6 +6,7 @@ pub mod Ends
 pub mod Starts
 pub mod Keys
 pub mod Reached
+pub mod Beginnings
 pub mod KeyMarks
 pub mod KeyTables
 pub mod KeyLists

@@ -1,5 +1,5 @@
 -- Where a node is reached, from the root on, and what may follow it. (This project's own choice.)
-use Rattle.std.specs.Prelude.{◌≡◌, ℕ, ◌<◌, List, ◌∷◌, ◌++◌, slice_get, Option, Some, None}
+use Rattle.std.specs.Prelude.{◌≡◌, ℕ, ◌+◌, ◌<◌, List, ◌∷◌, ◌++◌, slice_get, Option, Some, None}
 use Rattle.csn_desc.specs.declared.node.Count.{Count}
 use Rattle.csn_desc.specs.declared.node.Count.TheVariants.{Fixed, Counted}
 use Rattle.csn_desc.specs.declared.node.Node.{Node}
@@ -124,3 +124,13 @@ module _ (d : DescV) where
           {unit : ℕ} {count : Count} {part : ℕ} {after : List ℕ} {k i o : ℕ} {s : Option ℕ}
           → s ≡ None
           → PartFollow (Window unit count part) k after i o s
+
+  -- where `left` turns of the part i are left of a repetition that began at the octet position `from`, the next one
+  -- may begin at o: after those that a constant number has before, and after any number where it is counted
+  pub data Turn : Count → ℕ → ℕ → ℕ → ℕ → Type 0 where
+    turn_fixed : {n i left from o : ℕ} (m : ℕ) → m + left ≡ n → TimesEnd d m i from o → Turn (Fixed n) i left from o
+    turn_counted : {m field c i left from o : ℕ} → ManyEnd d i from o → Turn (Counted m field c) i left from o
+
+  -- of bits behind node i, which ends at the octet position o, the first may stand there; or they are none
+  abbrev pub MayStandBehind : ℕ → ℕ → List ℕ → Type 0
+  MayStandBehind i o b = (bit : ℕ) (rest : List ℕ) → b ≡ bit ∷ rest → InFollow i o (Some bit)

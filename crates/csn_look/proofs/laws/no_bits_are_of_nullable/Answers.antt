@@ -1,0 +1,7 @@
+use Rattle.std.proofs.Common.{refl}
+use Rattle.csn_look.proofs.ShapeFacts.{shaped}
+use Rattle.csn_look.proofs.NullableFacts.{nullable}
+use Rattle.csn_look.proofs.laws.no_bits_are_of_nullable.Goals as goal
+
+pub returns : goal.returns
+returns c = λ d i o v t is h. nullable d (shaped d is) h refl
