@@ -12,12 +12,14 @@ use Rattle.csn_desc.specs.Means.{NMeans, NodeMeans, PartsMean, TimesMean, ManyMe
 use Rattle.csn_desc.specs.Follows.{NFollow, NodeFollows, PartsFollow, TimesFollow, ManyFollow, follows_whole, follows_lits, follows_spare, follows_pad, follows_field, follows_seq, follows_choice, follows_times, follows_many, follows_trunc, follows_window, follows_named, parts_here, parts_later, times_here, times_later, many_here, many_later}
 use Rattle.csn_desc.specs.Formed.{shows_earlier, Formed, PartsFormed, formed, formed_next, IsDescription, FitWidths}
 use Rattle.csn_desc.proofs.Nodewise.{follow_at}
+use Rattle.csn_desc.proofs.Placed.{Placed, node_placed}
+use Rattle.csn_desc.proofs.ValuesKept.{fits_kept}
 use Rattle.csn_look.specs.Ends.{PartsEnd, ManyEnd}
 use Rattle.csn_look.specs.Ends as end
 use Rattle.csn_look.specs.Keys.{InKeys}
 use Rattle.csn_look.specs.Reached.{Reached, Turn}
 use Rattle.csn_look.specs.Beginnings.{Near, near_begun, near_within}
-use Rattle.csn_look.proofs.ShapeFacts.{Shaped, Placed, placed, within_nodes, widths_kept}
+use Rattle.csn_look.proofs.ShapeFacts.{Shaped}
 use Rattle.csn_look.proofs.EndsFacts.{ends}
 use Rattle.csn_look.proofs.StartFacts.{follows, many_follow_start}
 use Rattle.csn_look.proofs.KeyFacts.{keys}
@@ -73,8 +75,8 @@ some_behind : (b2 x : List ℕ) (a : ℕ) (r : List ℕ) → x ≡ a ∷ r → (
 some_behind [] x a r is = (a, r, is)
 some_behind (k ∷ b2) x a r is = (k, b2 ++ x, refl)
 
-node_placed : (d : DescV) → IsDescription d → {i o : ℕ} {v : Values} {b : List ℕ} {t : TreeV} → NMeans d i o v b t → Placed d.nodes i
-node_placed d is {i} (means_at n at h) = placed d.nodes i is.numbered is.well_formed (omega arith) (within_nodes d.nodes i n at)
+meant_placed : (d : DescV) → IsDescription d → {i o : ℕ} {v : Values} {b : List ℕ} {t : TreeV} → NMeans d i o v b t → Placed d.nodes i
+meant_placed d is {i} (means_at n at h) = node_placed d is i n at
 
 module _ (d : DescV) (most : ℕ) (shaped_is : Shaped d) (certified : Certified d most) where
   -- not by bits that have a tree, and more behind them or not
@@ -160,13 +162,13 @@ module _ (d : DescV) (most : ℕ) (shaped_is : Shaped d) (certified : Certified 
     parts_further (parts_end nothing) at before whole held a r x is reached ended widths f e s = elim f [ ]
     parts_further (parts_next {parts = after} b1 b2 cut h others) at before whole (formed_next first rest) a r x is reached ended widths (parts_here f) e s =
         let later = some_behind b2 x a r is in
-        no_further h first later.0 later.1 (b2 ++ x) later.2 (seq_reached d after at whole reached ended) widths f (piece b1 b2 x cut e) (seq_stands d shaped_is before b1 at whole (widths_kept d widths h) others (behind_first d b1 b2 cut s))
+        no_further h first later.0 later.1 (b2 ++ x) later.2 (seq_reached d after at whole reached ended) widths f (piece b1 b2 x cut e) (seq_stands d shaped_is before b1 at whole (fits_kept d widths h) others (behind_first d b1 b2 cut s))
     parts_further {k = k} {o = o} {v = v} (parts_next {i = i} {parts = after} b1 b2 cut h others) at before whole (formed_next first rest) a r x is reached ended widths (parts_later c1 c2 other_cut g f) e s =
         let left = behind_first d b1 b2 cut s in
         let together = sym (piece b1 b2 x cut e) ∙ other_cut in
-        let same = one_tree d most shaped_is certified h (b2 ++ x) c2 (seq_reached d after at whole reached ended) widths g together (seq_stands d shaped_is before b1 at whole (widths_kept d widths h) others left) (seq_stands_followed d shaped_is k before c1 at whole (widths_kept d widths g) f) in
+        let same = one_tree d most shaped_is certified h (b2 ++ x) c2 (seq_reached d after at whole reached ended) widths g together (seq_stands d shaped_is before b1 at whole (fits_kept d widths h) others left) (seq_stands_followed d shaped_is k before c1 at whole (fits_kept d widths g) f) in
         let next = sym (cut_behind b1 (b2 ++ x) c1 c2 same.words together) in
-        parts_further others at (before ++ i ∷ []) (whole ∙ sym (append_assoc before (i ∷ []) after)) rest a r x is reached (parts_end_more d ended (ends d shaped_is (o + length b1) refl widths h)) (widths_kept d widths h) (parts_along d i after o v b1 c1 same.words f) next left
+        parts_further others at (before ++ i ∷ []) (whole ∙ sym (append_assoc before (i ∷ []) after)) rest a r x is reached (parts_end_more d ended (ends d shaped_is (o + length b1) refl widths h)) (fits_kept d widths h) (parts_along d i after o v b1 c1 same.words f) next left
 
     times_further : {seen : List ℕ} {round k i n from o : ℕ} {count : Count} {v : Values} {b : List ℕ} {ts : Trees} → TimesMean d n i o v b ts → slice_get d.nodes k ≡ Some (Times count i) → Formed d.nodes seen round i → {c : List ℕ} (a : ℕ) (r x : List ℕ) → x ≡ a ∷ r → Reached d k from → Turn d count i n from (o % 8) → FitWidths d v → TimesFollow d n i o v c → c ≡ b ++ x → Stands d k o b x → ⊥
     times_further (times_end over nothing) at first a r x is reached turn widths (times_here some f) e s = omega arith
@@ -200,4 +202,4 @@ module _ (d : DescV) (most : ℕ) (shaped_is : Shaped d) (certified : Certified 
   pub one_way : {i o : ℕ} {v : Values} {b c : List ℕ} {t : TreeV} (x : List ℕ) → (x ≡ [] → ⊥) → IsDescription d → Reached d i (o % 8) → FitWidths d v → NMeans d i o v b t → NFollow d i o v c → c ≡ b ++ x → Stands d i o b x → ⊥
   one_way [] some is reached widths h followed e s = some refl
   one_way (a ∷ r) some is reached widths h followed e s =
-      let here = node_placed d is h in no_further h here.is a r (a ∷ r) refl reached widths followed e s
+      let here = meant_placed d is h in no_further h here.is a r (a ∷ r) refl reached widths followed e s

@@ -10,10 +10,11 @@ use Rattle.csn_desc.specs.Values.{Values, with_value}
 use Rattle.csn_desc.specs.Means.{NMeans, NodeMeans, PartsMean, TimesMean, ManyMean, LeadMean, means_at, means_lits, means_spare, means_pad, means_null, means_field, means_rest, means_seq, means_choice, means_times, means_many, means_cut, means_trunc, means_window, means_named, parts_end, parts_next, times_end, times_next, many_end, many_next, lead_last, lead_next}
 use Rattle.csn_desc.specs.Formed.{IsDescription, FitWidths}
 use Rattle.csn_desc.proofs.Nodewise.{meaning_at}
+use Rattle.csn_desc.proofs.ValuesKept.{no_values_fit, fits_kept}
 use Rattle.csn_look.specs.Ends.{InEnds, PartsEnd, ManyEnd}
 use Rattle.csn_look.specs.Ends as end
 use Rattle.csn_look.specs.Reached.{Reached, reached_root, Turn}
-use Rattle.csn_look.proofs.ShapeFacts.{Shaped, shaped, no_widths, widths_kept, place-split}
+use Rattle.csn_look.proofs.ShapeFacts.{Shaped, shaped, place-split}
 use Rattle.csn_look.proofs.EndsFacts.{ends}
 use Rattle.csn_look.proofs.FollowFacts.{Stands, cuts, end_stands, choice_stands, named_stands, seq_stands, lead_stands, last_stands, times_stands, many_stands}
 use Rattle.csn_look.proofs.ReachFacts.{turn_first, turn_next, turn_reached, parts_end_more, many_end_more, seq_reached, lead_reached, choice_reached, window_reached, named_reached, many_reached}
@@ -147,8 +148,8 @@ module _ (d : DescV) (most : ℕ) (shaped : Shaped d) (certified : Certified d m
         let t1 = behind_first d b1 b2 left s1 in
         let t2 = behind_first d c1 c2 right s2 in
         let whole = cut_first b1 b2 x c1 c2 y left right e in
-        let first = one_tree h1 (b2 ++ x) (c2 ++ y) (seq_reached d after at is reached ended) widths h2 whole (seq_stands d shaped before b1 at is (widths_kept d widths h1) others1 t1) (seq_stands d shaped before c1 at is (widths_kept d widths h2) others2 t2) in
-        let rest = one_parts others1 at (before ++ i ∷ []) (is ∙ sym (append_assoc before (i ∷ []) after)) reached (parts_end_more d ended (ends d shaped (o + length b1) refl widths h1)) (widths_kept d widths h1) x y (parts_moved d i after o v b1 c1 first.words others2) (cut_rest b1 b2 x c1 c2 y first.words whole) t1 (stands_moved d o b1 c1 first.words t2) in
+        let first = one_tree h1 (b2 ++ x) (c2 ++ y) (seq_reached d after at is reached ended) widths h2 whole (seq_stands d shaped before b1 at is (fits_kept d widths h1) others1 t1) (seq_stands d shaped before c1 at is (fits_kept d widths h2) others2 t2) in
+        let rest = one_parts others1 at (before ++ i ∷ []) (is ∙ sym (append_assoc before (i ∷ []) after)) reached (parts_end_more d ended (ends d shaped (o + length b1) refl widths h1)) (fits_kept d widths h1) x y (parts_moved d i after o v b1 c1 first.words others2) (cut_rest b1 b2 x c1 c2 y first.words whole) t1 (stands_moved d o b1 c1 first.words t2) in
         joined b1 b2 c1 c2 left right first rest
 
     -- the turns that are left of a repetition by number
@@ -191,27 +192,27 @@ module _ (d : DescV) (most : ℕ) (shaped : Shaped d) (certified : Certified d m
     one_lead {b = b} (lead_last {parts = after} some1 h1) at before is reached ended widths {c = c} (lead_next c1 c2 right h2 others2) agree s =
         let t2 = behind_first d c1 c2 right (stands_along d b c agree s) in
         let whole : b ++ [] ≡ c1 ++ (c2 ++ []) = cut_first b [] [] c1 c2 [] (sym (append-nil b)) right (ap (λ l. l ++ []) agree) in
-        let first = one_tree h1 [] (c2 ++ []) (lead_reached d after at is reached ended) widths h2 whole (last_stands d shaped before after at is s) (lead_stands d shaped before c1 at is (widths_kept d widths h2) others2 t2) in
+        let first = one_tree h1 [] (c2 ++ []) (lead_reached d after at is reached ended) widths h2 whole (last_stands d shaped before after at is s) (lead_stands d shaped before c1 at is (fits_kept d widths h2) others2 t2) in
         let size = ap length (sym first.words ∙ agree ∙ right) in
         absurd (omega (arith, lead_some d others2, length-append c1 c2))
     one_lead {b = b} (lead_next {parts = after} b1 b2 left h1 others1) at before is reached ended widths {c = c} (lead_last some2 h2) agree s =
         let t1 = behind_first d b1 b2 left s in
         let whole : b1 ++ (b2 ++ []) ≡ c ++ [] = cut_first b1 b2 [] c [] [] left (sym (append-nil c)) (ap (λ l. l ++ []) agree) in
-        let first = one_tree h1 (b2 ++ []) [] (lead_reached d after at is reached ended) widths h2 whole (lead_stands d shaped before b1 at is (widths_kept d widths h1) others1 t1) (last_stands d shaped before after at is (stands_along d b c agree s)) in
+        let first = one_tree h1 (b2 ++ []) [] (lead_reached d after at is reached ended) widths h2 whole (lead_stands d shaped before b1 at is (fits_kept d widths h1) others1 t1) (last_stands d shaped before after at is (stands_along d b c agree s)) in
         let size = ap length (first.words ∙ sym agree ∙ left) in
         absurd (omega (arith, lead_some d others1, length-append b1 b2))
     one_lead {o = o} {v = v} {b = b} (lead_next {i = i} {parts = after} b1 b2 left h1 others1) at before is reached ended widths {c = c} (lead_next c1 c2 right h2 others2) agree s =
         let t1 = behind_first d b1 b2 left s in
         let t2 = behind_first d c1 c2 right (stands_along d b c agree s) in
         let whole = cut_first b1 b2 [] c1 c2 [] left right (ap (λ l. l ++ []) agree) in
-        let first = one_tree h1 (b2 ++ []) (c2 ++ []) (lead_reached d after at is reached ended) widths h2 whole (lead_stands d shaped before b1 at is (widths_kept d widths h1) others1 t1) (lead_stands d shaped before c1 at is (widths_kept d widths h2) others2 t2) in
+        let first = one_tree h1 (b2 ++ []) (c2 ++ []) (lead_reached d after at is reached ended) widths h2 whole (lead_stands d shaped before b1 at is (fits_kept d widths h1) others1 t1) (lead_stands d shaped before c1 at is (fits_kept d widths h2) others2 t2) in
         let same_rest = same_ends b2 c2 [] [] refl refl (cut_rest b1 b2 [] c1 c2 [] first.words whole) in
-        let rest = one_lead others1 at (before ++ i ∷ []) (is ∙ sym (append_assoc before (i ∷ []) after)) reached (parts_end_more d ended (ends d shaped (o + length b1) refl widths h1)) (widths_kept d widths h1) (lead_moved d i after o v b1 c1 first.words others2) same_rest t1 in
+        let rest = one_lead others1 at (before ++ i ∷ []) (is ∙ sym (append_assoc before (i ∷ []) after)) reached (parts_end_more d ended (ends d shaped (o + length b1) refl widths h1)) (fits_kept d widths h1) (lead_moved d i after o v b1 c1 first.words others2) same_rest t1 in
         let tree = first.trees in
         cc
 
 -- at the root, where nothing stands behind
 pub one_block : (d : DescV) (most : ℕ) → IsDescription d → Certified d most → {b : List ℕ} {t u : TreeV} → NMeans d 0 0 [] b t → NMeans d 0 0 [] b u → t ≡ u
 one_block d most is certified {b = b} h1 h2 =
-    let same = one_tree d most (shaped d is) certified h1 [] [] (reached_root refl refl) (no_widths d) h2 refl (end_stands d 0 0 b) (end_stands d 0 0 b) in
+    let same = one_tree d most (shaped d is) certified h1 [] [] (reached_root refl refl) (no_values_fit d) h2 refl (end_stands d 0 0 b) (end_stands d 0 0 b) in
     same.trees

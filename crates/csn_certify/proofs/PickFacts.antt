@@ -11,10 +11,11 @@ use Rattle.csn_desc.specs.Follows.{NFollow, NodeFollows, follows_whole}
 use Rattle.csn_desc.specs.Formed.{shows_earlier, HasParts, Formed, PartsFormed, formed, IsDescription, FitWidths}
 use Rattle.csn_desc.proofs.Nodewise.{follow_at}
 use Rattle.csn_desc.proofs.Splits.{Splits, splits, inside, behind}
+use Rattle.csn_desc.proofs.Placed.{node_placed}
 use Rattle.csn_look.specs.Starts.{InStart}
 use Rattle.csn_look.specs.Keys.{InKeys}
 use Rattle.csn_look.specs.Reached.{Reached, InFollow}
-use Rattle.csn_look.proofs.ShapeFacts.{Shaped, placed, within_nodes}
+use Rattle.csn_look.proofs.ShapeFacts.{Shaped}
 use Rattle.csn_look.proofs.NullableFacts.{nullable}
 use Rattle.csn_look.proofs.StartFacts.{starts, follows, many_start}
 use Rattle.csn_look.proofs.KeyFacts.{keys}
@@ -58,7 +59,7 @@ pub record ChoiceFormed (d : DescV) (parts : List ℕ) : Type 0 where
   pub two : 2 ≤ length parts
 
 pub choice_parts : (d : DescV) (k : ℕ) {parts : List ℕ} → IsDescription d → slice_get d.nodes k ≡ Some (Choice parts) → ChoiceFormed d parts
-choice_parts d k {parts} is at = of_formed (placed d.nodes k is.numbered is.well_formed (omega arith) (within_nodes d.nodes k (Choice parts) at)).is
+choice_parts d k {parts} is at = of_formed (node_placed d is k (Choice parts) at).is
   where
     of_formed : {seen : List ℕ} {round : ℕ} → Formed d.nodes seen round k → ChoiceFormed d parts
     of_formed {seen} {round} (formed n here few head have room held) =

@@ -20,17 +20,17 @@ use Rattle.csn_desc.specs.Follows.{NFollow, NodeFollows, follows_at, follows_who
 use Rattle.csn_desc.specs.Formed.{IsCount, Formed, formed, formed_next, HaveValues}
 use Rattle.csn_desc.proofs.BitFacts.{IsBits-spelled}
 
-IsBits-zeros : (n : ℕ) → IsBits (replicate n 0)
+pub IsBits-zeros : (n : ℕ) → IsBits (replicate n 0)
 IsBits-zeros zero = tt
 IsBits-zeros (suc n) = (omega arith, IsBits-zeros n)
 
 -- the one bit that every reading takes
-is_spare : (r : Reading) (s : Symbol) (o : ℕ) → IsSpare r s o (spelled (s ∷ []) o)
+pub is_spare : (r : Reading) (s : Symbol) (o : ℕ) → IsSpare r s o (spelled (s ∷ []) o)
 is_spare Received s o = IsBits-spelled (s ∷ []) o
 is_spare Sent s o = refl
 
 -- a count that stands on a field with a value is a number
-has_count : (nodes : List Node) (seen : List ℕ) (v : Values) (count : Count) → HaveValues v seen → IsCount nodes seen count → (n : ℕ) × (count_of v count ≡ Some n)
+pub has_count : (nodes : List Node) (seen : List ℕ) (v : Values) (count : Count) → HaveValues v seen → IsCount nodes seen count → (n : ℕ) × (count_of v count ≡ Some n)
 has_count nodes seen v (Fixed n) values is = (n, refl)
 has_count nodes seen v (Counted m field c) values is = found (value_of v field) refl (values field is.2)
   where

@@ -18,3 +18,5 @@ pub mod Innermost
 pub mod CrowdFacts
 pub mod MarkFacts
 pub mod Finishing
+pub mod ValuesKept
+pub mod Placed

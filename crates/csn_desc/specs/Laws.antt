@@ -1,16 +1,18 @@
 -- Laws over the definitions.
-use Rattle.std.specs.Prelude.{◌≡◌, ℕ, ◌^◌, ◌<◌, List, [], ◌∷◌, ◌++◌, length, Some}
+use Rattle.std.specs.Prelude.{◌≡◌, ℕ, ◌^◌, ◌<◌, List, [], ◌∷◌, ◌++◌, length, true, slice_get, Some}
 use Rattle.csn_bits.specs.Octets.{IsBits}
 use Rattle.csn_lexer.specs.Word.{IsWord}
 use Rattle.csn_desc.specs.declared.moves.Move.{Move}
+use Rattle.csn_desc.specs.declared.node.Count.{Count}
+use Rattle.csn_desc.specs.declared.node.Node.{Node}
 use Rattle.csn_desc.specs.TreeV.{TreeV}
 use Rattle.csn_desc.specs.Nodes.{DescV}
 use Rattle.csn_desc.specs.Label.{IsLabel}
-use Rattle.csn_desc.specs.Values.{Values, number_of}
+use Rattle.csn_desc.specs.Values.{Values, number_of, count_of, with_value}
 use Rattle.csn_desc.specs.Means.{NMeans}
 use Rattle.csn_desc.specs.Follows.{NFollow}
 use Rattle.csn_desc.specs.Walks.{bits_of, Walk}
-use Rattle.csn_desc.specs.Formed.{value_width, Spans, Formed, HaveValues, IsDescription}
+use Rattle.csn_desc.specs.Formed.{value_width, IsCount, with_seen, Spans, Formed, HaveValues, FitWidths, IsDescription}
 
 -- the first few of followed bits are followed
 abbrev pub PrefixesAreFollowed : Type 0
@@ -74,6 +76,32 @@ ValuesHaveTheirWidth =
 -- bits write a number below the power of two with their width
 abbrev pub NumbersFitTheirWidth : Type 0
 NumbersFitTheirWidth = (b : List ℕ) → IsBits b → number_of b < 2 ^ length b
+
+-- values that are there, or fit the widths of their fields, are so behind a part too, and where none is seen
+abbrev pub ValuesStayThere : Type 0
+ValuesStayThere =
+    (nodes : List Node) (i : ℕ) (v : Values) (b seen : List ℕ) → HaveValues v seen
+    → HaveValues (with_value nodes i b v) (with_seen nodes true i seen)
+
+abbrev pub ValuesStayFitting : Type 0
+ValuesStayFitting =
+    (d : DescV) (i o : ℕ) (v : Values) (b : List ℕ) (t : TreeV) → FitWidths d v → NMeans d i o v b t
+    → FitWidths d (with_value d.nodes i b v)
+
+abbrev pub NoValuesFit : Type 0
+NoValuesFit = (d : DescV) → HaveValues [] [] × FitWidths d []
+
+-- a well-formed count is a number where the fields that are seen have values
+abbrev pub CountsAreNumbers : Type 0
+CountsAreNumbers =
+    (nodes : List Node) (seen : List ℕ) (v : Values) (count : Count) → HaveValues v seen → IsCount nodes seen count
+    → (n : ℕ) × (count_of v count ≡ Some n)
+
+-- each node of a description is well formed, inside some others and seeing some labelled parts
+abbrev pub NodesAreWellFormed : Type 0
+NodesAreWellFormed =
+    (d : DescV) (i : ℕ) (n : Node) → IsDescription d → slice_get d.nodes i ≡ Some n
+    → (seen : List ℕ) × (round : ℕ) × Formed d.nodes seen round i
 
 -- one word is a label
 abbrev pub WordsAreLabels : Type 0

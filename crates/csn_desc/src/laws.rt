@@ -1,6 +1,6 @@
 //! Laws over the definitions, each the contract of a function that does nothing.
 
-ghost use Rattle.csn_desc.specs.Laws.{PrefixesAreFollowed, StringsAreFollowed, MeaningsAreBits, FollowedAreBits, EmptyBitsAreFollowed, EmptyBlocksAreFollowed, TreesHaveMoves, TreesHaveOneListOfMoves, MovesAreOfOneTree, ValuesHaveTheirWidth, NumbersFitTheirWidth, WordsAreLabels, WordsStandBeforeLabels};
+ghost use Rattle.csn_desc.specs.Laws.{PrefixesAreFollowed, StringsAreFollowed, MeaningsAreBits, FollowedAreBits, EmptyBitsAreFollowed, EmptyBlocksAreFollowed, TreesHaveMoves, TreesHaveOneListOfMoves, MovesAreOfOneTree, ValuesHaveTheirWidth, NumbersFitTheirWidth, ValuesStayThere, ValuesStayFitting, NoValuesFit, CountsAreNumbers, NodesAreWellFormed, WordsAreLabels, WordsStandBeforeLabels};
 
 /// The first few of bits that a node follows are followed by it.
 pub fn prefixes_are_followed()
@@ -42,6 +42,20 @@ pub fn moves_are_of_one_tree()
 pub fn values_have_their_width()
     ensures width { ValuesHaveTheirWidth }
     ensures number { NumbersFitTheirWidth }
+{}
+
+/// Values that are there, and fit the widths of their fields, are so behind a further part too; there are none at
+/// the root. A count on a field whose value is there is a number.
+pub fn values_are_kept()
+    ensures there { ValuesStayThere }
+    ensures fitting { ValuesStayFitting }
+    ensures none { NoValuesFit }
+    ensures counts { CountsAreNumbers }
+{}
+
+/// Each node of a description is well formed where it stands.
+pub fn nodes_are_well_formed()
+    ensures { NodesAreWellFormed }
 {}
 
 /// A word is a label, and so are a word, a space and a label.

@@ -10,8 +10,9 @@ use Rattle.csn_desc.specs.Values.{Values, count_of}
 use Rattle.csn_desc.specs.Means.{NMeans, NodeMeans, PartsMean, TimesMean, ManyMean, LeadMean, means_at, means_lits, means_spare, means_pad, means_null, means_field, means_rest, means_seq, means_choice, means_times, means_many, means_cut, means_trunc, means_window, means_named, lead_last}
 use Rattle.csn_desc.specs.Means as mean
 use Rattle.csn_desc.specs.Formed.{FitWidths}
+use Rattle.csn_desc.proofs.ValuesKept.{fits_kept}
 use Rattle.csn_look.specs.Ends.{InEnds, NodeEnds, PartsEnd, TimesEnd, ManyEnd, LeadEnd, ends_at, ends_lits, ends_spare, ends_null, ends_pad, ends_rest, ends_field, ends_window, ends_seq, ends_choice, ends_times, ends_counted, ends_many, ends_trunc, ends_named, parts_end, parts_next, times_end, times_next, many_end, many_next, lead_end, lead_next}
-use Rattle.csn_look.proofs.ShapeFacts.{NodeIs, Shaped, widths_kept, may_count, octet-on, octet-same, place-split, length-spelled}
+use Rattle.csn_look.proofs.ShapeFacts.{NodeIs, Shaped, may_count, octet-on, octet-same, place-split, length-spelled}
 
 octet-lt : (p : ℕ) → p % 8 < 8
 octet-lt p = omega arith
@@ -52,7 +53,7 @@ module _ (d : DescV) (shaped : Shaped d) where
     pub parts_ends : {parts : List ℕ} {o : ℕ} {v : Values} {b : List ℕ} {ts : Trees} (p : ℕ) → p ≡ o + length b → FitWidths d v → PartsMean d parts o v b ts → PartsEnd d parts (o % 8) (p % 8)
     parts_ends {o = o} {b = b} p is widths (mean.parts_end h) = parts_end (octet-same o p (length b) is (ap length h))
     parts_ends {o = o} p is widths (mean.parts_next b1 b2 cut h others) =
-        parts_next ((o + length b1) % 8) (ends (o + length b1) refl widths h) (parts_ends p (place-split o b1 b2 p is cut) (widths_kept d widths h) others)
+        parts_next ((o + length b1) % 8) (ends (o + length b1) refl widths h) (parts_ends p (place-split o b1 b2 p is cut) (fits_kept d widths h) others)
 
     pub times_ends : {n i o : ℕ} {v : Values} {b : List ℕ} {ts : Trees} (p : ℕ) → p ≡ o + length b → FitWidths d v → TimesMean d n i o v b ts → TimesEnd d n i (o % 8) (p % 8)
     times_ends {o = o} {b = b} p is widths (mean.times_end over h) = times_end over (octet-same o p (length b) is (ap length h))
@@ -72,4 +73,4 @@ module _ (d : DescV) (shaped : Shaped d) where
     pub lead_ends : {parts : List ℕ} {o : ℕ} {v : Values} {b : List ℕ} {ts : Trees} (p : ℕ) → p ≡ o + length b → FitWidths d v → LeadMean d parts o v b ts → LeadEnd d parts (o % 8) (p % 8)
     lead_ends {o = o} p is widths (lead_last some h) = lead_next (p % 8) (ends p is widths h) (lead_end refl)
     lead_ends {o = o} p is widths (mean.lead_next b1 b2 cut h others) =
-        lead_next ((o + length b1) % 8) (ends (o + length b1) refl widths h) (lead_ends p (place-split o b1 b2 p is cut) (widths_kept d widths h) others)
+        lead_next ((o + length b1) % 8) (ends (o + length b1) refl widths h) (lead_ends p (place-split o b1 b2 p is cut) (fits_kept d widths h) others)

@@ -1,7 +1,5 @@
 -- Each first piece of a key is followed, where the node is well formed and what it sees has values.
-use Rattle.std.proofs.Common.{◌≡◌, ℕ, zero, suc, ◌+◌, ◌%◌, ◌<◌, ◌==◌, ◌⊎◌, Bool, true, false, if◌then◌else◌, List, [], ◌∷◌, ◌++◌, length, refl, sym, ◌∙◌, ap, subst, arith, append_assoc, append-nil, inl, inr, Some, slice_get, Contains}
-use Rattle.std.specs.Prelude.{IsSome}
-use Rattle.std.specs.List.{slice_index_or}
+use Rattle.std.proofs.Common.{◌≡◌, ℕ, zero, suc, ◌+◌, ◌%◌, Bool, true, false, List, [], ◌∷◌, ◌++◌, length, refl, sym, ◌∙◌, ap, subst, arith, append_assoc, append-nil, Some, slice_get}
 use Rattle.csn_desc.specs.declared.symbol.Symbol.TheVariants.{Low}
 use Rattle.csn_desc.specs.declared.node.Count.{Count}
 use Rattle.csn_desc.specs.declared.node.Node.{Node}
@@ -9,44 +7,18 @@ use Rattle.csn_desc.specs.declared.node.Node.TheVariants.{Seq, Times}
 use Rattle.csn_desc.specs.TreeV.{TreeV, row, Trees, none, more}
 use Rattle.csn_desc.specs.Nodes.{DescV, parts_of}
 use Rattle.csn_desc.specs.Spelled.{spelled}
-use Rattle.csn_desc.specs.Values.{Values, number_of, value_of, count_of, is_named, with_value}
+use Rattle.csn_desc.specs.Values.{Values, count_of, with_value}
 use Rattle.csn_desc.specs.Means.{NMeans, PartsMean, TimesMean, means_lits, means_spare, means_pad, means_field, means_seq, means_times, parts_end, parts_next, times_end, times_next}
 use Rattle.csn_desc.specs.Follows.{NFollow, NodeFollows, PartsFollow, TimesFollow, follows_at, follows_whole, follows_lits, follows_spare, follows_pad, follows_field, follows_seq, follows_choice, follows_times, follows_named, parts_here, parts_later, times_here, times_later}
-use Rattle.csn_desc.specs.Formed.{shows_earlier, with_seen, Formed, PartsFormed, formed, formed_end, formed_next, HaveValues}
+use Rattle.csn_desc.specs.Formed.{shows_earlier, Formed, PartsFormed, formed, formed_end, formed_next, HaveValues}
 use Rattle.csn_desc.proofs.Nodewise.{follow_at}
 use Rattle.csn_desc.proofs.Empties.{empty_followed}
 use Rattle.csn_desc.proofs.Prefixes.{prefix_followed}
+use Rattle.csn_desc.proofs.ValuesKept.{values_kept}
 use Rattle.csn_look.specs.Keys.{InKeys, NodeKeys, PartsKeys, TimesKeys, keys_at, keys_lits, keys_spare, keys_field, keys_pad, keys_null, keys_rest, keys_many, keys_trunc, keys_window, keys_counted_field, keys_counted_times, keys_seq, keys_times, keys_choice, keys_named, parts_none, parts_cut, parts_whole, times_none, times_cut, times_whole}
 use Rattle.csn_look.proofs.KeyFacts.{spelled-octet}
 use Rattle.csn_look.proofs.KeyMeant.{cut_rest, spare_at, octet_next, octet_again, key_meant}
 use Rattle.csn_look.proofs.NearFacts.{held_along}
-
--- ---- what is seen has values
-
-contains_cases : (y : ℕ) (xs : List ℕ) (x : ℕ) → Contains (y ∷ xs) x → (y ≡ x) ⊎ Contains xs x
-contains_cases y xs x h = at h.0 h.1 h.2
-  where
-    at : (k : ℕ) → k < length (y ∷ xs) → slice_index_or (y ∷ xs) k x ≡ x → (y ≡ x) ⊎ Contains xs x
-    at zero less is = inl is
-    at (suc k) less is = inr (k, omega arith, is)
-
-module _ (nodes : List Node) where
-  -- a labelled part that is seen has its value behind it
-  pub values_kept : (i : ℕ) (b : List ℕ) (v : Values) (seen : List ℕ) → HaveValues v seen → HaveValues (with_value nodes i b v) (with_seen nodes true i seen)
-  values_kept i b v seen values = kept (is_named nodes i)
-    where
-      found : (field : ℕ) (same : Bool) → (i == field) ≡ same → (i ≡ field) ⊎ IsSome (value_of v field) → IsSome (if same then Some (number_of b) else value_of v field)
-      found field true is h = refl
-      found field false is (inl same) = absurd (grind (arith, is, same))
-      found field false is (inr h) = h
-
-      later : (field : ℕ) → (i ≡ field) ⊎ Contains seen field → (i ≡ field) ⊎ IsSome (value_of v field)
-      later field (inl same) = inl same
-      later field (inr h) = inr (values field h)
-
-      kept : (labelled : Bool) → HaveValues (if labelled then (i, b) ∷ v else v) (if labelled then i ∷ seen else seen)
-      kept true field h = found field (i == field) refl (later field (contains_cases i seen field h))
-      kept false field h = values field h
 
 module _ (d : DescV) (most : ℕ) where
   -- bits, with these first, that some parts follow or have trees for all of

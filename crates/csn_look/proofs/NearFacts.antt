@@ -4,22 +4,18 @@ use Rattle.std.proofs.Common.{◌≡◌, ℕ, zero, suc, ◌+◌, ◌*◌, ◌%�
 use Rattle.std.specs.Prelude.{replicate}
 use Rattle.std.proofs.lemmas.Bool.Decides.{leb_tells}
 use Rattle.std.proofs.lemmas.List.{length-replicate}
-use Rattle.csn_bits.specs.Octets.{IsBits}
-use Rattle.csn_desc.specs.declared.reading.Reading.{Reading}
-use Rattle.csn_desc.specs.declared.reading.Reading.TheVariants.{Received, Sent}
-use Rattle.csn_desc.specs.declared.symbol.Symbol.{Symbol}
 use Rattle.csn_desc.specs.declared.symbol.Symbol.TheVariants.{Low}
 use Rattle.csn_desc.specs.declared.node.Count.{Count}
 use Rattle.csn_desc.specs.declared.node.Count.TheVariants.{Fixed, Counted}
 use Rattle.csn_desc.specs.declared.node.Node.{Node}
 use Rattle.csn_desc.specs.declared.node.Node.TheVariants.{Lits, Spare, Pad, Null, Field, Rest, Seq, Choice, Times, Many, Trunc, Window, Named}
 use Rattle.csn_desc.specs.Nodes.{DescV, parts_of}
-use Rattle.csn_desc.specs.Spelled.{spelled, IsSpare}
+use Rattle.csn_desc.specs.Spelled.{spelled}
 use Rattle.csn_desc.specs.Values.{Values, count_of}
 use Rattle.csn_desc.specs.Follows.{NFollow, NodeFollows, PartsFollow, TimesFollow, follows_at, follows_whole, follows_lits, follows_spare, follows_pad, follows_field, follows_seq, follows_choice, follows_times, follows_many, follows_trunc, follows_window, follows_named, parts_here, parts_later, times_here, times_later}
 use Rattle.csn_desc.specs.Formed.{shows_earlier, Formed, PartsFormed, formed, formed_end, formed_next}
-use Rattle.csn_desc.proofs.BitFacts.{IsBits-spelled}
 use Rattle.csn_desc.proofs.Splits.{splits, inside, behind}
+use Rattle.csn_desc.proofs.Empties.{is_spare, IsBits-zeros}
 use Rattle.csn_look.specs.Keys.{Cut, kept, cut, InKeys, NodeKeys, PartsKeys, TimesKeys, keys_at, keys_lits, keys_spare, keys_field, keys_pad, keys_null, keys_rest, keys_many, keys_trunc, keys_window, keys_counted_field, keys_counted_times, keys_seq, keys_times, keys_choice, keys_named, parts_none, parts_cut, parts_whole, times_none, times_cut, times_whole}
 use Rattle.csn_look.specs.Beginnings.{Begun, Near, near_begun, near_within}
 use Rattle.csn_look.proofs.KeyFacts.{keys, node_keys, as_key, unread, octet_word, marked_key, whole_word, cut_first, both_words}
@@ -43,15 +39,6 @@ found_as make h = record { word = h.word; mark = h.mark; key = make h.word h.mar
 
 nothing_read : {P : List ℕ → Bool → Type 0} (mark : Bool) → P [] mark → Found P
 nothing_read mark key = record { word = []; mark = mark; key = key }
-
-pub zeros_are : (n : ℕ) → IsBits (replicate n 0)
-zeros_are zero = tt
-zeros_are (suc n) = (omega arith, zeros_are n)
-
--- the one bit that every reading takes
-pub spare_is : (reading : Reading) (s : Symbol) (o : ℕ) → IsSpare reading s o (spelled (s ∷ []) o)
-spare_is Received s o = IsBits-spelled (s ∷ []) o
-spare_is Sent s o = refl
 
 module _ (d : DescV) (most : ℕ) where
   -- the key of a first part, with a key of the others behind it where it is whole
@@ -78,7 +65,7 @@ module _ (d : DescV) (most : ℕ) where
 
   field_found : (unit : ℕ) (count : Count) (o : ℕ) → Found (NodeKeys d most (Field unit count) o)
   field_found unit (Fixed n) o =
-      found_of {most = most} (replicate (unit * n) 0) true (λ x mark c. keys_field (replicate (unit * n) 0) (length-replicate (unit * n) 0) (zeros_are (unit * n)) c)
+      found_of {most = most} (replicate (unit * n) 0) true (λ x mark c. keys_field (replicate (unit * n) 0) (length-replicate (unit * n) 0) (IsBits-zeros (unit * n)) c)
   field_found unit (Counted m field c) o = nothing_read false (keys_counted_field refl refl)
 
   repeat_found : (count : Count) (i o : ℕ) → ((p : ℕ) → Found (InKeys d most i p)) → Found (NodeKeys d most (Times count i) o)
@@ -90,9 +77,9 @@ module _ (d : DescV) (most : ℕ) where
     pub has_key : {seen : List ℕ} {round i : ℕ} → Formed d.nodes seen round i → (o : ℕ) → Found (InKeys d most i o)
     has_key (formed (Lits run) at few head have room held) o = found_of {most = most} (spelled run o) true (λ x mark c. keys_at (Lits run) at (keys_lits c))
     has_key (formed (Spare s) at few head have room held) o =
-        found_of {most = most} (spelled (s ∷ []) o) true (λ x mark c. keys_at (Spare s) at (keys_spare (spelled (s ∷ []) o) refl (spare_is d.reading s o) c))
+        found_of {most = most} (spelled (s ∷ []) o) true (λ x mark c. keys_at (Spare s) at (keys_spare (spelled (s ∷ []) o) refl (is_spare d.reading s o) c))
     has_key (formed Pad at few head have room held) o =
-        found_of {most = most} (spelled (Low ∷ []) o) false (λ x mark c. keys_at Pad at (keys_pad (spelled (Low ∷ []) o) refl (spare_is d.reading Low o) c))
+        found_of {most = most} (spelled (Low ∷ []) o) false (λ x mark c. keys_at Pad at (keys_pad (spelled (Low ∷ []) o) refl (is_spare d.reading Low o) c))
     has_key (formed Null at few head have room held) o = nothing_read true (keys_at Null at (keys_null refl refl))
     has_key (formed (Field unit count) at few head have room held) o = found_as (λ x mark key. keys_at (Field unit count) at key) (field_found unit count o)
     has_key (formed Rest at few head have room held) o = nothing_read false (keys_at Rest at (keys_rest refl refl))

@@ -1,7 +1,7 @@
 -- The keys of nodes by the sets of keys of their parts.
-use Rattle.std.proofs.Common.{◌≡◌, ℕ, zero, suc, ◌+◌, ◌%◌, ◌≤◌, Bool, true, false, List, [], ◌∷◌, length, ◌↔◌, refl, sym, subst, arith}
+use Rattle.std.proofs.Common.{◌≡◌, ℕ, zero, suc, ◌+◌, ◌%◌, ◌≤◌, Bool, true, false, List, ◌∷◌, length, ◌↔◌, refl, sym, subst, arith}
 use Rattle.csn_desc.specs.Nodes.{DescV}
-use Rattle.csn_look.specs.Keys.{Cut, InKeys, PartsKeys, TimesKeys, parts_cut, parts_whole, times_none, times_cut, times_whole}
+use Rattle.csn_look.specs.Keys.{InKeys, PartsKeys, TimesKeys, parts_cut, parts_whole, times_none, times_cut, times_whole}
 use Rattle.csn_look.specs.KeyMarks.{IsWord, KeysAre}
 use Rattle.csn_look.specs.KeyProducts.{AfterKeys, after_cut, after_whole}
 use Rattle.csn_look.proofs.KeyWords.{key_word, parts_word, times_word}

@@ -1,20 +1,16 @@
 -- What each node of a well-formed description is, and what the values that it sees are.
-use Rattle.std.proofs.Common.{◌≡◌, ℕ, zero, suc, ◌+◌, ◌*◌, ◌^◌, ◌%◌, ◌<◌, ◌≤◌, ◌==◌, Bool, true, false, if◌then◌else◌, List, [], ◌∷◌, ◌++◌, length, refl, ◌∙◌, ap, subst, arith, length-append, inl, inr, Option, Some, None, option_map, slice_get, IsSomeAnd, eqb-true}
+use Rattle.std.proofs.Common.{◌≡◌, ℕ, suc, ◌+◌, ◌*◌, ◌%◌, ◌<◌, ◌≤◌, List, [], ◌∷◌, ◌++◌, length, refl, ap, subst, arith, length-append, inl, inr, Option, Some, None, option_map, slice_get, IsSomeAnd}
 use Rattle.std.specs.Prelude.{⊤}
-use Rattle.std.proofs.lemmas.Bool.Decides.{leb_tells}
 use Rattle.csn_desc.specs.declared.symbol.Symbol.{Symbol}
 use Rattle.csn_desc.specs.declared.node.Count.{Count}
 use Rattle.csn_desc.specs.declared.node.Count.TheVariants.{Fixed, Counted}
 use Rattle.csn_desc.specs.declared.node.Node.{Node}
 use Rattle.csn_desc.specs.declared.node.Node.TheVariants.{Lits, Spare, Pad, Null, Field, Rest, Seq, Choice, Times, Many, Trunc, Window, Named}
-use Rattle.csn_desc.specs.TreeV.{TreeV}
-use Rattle.csn_desc.specs.Nodes.{DescV, head_of, parts_of}
+use Rattle.csn_desc.specs.Nodes.{DescV, head_of}
 use Rattle.csn_desc.specs.Spelled.{spelled}
-use Rattle.csn_desc.specs.Values.{Values, number_of, value_of, count_of, is_named, with_value}
-use Rattle.csn_desc.specs.Means.{NMeans}
-use Rattle.csn_desc.specs.Formed.{value_width, IsUnit, IsCount, IsHead, Spans, PartsSpan, spans, span_end, span_next, Formed, PartsFormed, formed, formed_end, formed_next, IsDescription, FitWidths}
-use Rattle.csn_desc.proofs.NumberFacts.{number_of-lt, value_has_width}
-use Rattle.csn_desc.proofs.MeantBits.{meant_bits}
+use Rattle.csn_desc.specs.Values.{Values, value_of, count_of}
+use Rattle.csn_desc.specs.Formed.{value_width, IsUnit, IsCount, IsHead, Formed, formed, IsDescription, FitWidths}
+use Rattle.csn_desc.proofs.Placed.{node_placed}
 use Rattle.csn_look.specs.Ends.{MayCount, may_fixed, may_counted}
 
 -- ---- nodes
@@ -71,85 +67,18 @@ head_is nodes seen (Many part) is = tt
 head_is nodes seen (Trunc parts) is = tt
 head_is nodes seen (Named label part) is = tt
 
-module _ (nodes : List Node) where
-  -- node k is well formed, wherever it stands
-  pub record Placed (k : ℕ) : Type 0 where
-    pub seen : List ℕ
-    pub round : ℕ
-    pub is : Formed nodes seen round k
-
-  placed_here : {i k : ℕ} {seen : List ℕ} {round : ℕ} → i ≡ k → Formed nodes seen round i → Placed k
-  placed_here {seen = seen} {round = round} same h =
-      let P : ℕ → Type 0 = λ k. Formed nodes seen round k in record { seen = seen; round = round; is = subst P same h }
-
-  parts_along : {n m : Node} {at end : ℕ} → n ≡ m → PartsSpan nodes (parts_of n) at end → PartsSpan nodes (parts_of m) at end
-  parts_along {at = at} {end = end} same h = let P : Node → Type 0 = λ n. PartsSpan nodes (parts_of n) at end in subst P same h
-
-  mutual
-    -- each node inside a well-formed one is well formed
-    pub placed : {i end : ℕ} {seen : List ℕ} {round : ℕ} (k : ℕ) → Spans nodes i end → Formed nodes seen round i → i ≤ k → k < end → Placed k
-    placed {i = i} k (spans n at parts) (formed m is few head have room others) from within =
-        let same : n ≡ m = cc in
-        elim (leb_tells k i) [
-          | inl low ↦ placed_here (omega (arith, low.1)) (formed m is few head have room others)
-          | inr high ↦ parts_placed k (parts_along same parts) others (omega (arith, high.1)) within
-        ]
-
-    parts_placed : {shows : Bool} {seen : List ℕ} {round : ℕ} {parts : List ℕ} {at end : ℕ} (k : ℕ) → PartsSpan nodes parts at end → PartsFormed nodes shows seen round parts → at ≤ k → k < end → Placed k
-    parts_placed k (span_end e) formed_end from within = absurd (omega arith)
-    parts_placed k (span_next middle e h others) (formed_next first rest) from within =
-        elim (leb_tells middle k) [
-          | inl behind ↦ parts_placed k others rest behind.1 within
-          | inr inside ↦ placed k h first (omega arith) inside.1
-        ]
-
-pub within_nodes : (nodes : List Node) (i : ℕ) (n : Node) → slice_get nodes i ≡ Some n → i < length nodes
-within_nodes [] i n at = absurd (cc)
-within_nodes (x ∷ nodes) zero n at = omega arith
-within_nodes (x ∷ nodes) (suc i) n at = omega (arith, within_nodes nodes i n at)
-
 formed_is : {nodes : List Node} {seen : List ℕ} {round i : ℕ} (n : Node) → slice_get nodes i ≡ Some n → Formed nodes seen round i → NodeIs nodes n
 formed_is {nodes = nodes} {seen = seen} n at (formed m is few head have room others) =
     let same : m ≡ n = cc in
     let P : Node → Type 0 = λ k. NodeIs nodes k in
     subst P same (head_is nodes seen m head)
 
--- each node of a description is well formed
-pub node_placed : (d : DescV) → IsDescription d → (i : ℕ) (n : Node) → slice_get d.nodes i ≡ Some n → Placed d.nodes i
-node_placed d is i n at = placed d.nodes i is.numbered is.well_formed (omega arith) (within_nodes d.nodes i n at)
-
 pub shaped : (d : DescV) → IsDescription d → Shaped d
 shaped d is i n at = formed_is n at (node_placed d is i n at).is
 
 -- ---- values
 
-pub no_widths : (d : DescV) → FitWidths d []
-no_widths d = record { fit = λ field value width at is. absurd (cc) }
-
 module _ (d : DescV) where
-  fits_width : {i o : ℕ} {v : Values} {b : List ℕ} {t : TreeV} (width : ℕ) → value_width d.nodes i ≡ Some width → NMeans d i o v b t → number_of b < 2 ^ width
-  fits_width {b = b} width is h =
-      let wide = value_has_width d width is h in
-      let P : ℕ → Type 0 = λ w. number_of b < 2 ^ w in
-      subst P wide (number_of-lt b (meant_bits d h))
-
-  -- behind a labelled part too
-  pub widths_kept : {i o : ℕ} {v : Values} {b : List ℕ} {t : TreeV} → FitWidths d v → NMeans d i o v b t → FitWidths d (with_value d.nodes i b v)
-  widths_kept {i = i} {v = v} {b = b} widths h = record { fit = λ field value width. behind field value width (is_named d.nodes i) }
-    where
-      first : (field value width : ℕ) (same : Bool) → (i == field) ≡ same → (if same then Some (number_of b) else value_of v field) ≡ Some value → value_width d.nodes field ≡ Some width → value < 2 ^ width
-      first field value width true same at is =
-          let here : number_of b ≡ value = cc in
-          let field_is : i ≡ field = eqb-true i field same in
-          let wide : value_width d.nodes i ≡ Some width = ap (λ k. value_width d.nodes k) field_is ∙ is in
-          let small = fits_width width wide h in
-          rw (← here) small
-      first field value width false same at is = widths.fit field value width at is
-
-      behind : (field value width : ℕ) (labelled : Bool) → value_of (if labelled then (i, b) ∷ v else v) field ≡ Some value → value_width d.nodes field ≡ Some width → value < 2 ^ width
-      behind field value width true at is = first field value width (i == field) refl at is
-      behind field value width false at is = widths.fit field value width at is
-
   counted_may : {m field c n : ℕ} (v : Values) (value : Option ℕ) → value_of v field ≡ value → FitWidths d v → (w : ℕ) × (value_width d.nodes field ≡ Some w) → option_map (λ x. m * x + c) value ≡ Some n → MayCount d (Counted m field c) n
   counted_may {field = field} v None at widths is counts = absurd (cc)
   counted_may {field = field} v (Some x) at widths is counts =

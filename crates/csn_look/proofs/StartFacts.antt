@@ -15,8 +15,9 @@ use Rattle.csn_desc.specs.Means.{NMeans, NodeMeans, PartsMean, TimesMean, ManyMe
 use Rattle.csn_desc.specs.Follows.{NFollow, NodeFollows, PartsFollow, TimesFollow, ManyFollow, follows_at, follows_whole, follows_lits, follows_spare, follows_pad, follows_field, follows_seq, follows_choice, follows_times, follows_many, follows_trunc, follows_window, follows_named, parts_here, parts_later, times_here, times_later, many_here, many_later}
 use Rattle.csn_desc.specs.Formed.{FitWidths}
 use Rattle.csn_desc.proofs.BitFacts.{IsBits-along}
+use Rattle.csn_desc.proofs.ValuesKept.{fits_kept}
 use Rattle.csn_look.specs.Starts.{InStart, NodeStarts, PartsStart, starts_at, starts_lits, starts_spare, starts_pad, starts_field, starts_rest, starts_seq, starts_trunc, starts_choice, starts_times, starts_many, starts_window, starts_named, starts_here, starts_later}
-use Rattle.csn_look.proofs.ShapeFacts.{NodeIs, Shaped, widths_kept}
+use Rattle.csn_look.proofs.ShapeFacts.{NodeIs, Shaped}
 use Rattle.csn_look.proofs.NullableFacts.{nullable}
 use Rattle.csn_look.proofs.EndsFacts.{ends}
 
@@ -68,7 +69,7 @@ module _ (d : DescV) (shaped : Shaped d) where
     pub parts_start : {parts : List ℕ} {o : ℕ} {v : Values} {b : List ℕ} {ts : Trees} (a : ℕ) (r : List ℕ) → b ≡ a ∷ r → FitWidths d v → PartsMean d parts o v b ts → PartsStart d parts (o % 8) a
     parts_start a r is widths (parts_end h) = absurd (cc)
     parts_start {o = o} a r is widths (parts_next [] b2 cut h others) =
-        starts_later ((o + length {A = ℕ} []) % 8) (nullable d shaped h refl) (ends d shaped (o + length {A = ℕ} []) refl widths h) (parts_start a r (sym cut ∙ is) (widths_kept d widths h) others)
+        starts_later ((o + length {A = ℕ} []) % 8) (nullable d shaped h refl) (ends d shaped (o + length {A = ℕ} []) refl widths h) (parts_start a r (sym cut ∙ is) (fits_kept d widths h) others)
     parts_start a r is widths (parts_next (x ∷ b1) b2 cut h others) =
         let same : x ∷ b1 ≡ a ∷ b1 = cc in starts_here (starts a b1 same widths h)
 
@@ -88,7 +89,7 @@ module _ (d : DescV) (shaped : Shaped d) where
     pub lead_start : {parts : List ℕ} {o : ℕ} {v : Values} {b : List ℕ} {ts : Trees} (a : ℕ) (r : List ℕ) → b ≡ a ∷ r → FitWidths d v → LeadMean d parts o v b ts → PartsStart d parts (o % 8) a
     lead_start a r is widths (lead_last some h) = starts_here (starts a r is widths h)
     lead_start {o = o} a r is widths (lead_next [] b2 cut h others) =
-        starts_later ((o + length {A = ℕ} []) % 8) (nullable d shaped h refl) (ends d shaped (o + length {A = ℕ} []) refl widths h) (lead_start a r (sym cut ∙ is) (widths_kept d widths h) others)
+        starts_later ((o + length {A = ℕ} []) % 8) (nullable d shaped h refl) (ends d shaped (o + length {A = ℕ} []) refl widths h) (lead_start a r (sym cut ∙ is) (fits_kept d widths h) others)
     lead_start a r is widths (lead_next (x ∷ b1) b2 cut h others) =
         let same : x ∷ b1 ≡ a ∷ b1 = cc in starts_here (starts a b1 same widths h)
 
@@ -118,7 +119,7 @@ module _ (d : DescV) (shaped : Shaped d) where
     pub parts_follow_start : {parts : List ℕ} {o : ℕ} {v : Values} {b : List ℕ} (a : ℕ) (r : List ℕ) → b ≡ a ∷ r → FitWidths d v → PartsFollow d parts o v b → PartsStart d parts (o % 8) a
     parts_follow_start a r is widths (parts_here h) = starts_here (follows a r is widths h)
     parts_follow_start {o = o} a r is widths (parts_later [] b2 cut h others) =
-        starts_later ((o + length {A = ℕ} []) % 8) (nullable d shaped h refl) (ends d shaped (o + length {A = ℕ} []) refl widths h) (parts_follow_start a r (sym cut ∙ is) (widths_kept d widths h) others)
+        starts_later ((o + length {A = ℕ} []) % 8) (nullable d shaped h refl) (ends d shaped (o + length {A = ℕ} []) refl widths h) (parts_follow_start a r (sym cut ∙ is) (fits_kept d widths h) others)
     parts_follow_start a r is widths (parts_later (x ∷ b1) b2 cut h others) =
         let same : x ∷ b1 ≡ a ∷ b1 = cc in starts_here (starts a b1 same widths h)
 

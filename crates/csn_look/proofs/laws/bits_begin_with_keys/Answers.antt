@@ -3,9 +3,9 @@ use Rattle.csn_desc.specs.Nodes.{DescV}
 use Rattle.csn_desc.specs.Values.{Values}
 use Rattle.csn_desc.specs.Follows.{NFollow, follows_at}
 use Rattle.csn_desc.specs.Formed.{IsDescription}
+use Rattle.csn_desc.proofs.Placed.{node_placed}
 use Rattle.csn_look.specs.Keys.{InKeys}
 use Rattle.csn_look.specs.Beginnings.{Near}
-use Rattle.csn_look.proofs.ShapeFacts.{node_placed}
 use Rattle.csn_look.proofs.KeyFacts.{keys}
 use Rattle.csn_look.proofs.NearFacts.{near_keys}
 use Rattle.csn_look.proofs.laws.bits_begin_with_keys.Goals as goal

@@ -1,6 +1,7 @@
 use Rattle.std.proofs.Common.{◌%◌, refl}
 use Rattle.csn_desc.proofs.Prefixes.{prefix_followed}
-use Rattle.csn_look.proofs.ShapeFacts.{node_placed, shaped}
+use Rattle.csn_desc.proofs.Placed.{node_placed}
+use Rattle.csn_look.proofs.ShapeFacts.{shaped}
 use Rattle.csn_look.proofs.KeyMeant.{key_meant, key_start}
 use Rattle.csn_look.proofs.NearFacts.{has_key}
 use Rattle.csn_look.proofs.KeyFollowed.{key_followed}

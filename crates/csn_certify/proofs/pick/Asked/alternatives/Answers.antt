@@ -1,13 +1,13 @@
 use Rattle.std.proofs.Common.{length, arith}
+use Rattle.std.proofs.lemmas.Option.{slice_get_within}
 use Rattle.csn_desc.specs.declared.node.Node.TheVariants.{Choice}
-use Rattle.csn_look.proofs.ShapeFacts.{within_nodes}
 use Rattle.csn_look.proofs.ReachedParts.{parts_below}
 use Rattle.csn_certify.proofs.Choices.{begun_by_choice, neither_by_choice}
 use Rattle.csn_certify.proofs.pick.Asked.alternatives.Goals as goal
 
 pub key_table-requires-clause-node : goal.key_table-requires-clause-node
 key_table-requires-clause-node c =
-    let inside = within_nodes c.args.self.now.desc.now.nodes c.args.node (Choice c.args.parts.now) c.requires.choice in
+    let inside = slice_get_within c.args.self.now.desc.now.nodes c.args.node (Choice c.args.parts.now) c.requires.choice in
     let same = c.requires.ready.plan.keys.same in
     omega arith
 
