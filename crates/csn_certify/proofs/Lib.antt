@@ -13,6 +13,9 @@ pub mod Decisions
 pub mod OneTree
 pub mod PickFacts
 pub mod PicksRight
+pub mod Turns
+pub mod Components
+pub mod Waiting
 pub mod BeginsString
 pub mod NoFurther
 pub mod OnePick

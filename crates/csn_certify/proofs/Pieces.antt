@@ -9,6 +9,10 @@ use Rattle.csn_certify.specs.Conflicts.{IsBegunBy}
 
 -- ---- lists
 
+pub some_bit : (b : List ℕ) → (b ≡ [] → ⊥) → 0 < length b
+some_bit [] some = absurd (some refl)
+some_bit (a ∷ b) some = omega arith
+
 -- two first pieces of one list that are equally long are one
 pub same_length : (b c x y : List ℕ) → length b ≡ length c → b ++ x ≡ c ++ y → b ≡ c
 same_length [] [] x y size e = refl

@@ -1,20 +1,22 @@
 -- Laws over the definitions.
-use Rattle.std.specs.Prelude.{◌≡◌, ℕ, suc, ◌%◌, ◌<◌, ◌≤◌, Bool, true, false, List, [], ◌++◌, length, take, slice_get, Some}
+use Rattle.std.specs.Prelude.{◌≡◌, ℕ, suc, ◌+◌, ◌%◌, ◌<◌, ◌≤◌, Bool, true, false, ◌↔◌, List, [], ◌∷◌, ◌++◌, length, take, slice_get, Some}
 use Rattle.csn_desc.specs.declared.node.Count.{Count}
-use Rattle.csn_desc.specs.declared.node.Node.TheVariants.{Choice, Many, Window}
-use Rattle.csn_desc.specs.TreeV.{TreeV, row, alt, none}
+use Rattle.csn_desc.specs.declared.node.Node.{Node}
+use Rattle.csn_desc.specs.declared.node.Node.TheVariants.{Choice, Times, Many, Trunc, Window}
+use Rattle.csn_desc.specs.TreeV.{TreeV, row, alt, Trees, none}
 use Rattle.csn_desc.specs.Nodes.{DescV}
 use Rattle.csn_desc.specs.Values.{Values}
-use Rattle.csn_desc.specs.Means.{NMeans}
-use Rattle.csn_desc.specs.Follows.{NFollow}
-use Rattle.csn_desc.specs.Formed.{IsDescription, FitWidths}
-use Rattle.csn_look.specs.Reached.{Reached}
+use Rattle.csn_desc.specs.Means.{NMeans, NodeMeans, PartsMean}
+use Rattle.csn_desc.specs.Follows.{NFollow, NodeFollows, PartsFollow, ManyFollow}
+use Rattle.csn_desc.specs.Formed.{Formed, HaveValues, IsDescription, FitWidths}
+use Rattle.csn_look.specs.Ends.{InEnds, PartsEnd}
+use Rattle.csn_look.specs.Reached.{Reached, InFollow, MayStandBehind}
 use Rattle.csn_certify.specs.declared.conflict.Conflict.{Conflict}
 use Rattle.csn_certify.specs.declared.pick.Pick.{Pick}
-use Rattle.csn_certify.specs.declared.pick.Pick.TheVariants.{Take, Leave, Refuse}
-use Rattle.csn_certify.specs.Conflicts.{IsFirstConflict, Certified}
+use Rattle.csn_certify.specs.declared.pick.Pick.TheVariants.{Take, Leave, Wait, Refuse}
+use Rattle.csn_certify.specs.Conflicts.{IsFirstConflict, IsLast, Certified}
 use Rattle.csn_certify.specs.Picks.{IsAsked, Picks}
-use Rattle.csn_certify.specs.Ahead.{LiesAhead}
+use Rattle.csn_certify.specs.Ahead.{LiesAhead, TakesComponent}
 
 abbrev pub FirstConflictIsOne : Type 0
 FirstConflictIsOne =
@@ -106,6 +108,134 @@ FollowedRefuseNone =
     → IsDescription d → Certified d most → slice_get d.nodes node ≡ Some (Choice parts)
     → slice_get parts i ≡ Some part → NFollow d part o v (held ++ later)
     → ¬ Picks d most node (o % 8) held false Refuse
+
+-- bits, and not none, that a free repetition follows are followed by turns of it: by the first, or by later ones
+-- behind it
+abbrev pub FollowedGoOn : Type 0
+FollowedGoOn =
+    (d : DescV) (node part o : ℕ) (v : Values) (b : List ℕ) → slice_get d.nodes node ≡ Some (Many part) → ¬ (b ≡ [])
+    → NFollow d node o v b
+    → ManyFollow d part o v b
+
+-- where look-ahead leaves a free repetition, it does not follow the bits that lie ahead, where there are any
+abbrev pub FollowedStop : Type 0
+FollowedStop =
+    (d : DescV) (most node part o : ℕ) (v : Values) (held later : List ℕ) (ended : Bool)
+    → IsDescription d → slice_get d.nodes node ≡ Some (Many part) → FitWidths d v → (ended ≡ true → later ≡ [])
+    → ¬ (held ++ later ≡ []) → Picks d most node (o % 8) held ended Leave
+    → ¬ NFollow d node o v (held ++ later)
+
+-- nor does its part
+abbrev pub FollowedTurnsStop : Type 0
+FollowedTurnsStop =
+    (d : DescV) (most node part o : ℕ) (v : Values) (held later : List ℕ) (ended : Bool)
+    → IsDescription d → slice_get d.nodes node ≡ Some (Many part) → FitWidths d v → (ended ≡ true → later ≡ [])
+    → ¬ (held ++ later ≡ []) → Picks d most node (o % 8) held ended Leave
+    → ¬ NFollow d part o v (held ++ later)
+
+-- ---- turns
+
+-- a turn of a repetition, free or by number, has a bit
+abbrev pub FreeTurnsHaveBits : Type 0
+FreeTurnsHaveBits =
+    (d : DescV) (most node part o : ℕ) (v : Values) (b : List ℕ) (t : TreeV)
+    → IsDescription d → Certified d most → slice_get d.nodes node ≡ Some (Many part) → NMeans d part o v b t
+    → 0 < length b
+
+abbrev pub CountedTurnsHaveBits : Type 0
+CountedTurnsHaveBits =
+    (d : DescV) (most node part o : ℕ) (count : Count) (v : Values) (b : List ℕ) (t : TreeV)
+    → IsDescription d → Certified d most → slice_get d.nodes node ≡ Some (Times count part) → NMeans d part o v b t
+    → 0 < length b
+
+-- ---- what is last
+
+-- where a node that must be last may end, no bit may follow it
+abbrev pub NoBitFollowsTheLast : Type 0
+NoBitFollowsTheLast =
+    (d : DescV) (most node from octet bit : ℕ) (n : Node)
+    → Certified d most → slice_get d.nodes node ≡ Some n → IsLast n → Reached d node from → InEnds d node from octet
+    → ¬ InFollow d node octet (Some bit)
+
+-- what lies ahead of such a node is its own
+abbrev pub NothingIsBehindTheLast : Type 0
+NothingIsBehindTheLast =
+    (d : DescV) (most node o : ℕ) (v : Values) (ahead : List ℕ) (t : TreeV) (n : Node)
+    → IsDescription d → Certified d most → slice_get d.nodes node ≡ Some n → IsLast n → Reached d node (o % 8)
+    → FitWidths d v → (lies : LiesAhead d node o v ahead t)
+    → lies.others ≡ []
+
+-- where some first components of a truncation may end, no bit may follow it, whether or not these are all, and
+-- whether or not the last of them took a bit
+abbrev pub NoBitFollowsComponents : Type 0
+NoBitFollowsComponents =
+    (d : DescV) (most node from octet bit : ℕ) (parts before after : List ℕ)
+    → Certified d most → slice_get d.nodes node ≡ Some (Trunc parts) → parts ≡ before ++ after → Reached d node from
+    → PartsEnd d before from octet
+    → ¬ InFollow d node octet (Some bit)
+
+-- and so where they have trees
+abbrev pub NoBitFollowsTrees : Type 0
+NoBitFollowsTrees =
+    (d : DescV) (most node o bit : ℕ) (parts before after : List ℕ) (v : Values) (b : List ℕ) (ts : Trees)
+    → IsDescription d → Certified d most → slice_get d.nodes node ≡ Some (Trunc parts) → parts ≡ before ++ after
+    → Reached d node (o % 8) → FitWidths d v → PartsMean d before o v b ts
+    → ¬ InFollow d node ((o + length b) % 8) (Some bit)
+
+-- ---- components of a truncation
+
+-- where bits lie ahead, the truncation of the components that are left takes the first of these: its tree is one of
+-- that, and one of the truncation of those behind it, of which the last need not have a bit before it is known
+-- whether a later one has
+abbrev pub TruncationsGoOn : Type 0
+TruncationsGoOn =
+    (d : DescV) (most node from i o : ℕ) (parts before after : List ℕ) (v : Values) (own others : List ℕ) (ts : Trees)
+    → Certified d most → slice_get d.nodes node ≡ Some (Trunc parts) → parts ≡ before ++ i ∷ after
+    → Reached d node from → PartsEnd d before from (o % 8)
+    → MayStandBehind d node ((o + length own) % 8) others → ¬ (own ++ others ≡ [])
+    → NodeMeans d (Trunc (i ∷ after)) o v own (row ts) ↔ TakesComponent d i after o v own ts
+
+-- and where bits, and not none, are followed, they are by the first of these components, or by later ones behind it
+abbrev pub FollowedTruncationsGoOn : Type 0
+FollowedTruncationsGoOn =
+    (d : DescV) (o : ℕ) (parts : List ℕ) (v : Values) (b : List ℕ) → ¬ (b ≡ []) → NodeFollows d (Trunc parts) o v b
+    → PartsFollow d parts o v b
+
+-- with no bits it takes none
+abbrev pub TruncationsEnd : Type 0
+TruncationsEnd =
+    (d : DescV) (o : ℕ) (parts : List ℕ) (v : Values) (b : List ℕ) (t : TreeV) → NodeMeans d (Trunc parts) o v b t
+    → b ≡ []
+    → t ≡ row none
+
+-- ---- waiting
+
+-- bits with which look-ahead waits are followed by the node
+abbrev pub WaitingIsFollowed : Type 0
+WaitingIsFollowed =
+    (d : DescV) (most node round o : ℕ) (seen : List ℕ) (v : Values) (held : List ℕ) (ended : Bool)
+    → Formed d.nodes seen round node → HaveValues v seen → Picks d most node (o % 8) held ended Wait
+    → NFollow d node o v held
+
+-- they are fewer than it looks at
+abbrev pub WaitingHoldsFew : Type 0
+WaitingHoldsFew =
+    (d : DescV) (most node octet : ℕ) (held : List ℕ) (ended : Bool)
+    → 0 < most → Picks d most node octet held ended Wait
+    → length held < most
+
+-- and are refused where the block ends behind them, if there are any
+abbrev pub WaitingEndsInRefusal : Type 0
+WaitingEndsInRefusal =
+    (d : DescV) (most node octet : ℕ) (held : List ℕ) → ¬ (held ≡ []) → Picks d most node octet held false Wait
+    → Picks d most node octet held true Refuse
+
+-- where look-ahead refuses no bits at the end, a choice has no tree with no bits
+abbrev pub RefusedHasNoEmptyTree : Type 0
+RefusedHasNoEmptyTree =
+    (d : DescV) (most node octet o : ℕ) (v : Values) (b : List ℕ) (t : TreeV)
+    → IsDescription d → Certified d most → Picks d most node octet [] true Refuse → NMeans d node o v b t
+    → ¬ (b ≡ [])
 
 -- no node is a window
 abbrev pub HasNoWindow : DescV → Type 0

@@ -1,6 +1,6 @@
 //! Laws over the definitions, each the contract of a function that does nothing.
 
-ghost use Rattle.csn_certify.specs.Laws.{FirstConflictIsOne, CertifiedHasNoConflict, LongerWordsCertify, NoContinuation, BlocksHaveOneTree, PicksAreOne, ChoicesTakeTheOne, ChoicesRefuseNone, RepetitionsGoOn, RepetitionsStop, FollowedTakeTheOne, FollowedRefuseNone, FollowedBeginStrings, FollowedInOneWay};
+ghost use Rattle.csn_certify.specs.Laws.{FirstConflictIsOne, CertifiedHasNoConflict, LongerWordsCertify, NoContinuation, BlocksHaveOneTree, PicksAreOne, ChoicesTakeTheOne, ChoicesRefuseNone, RepetitionsGoOn, RepetitionsStop, FollowedTakeTheOne, FollowedRefuseNone, FollowedGoOn, FollowedStop, FollowedTurnsStop, FreeTurnsHaveBits, CountedTurnsHaveBits, NoBitFollowsTheLast, NothingIsBehindTheLast, NoBitFollowsComponents, NoBitFollowsTrees, TruncationsGoOn, FollowedTruncationsGoOn, TruncationsEnd, WaitingIsFollowed, WaitingHoldsFew, WaitingEndsInRefusal, RefusedHasNoEmptyTree, FollowedBeginStrings, FollowedInOneWay};
 
 /// A description has at most one first conflict, and is not certified where it has one.
 pub fn first_conflict_is_one()
@@ -41,11 +41,55 @@ pub fn picks_are_right()
 {}
 
 /// And so of what is followed: by no other alternative of a choice than the one that is taken, and by none
-/// where look-ahead refuses while the block goes on.
+/// where look-ahead refuses while the block goes on; by turns of a free repetition, and not by it where it is
+/// left.
 pub fn picks_follow()
     ensures takes { FollowedTakeTheOne }
     ensures refuses { FollowedRefuseNone }
+    ensures goes_on { FollowedGoOn }
+    ensures stops { FollowedStop }
+    ensures turns_stop { FollowedTurnsStop }
+{
+    csn_look::laws::bits_start();
+}
+
+/// Each turn of a repetition of a certified description, free or by number, has a bit.
+pub fn turns_have_bits()
+    ensures free { FreeTurnsHaveBits }
+    ensures counted { CountedTurnsHaveBits }
+{
+    csn_look::laws::no_bits_are_of_nullable();
+}
+
+/// Nothing may stand behind a rest, behind padding and behind a truncation of a certified description: not
+/// where they may end, and not where some first components of a truncation end, also where the last of these
+/// took no bits.
+pub fn nothing_is_behind_the_last()
+    ensures ends { NoBitFollowsTheLast }
+    ensures ahead { NothingIsBehindTheLast }
+    ensures components { NoBitFollowsComponents }
+    ensures trees { NoBitFollowsTrees }
 {}
+
+/// A truncation takes its next component where bits lie ahead, and there alone.
+pub fn truncations_go_on()
+    ensures means { TruncationsGoOn }
+    ensures follows { FollowedTruncationsGoOn }
+    ensures ends { TruncationsEnd }
+{}
+
+/// Where look-ahead waits, the held bits are followed, and are fewer than it looks at; the end of the block
+/// behind them is refused. Where it refuses no bits at an end, a choice has no tree without bits.
+pub fn waiting_is_followed()
+    ensures followed { WaitingIsFollowed }
+    ensures few { WaitingHoldsFew }
+    ensures ends { WaitingEndsInRefusal }
+    ensures empty { RefusedHasNoEmptyTree }
+{
+    csn_look::laws::keys_are_of_bits();
+    csn_look::laws::keys_are_words();
+    csn_look::laws::no_bits_are_of_nullable();
+}
 
 /// Where a description has no windows, bits that can be followed are the first of a string.
 pub fn followed_begin_strings()
