@@ -7,21 +7,12 @@ use Rattle.csn_desc.specs.Nodes.{parts_of}
 use Rattle.csn_desc.specs.Values.{is_named}
 use Rattle.csn_desc.specs.Formed.{is_counted, shows_earlier, with_seen}
 use Rattle.csn_desc.specs.Overfull.{PartSees, part_here, part_later}
-use Rattle.csn_desc.specs.Standing.{Laid, PartsLaid, laid, laid_end, laid_next}
+use Rattle.csn_desc.specs.Laid.{Laid, PartsLaid, laid, laid_end, laid_next}
 use Rattle.csn_desc.specs.Crowds.{Below, below_here, below_part, Amounts, Crowded, Counting, Counts, NoneCrowded, FirstCrowded, CountingAmong, PartsCount, BelowPart, NoneCrowdedAmong, IsFirstAmong, FirstCrowdedAmong}
-use Rattle.csn_desc.proofs.Growth.{Grows, grown_same, laid_behind, parts_behind}
+use Rattle.csn_desc.proofs.WellFormed.{laid_behind, parts_behind}
 use Rattle.csn_desc.proofs.Entering.{get_within}
 
 module _ (nodes : List Node) where
-  grows : Grows nodes nodes
-  grows k n at = (n, at, grown_same refl)
-
-  behind : {seen : List ℕ} {round i end : ℕ} → Laid nodes seen round i end → i < end
-  behind h = laid_behind nodes nodes grows h
-
-  behind_parts : {shows : Bool} {seen : List ℕ} {round at end : ℕ} {parts : List ℕ} → PartsLaid nodes shows seen round parts at end → at ≤ end
-  behind_parts h = parts_behind nodes nodes grows h
-
   -- ---- from a node to its parts
 
   data First (i : ℕ) (seen : List ℕ) (k : ℕ) (shown : List ℕ) : Type 0 where
@@ -98,12 +89,12 @@ module _ (nodes : List Node) where
   mutual
     pub below_within : {seen : List ℕ} {round i end : ℕ} → Laid nodes seen round i end → (k : ℕ) (others shown : List ℕ) → Below nodes i others k shown → Within i end k
     below_within (laid n at deep head has parts) k others shown h =
-        within_first n at (omega (arith, behind_parts parts)) (λ sees j o s b. among_within parts sees j o s b) k others shown (below_step h)
+        within_first n at (omega (arith, parts_behind nodes parts)) (λ sees j o s b. among_within parts sees j o s b) k others shown (below_step h)
 
     pub among_within : {seen parts : List ℕ} {shows : Bool} {round at end : ℕ} → PartsLaid nodes shows seen round parts at end → (sees : Bool) (k : ℕ) (others shown : List ℕ) → BelowPart nodes parts sees others k shown → Within at end k
     among_within (laid_end e) sees k others shown h = none_sees h
     among_within (laid_next middle e h rest) sees k others shown b =
-        within_part e (behind h) (behind_parts rest) (λ j o s c. below_within h j o s c) (λ t j o s c. among_within rest t j o s c)
+        within_part e (laid_behind nodes h) (parts_behind nodes rest) (λ j o s c. below_within h j o s c) (λ t j o s c. among_within rest t j o s c)
         sees k others shown (sees_step b.sees b.below)
 
   -- ---- where a node has no part

@@ -8,7 +8,8 @@ use Rattle.csn_desc.specs.declared.node.Head.TheVariants as head
 use Rattle.csn_desc.specs.Nodes.{head_of, parts_of}
 use Rattle.csn_desc.specs.Formed.{IsHead, HasParts, shows_earlier}
 use Rattle.csn_desc.specs.Building.{node_of, with_part, set_part, part_begun, begun_parts, TakesPart, HasItsParts}
-use Rattle.csn_desc.specs.Standing.{Laid, PartsLaid, laid, laid_end, laid_next, seen_behind, IsPartAfter, Chain, chain_out, chain_in, AreParts, Stands}
+use Rattle.csn_desc.specs.Laid.{Laid, PartsLaid, laid, laid_end, laid_next, seen_behind}
+use Rattle.csn_desc.specs.Standing.{IsPartAfter, Chain, chain_out, chain_in, AreParts, Stands}
 use Rattle.csn_desc.proofs.Growth.{Grown, grown_same, grown_part, grown_head, grown_shows, Grows, head_kept, parts_kept, behind_kept, innermost_before, after_kept, chain_kept, SameFrom}
 
 -- ---- looking up

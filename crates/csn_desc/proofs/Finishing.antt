@@ -2,21 +2,14 @@
 use Rattle.std.proofs.Common.{ℕ, ◌≤◌, Bool, List, [], length, refl, lt_of_not-le}
 use Rattle.csn_desc.specs.declared.reading.Reading.{Reading}
 use Rattle.csn_desc.specs.declared.node.Node.{Node}
-use Rattle.csn_desc.specs.Formed.{Formed, PartsFormed, formed, formed_end, formed_next, Spans, PartsSpan, spans, span_end, span_next, IsDescription}
+use Rattle.csn_desc.specs.Formed.{Formed, PartsFormed, formed, formed_end, formed_next, IsDescription}
 use Rattle.csn_desc.specs.Overfull.{part_here, Sees, sees_none, sees_parts, IsOverfull, IsFirstOverfull}
-use Rattle.csn_desc.specs.Standing.{Laid, PartsLaid, laid, laid_end, laid_next}
+use Rattle.csn_desc.specs.Laid.{Laid, PartsLaid, laid, laid_end, laid_next}
 use Rattle.csn_desc.specs.Crowds.{Below, below_here, below_part, Crowded, Counting, NoneCrowded, FirstCrowded, BelowPart}
+use Rattle.csn_desc.proofs.WellFormed.{laid_spans}
 use Rattle.csn_desc.proofs.CrowdFacts.{below_join, later_sees}
 
 module _ (nodes : List Node) where
-  mutual
-    laid_spans : {seen : List ℕ} {round i end : ℕ} → Laid nodes seen round i end → Spans nodes i end
-    laid_spans (laid n at deep head has parts) = spans n at (parts_span parts)
-
-    parts_span : {shows : Bool} {seen : List ℕ} {round at end : ℕ} {parts : List ℕ} → PartsLaid nodes shows seen round parts at end → PartsSpan nodes parts at end
-    parts_span (laid_end e) = span_end e
-    parts_span (laid_next middle e h rest) = span_next middle e (laid_spans h) (parts_span rest)
-
   mutual
     laid_formed :
         {seen : List ℕ} {round i end : ℕ} → Laid nodes seen round i end
@@ -59,4 +52,4 @@ module _ (nodes : List Node) where
 
   pub is_description : (r : Reading) → length nodes ≤ 16384 → Laid nodes [] 0 0 (length nodes) → NoneCrowded nodes 0 0 0 → IsDescription (record { reading = r; nodes = nodes })
   is_description r few h none =
-      record { few = few; numbered = laid_spans h; well_formed = laid_formed h (λ k shown b crowded. none [] (root_counting h) k shown b crowded) }
+      record { few = few; numbered = laid_spans nodes h; well_formed = laid_formed h (λ k shown b crowded. none [] (root_counting h) k shown b crowded) }

@@ -12,7 +12,9 @@ use Rattle.csn_desc.specs.Nodes.{head_of}
 use Rattle.csn_desc.specs.Values.{is_labelled, is_named}
 use Rattle.csn_desc.specs.Formed.{width_of, labelled_part, value_width, IsCount, IsHead, shows_earlier, with_seen}
 use Rattle.csn_desc.specs.Building.{with_part}
-use Rattle.csn_desc.specs.Standing.{Laid, PartsLaid, laid, laid_end, laid_next, seen_behind, IsPartAfter, Chain, chain_out, chain_in}
+use Rattle.csn_desc.specs.Laid.{Laid, PartsLaid, laid, laid_end, laid_next, seen_behind}
+use Rattle.csn_desc.specs.Standing.{IsPartAfter, Chain, chain_out, chain_in}
+use Rattle.csn_desc.proofs.WellFormed.{laid_behind, parts_behind}
 
 -- a node and what it is later: the same, or with other parts where it may have many
 pub data Grown (n : Node) : Node → Type 0 where
@@ -128,14 +130,6 @@ module _ (nodes others : List Node) where
     laid_node : {seen : List ℕ} {round i end : ℕ} → Laid nodes seen round i end → (n : Node) × (slice_get nodes i ≡ Some n)
     laid_node (laid n at deep head has parts) = (n, at)
 
-    mutual
-      pub laid_behind : {seen : List ℕ} {round i end : ℕ} → Laid nodes seen round i end → i < end
-      laid_behind (laid n at deep head has parts) = omega (arith, parts_behind parts)
-
-      pub parts_behind : {shows : Bool} {seen : List ℕ} {round at end : ℕ} {parts : List ℕ} → PartsLaid nodes shows seen round parts at end → at ≤ end
-      parts_behind (laid_end e) = omega arith
-      parts_behind (laid_next middle e h rest) = omega (arith, laid_behind h, parts_behind rest)
-
     abbrev pub SameFrom : ℕ → ℕ → Type 0
     SameFrom from end = (k : ℕ) → from ≤ k → k < end → slice_get others k ≡ slice_get nodes k
 
@@ -143,7 +137,7 @@ module _ (nodes others : List Node) where
       -- nodes stay laid where they stay the same
       pub laid_kept : {seen : List ℕ} {round i end : ℕ} → SameFrom i end → Laid nodes seen round i end → Laid others seen round i end
       laid_kept {seen = seen} {i = i} same (laid n at deep head has parts) =
-          let here : slice_get others i ≡ Some n = same i (omega arith) (omega (arith, parts_behind parts)) ∙ at in
+          let here : slice_get others i ≡ Some n = same i (omega arith) (omega (arith, parts_behind nodes parts)) ∙ at in
           laid n here deep (head_kept seen (head_of n) head) has (parts_kept (λ k a b. same k (omega arith) b) parts)
 
       pub parts_kept : {shows : Bool} {seen : List ℕ} {round at end : ℕ} {parts : List ℕ} → SameFrom at end → PartsLaid nodes shows seen round parts at end → PartsLaid others shows seen round parts at end
@@ -152,8 +146,8 @@ module _ (nodes others : List Node) where
           let node = laid_node h in
           let P : List ℕ → Type 0 = λ s. PartsLaid others shows s round parts middle end in
           let later : PartsLaid others shows (with_seen nodes shows i seen) round parts middle end =
-          parts_kept (λ k a b. same k (omega (arith, laid_behind h)) b) rest in
-          laid_next middle e (laid_kept (λ k a b. same k (omega arith) (omega (arith, parts_behind rest))) h)
+          parts_kept (λ k a b. same k (omega (arith, laid_behind nodes h)) b) rest in
+          laid_next middle e (laid_kept (λ k a b. same k (omega arith) (omega (arith, parts_behind nodes rest))) h)
           (subst P (sym (seen_kept shows i seen node.0 node.1)) later)
 
     pub behind_kept : {shows : Bool} {seen : List ℕ} {round at end : ℕ} {parts : List ℕ} → PartsLaid nodes shows seen round parts at end → seen_behind others shows parts seen ≡ seen_behind nodes shows parts seen
@@ -164,7 +158,7 @@ module _ (nodes others : List Node) where
 
     -- the innermost node stands before what comes next
     pub innermost_before : {above end : ℕ} {rest parts seen : List ℕ} → Chain nodes (above ∷ rest) end parts seen → above < end
-    innermost_before (chain_in n before round c after at deep head h e) = omega (arith, parts_behind h)
+    innermost_before (chain_in n before round c after at deep head h e) = omega (arith, parts_behind nodes h)
 
     pub after_kept : {end : ℕ} {parts seen : List ℕ} (before rest : List ℕ) (i : ℕ) → Chain nodes rest end parts seen → SameFrom 0 end → IsPartAfter nodes rest before i → IsPartAfter others rest before i
     after_kept before [] i c same h = h
@@ -173,7 +167,7 @@ module _ (nodes others : List Node) where
     pub chain_kept : {around parts seen : List ℕ} {end : ℕ} → SameFrom 0 end → Chain nodes around end parts seen → Chain others around end parts seen
     chain_kept same (chain_out h e) = chain_out (parts_kept same h) e
     chain_kept same (chain_in {i = i} {rest = rest} n before round c after at deep head parts e) =
-        let lower : SameFrom 0 i = λ k a b. same k a (omega (arith, parts_behind parts)) in
+        let lower : SameFrom 0 i = λ k a b. same k a (omega (arith, parts_behind nodes parts)) in
         chain_in n before round (chain_kept lower c) (after_kept before rest i c lower after)
-        (same i (omega arith) (omega (arith, parts_behind parts)) ∙ at) deep (head_kept round (head_of n) head)
+        (same i (omega arith) (omega (arith, parts_behind nodes parts)) ∙ at) deep (head_kept round (head_of n) head)
         (parts_kept (λ k a b. same k (omega arith) b) parts) (e ∙ sym (behind_kept parts))

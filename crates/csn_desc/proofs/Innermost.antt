@@ -9,8 +9,9 @@ use Rattle.csn_desc.specs.declared.node.Head.TheVariants as head
 use Rattle.csn_desc.specs.declared.reading.Reading.{Reading}
 use Rattle.csn_desc.specs.Nodes.{head_of, parts_of}
 use Rattle.csn_desc.specs.Building.{node_of, with_part, set_part, part_begun, Takes, HasItsParts}
-use Rattle.csn_desc.specs.Standing.{PartsLaid, laid_end, laid_next, Chain, chain_in, Stands}
-use Rattle.csn_desc.proofs.Growth.{laid_behind, grown_same}
+use Rattle.csn_desc.specs.Laid.{PartsLaid, laid_end, laid_next}
+use Rattle.csn_desc.specs.Standing.{Chain, chain_in, Stands}
+use Rattle.csn_desc.proofs.WellFormed.{laid_behind}
 use Rattle.csn_desc.proofs.Entering.{get_within, get_before, begun_yes, enters_outside, enters_inside, leaves}
 use Rattle.csn_desc.proofs.Shown.{next_head}
 
@@ -76,7 +77,7 @@ leaves_last nodes items fewer (Some i) e s has =
 
 laid_count : {nodes : List Node} {shows : Bool} {seen : List ℕ} {round at end : ℕ} {parts : List ℕ} → PartsLaid nodes shows seen round parts at end → length parts + at ≤ end
 laid_count (laid_end e) = omega (arith, e)
-laid_count {nodes} (laid_next middle e h rest) = omega (arith, e, laid_count rest, laid_behind nodes nodes (λ k n is. (n, is, grown_same refl)) h)
+laid_count {nodes} (laid_next middle e h rest) = omega (arith, e, laid_count rest, laid_behind nodes h)
 
 entered_few : (h : Head) (next : ℕ) → length (parts_of (node_of h next)) ≤ 1
 entered_few (head.Lits run) next = omega arith

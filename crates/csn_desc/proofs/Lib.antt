@@ -4,6 +4,7 @@ pub mod Prefixes
 pub mod MeantBits
 pub mod Empties
 pub mod Numbering
+pub mod WellFormed
 pub mod WalkFacts
 pub mod OneWalk
 pub mod Nodewise

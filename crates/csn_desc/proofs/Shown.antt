@@ -12,7 +12,8 @@ use Rattle.csn_desc.specs.Nodes.{head_of, parts_of}
 use Rattle.csn_desc.specs.Values.{is_named}
 use Rattle.csn_desc.specs.Formed.{IsCount, IsHead, shows_earlier, with_seen}
 use Rattle.csn_desc.specs.Building.{BuilderV, node_of, has_shown, is_shown, IsNextHead}
-use Rattle.csn_desc.specs.Standing.{seen_behind, IsPartAfter, Chain, chain_out, chain_in, AreParts, Stands}
+use Rattle.csn_desc.specs.Laid.{seen_behind}
+use Rattle.csn_desc.specs.Standing.{IsPartAfter, Chain, chain_out, chain_in, AreParts, Stands}
 use Rattle.csn_desc.proofs.Entering.{begun_yes}
 
 pub and_left : (a b : Bool) → (a && b) ≡ true → a ≡ true

@@ -4,7 +4,7 @@ use Rattle.csn_desc.specs.declared.node.Node.{Node}
 use Rattle.csn_desc.specs.Nodes.{parts_of}
 use Rattle.csn_desc.specs.Formed.{is_counted, shows_earlier}
 use Rattle.csn_desc.specs.Overfull.{PartSees}
-use Rattle.csn_desc.specs.Standing.{Laid, PartsLaid}
+use Rattle.csn_desc.specs.Laid.{Laid, PartsLaid}
 
 module _ (nodes : List Node) where
   -- node k, which is node i or inside it, sees `shown` where node i sees `seen`

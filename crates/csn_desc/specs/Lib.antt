@@ -10,9 +10,11 @@ pub mod Follows
 pub mod Walks
 pub mod Formed
 pub mod Overfull
+pub mod WellFormed
 pub mod Building
 pub mod Marks
 pub mod Heads
+pub mod Laid
 pub mod Standing
 pub mod Crowds
 pub mod Laws

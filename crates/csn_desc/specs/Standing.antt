@@ -1,38 +1,13 @@
--- What holds of the nodes of a description while it is built: those that were left are numbered through and
--- well formed, and so are the heads of those that were not.
-use Rattle.std.specs.Prelude.{◌≡◌, ℕ, suc, ◌<◌, ◌≤◌, ◌⊎◌, Bool, false, List, [], ◌∷◌, ◌++◌, length, slice_get, Some}
+-- What holds of the nodes of a description while it is built: those that were left are laid out behind one
+-- another, and the heads of those that were not are well formed.
+use Rattle.std.specs.Prelude.{◌≡◌, ℕ, suc, ◌<◌, ◌≤◌, ◌⊎◌, false, List, [], ◌∷◌, ◌++◌, length, slice_get, Some}
 use Rattle.csn_desc.specs.declared.node.Node.{Node}
 use Rattle.csn_desc.specs.Nodes.{head_of, parts_of}
 use Rattle.csn_desc.specs.Building.{node_of, begun_parts}
-use Rattle.csn_desc.specs.Formed.{IsHead, HasParts, shows_earlier, with_seen}
+use Rattle.csn_desc.specs.Formed.{IsHead, shows_earlier}
+use Rattle.csn_desc.specs.Laid.{PartsLaid, seen_behind}
 
 module _ (nodes : List Node) where
-  mutual
-    -- node i, which is inside `round` others and sees the labelled parts `seen`, is well formed with all inside
-    -- it, which are the nodes up to `end`
-    pub data Laid : List ℕ → ℕ → ℕ → ℕ → Type 0 where
-      laid :
-          {seen : List ℕ} {round i end : ℕ}
-          (n : Node) → slice_get nodes i ≡ Some n → round < 64 → IsHead nodes seen (head_of n)
-          → HasParts (head_of n) (length (parts_of n))
-          → PartsLaid (shows_earlier n) seen (suc round) (parts_of n) (suc i) end
-          → Laid seen round i end
-
-    pub data PartsLaid : Bool → List ℕ → ℕ → List ℕ → ℕ → ℕ → Type 0 where
-      laid_end :
-          {shows : Bool} {seen : List ℕ} {round at end : ℕ}
-          → end ≡ at → PartsLaid shows seen round [] at end
-      laid_next :
-          {shows : Bool} {seen : List ℕ} {round i at end : ℕ} {parts : List ℕ}
-          (middle : ℕ) → i ≡ at → Laid seen round i middle
-          → PartsLaid shows (with_seen nodes shows i seen) round parts middle end
-          → PartsLaid shows seen round (i ∷ parts) at end
-
-  -- what stands behind these parts sees
-  abbrev pub seen_behind : Bool → List ℕ → List ℕ → List ℕ
-  seen_behind shows [] seen = seen
-  seen_behind shows (i ∷ parts) seen = seen_behind shows parts (with_seen nodes shows i seen)
-
   -- the next node of `around`, which has the number i, is the part after these of the innermost one
   abbrev pub IsPartAfter : List ℕ → List ℕ → ℕ → Type 0
   IsPartAfter [] before i = before ≡ []
@@ -44,13 +19,13 @@ module _ (nodes : List Node) where
   pub data Chain : List ℕ → ℕ → List ℕ → List ℕ → Type 0 where
     chain_out :
         {end : ℕ} {parts seen : List ℕ}
-        → PartsLaid false [] 0 parts 0 end → seen ≡ [] → Chain [] end parts seen
+        → PartsLaid nodes false [] 0 parts 0 end → seen ≡ [] → Chain [] end parts seen
     chain_in :
         {i end : ℕ} {rest parts seen : List ℕ}
         (n : Node) (before round : List ℕ) → Chain rest i before round → IsPartAfter rest before i
         → slice_get nodes i ≡ Some n → length rest < 64 → IsHead nodes round (head_of n)
-        → PartsLaid (shows_earlier n) round (suc (length rest)) parts (suc i) end
-        → seen ≡ seen_behind (shows_earlier n) parts round
+        → PartsLaid nodes (shows_earlier n) round (suc (length rest)) parts (suc i) end
+        → seen ≡ seen_behind nodes (shows_earlier n) parts round
         → Chain (i ∷ rest) end parts seen
 
   -- these are the parts of the innermost node, or of what stands outside of all

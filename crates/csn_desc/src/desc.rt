@@ -1,6 +1,6 @@
-ghost use Rattle.std.specs.Prelude.{◌≡◌, ◌<◌, ◌≤◌, ℕ, [], length, slice_get, IfOk, OnOk};
-ghost use Rattle.csn_desc.specs.Formed.{IsDescription, is_counted, counted_marks};
-ghost use Rattle.csn_desc.specs.Standing.{Laid};
+ghost use Rattle.std.specs.Prelude.{◌≡◌, ◌<◌, ◌≤◌, ℕ, length, slice_get, IfOk, OnOk};
+ghost use Rattle.csn_desc.specs.Formed.{Spans, IsDescription, is_counted, counted_marks};
+ghost use Rattle.csn_desc.specs.WellFormed.{AreWellFormed};
 ghost use Rattle.csn_desc.specs.Overfull.{IsOverfull, IsFirstOverfull};
 
 use crate::builder::DescFault;
@@ -38,14 +38,16 @@ impl Model for Desc {
 }
 
 impl Desc {
-    /// The description that has these nodes, each before its parts. `TooManyVals` comes where a field that
-    /// some count stands on sees 64 such fields, and tells the first; no other limit is asked here.
+    /// The description that has these nodes, which are numbered through and well formed. `TooManyVals` comes
+    /// where a field that some count stands on sees 64 such fields, and tells the first.
     pub fn from_nodes(alloc: Global, reading: Reading, nodes: Vec<Node>) -> Result<Desc, DescFault>
         requires few { length nodes.items ≤ MOST_NODES }
-        requires laid { Laid nodes.items [] 0 0 (length nodes.items) }
+        requires numbered { Spans nodes.items 0 (length nodes.items) }
+        requires well_formed { AreWellFormed nodes.items }
         ensures ok { IfOk result (λ desc. desc ≡ record { reading = reading; nodes = nodes.items }) }
         ensures fits { OnOk result ((i : ℕ) → ¬ IsOverfull nodes.items i) }
         ensures vals { (node : ℕ) → result ≡ Err (DescFault.TooManyVals node) → IsFirstOverfull nodes.items node }
+        ensures there { (node : ℕ) → result ≡ Err (DescFault.TooManyVals node) → node < length nodes.items }
         ensures others { (¬ (result ≡ Err DescFault.TooManyNodes)) × (¬ (result ≡ Err DescFault.TooDeep)) }
     {
         let Ok(counted) = counted_marks(alloc, nodes.as_slice()) else {

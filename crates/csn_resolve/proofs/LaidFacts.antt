@@ -6,7 +6,7 @@ use Rattle.csn_desc.specs.declared.symbol.Symbol.TheVariants.{Zero, Low}
 use Rattle.csn_desc.specs.declared.node.Count.TheVariants.{Fixed}
 use Rattle.csn_desc.specs.declared.node.Node.{Node}
 use Rattle.csn_desc.specs.declared.node.Node.TheVariants.{Lits, Spare, Pad, Null, Field, Rest, Seq, Choice, Times, Many, Trunc, Window, Named}
-use Rattle.csn_desc.specs.Standing.{Laid, PartsLaid, laid_end, laid_next, seen_behind}
+use Rattle.csn_desc.specs.Laid.{Laid, PartsLaid, laid_end, laid_next, seen_behind}
 use Rattle.csn_grammar.specs.declared.rules.Rule.{Rule}
 use Rattle.csn_grammar.specs.ExprV.{ExprV, ExprsV, BranchesV, item_list}
 use Rattle.csn_grammar.specs.RulesV.{RulesV}

@@ -4,10 +4,8 @@ use Rattle.std.specs.Prelude.{IfOk, OnOk}
 use Rattle.csn_desc.specs.declared.reading.Reading.{Reading}
 use Rattle.csn_desc.specs.declared.node.Node.{Node}
 use Rattle.csn_desc.specs.Nodes.{DescV}
-use Rattle.csn_desc.specs.Overfull.{Sees, sees_none, sees_parts, IsOverfull, IsFirstOverfull}
-use Rattle.csn_desc.specs.Standing.{Laid}
-use Rattle.csn_desc.specs.Crowds.{Below, below_here, below_part}
-use Rattle.csn_desc.proofs.CrowdFacts.{below_within}
+use Rattle.csn_desc.specs.Overfull.{IsOverfull, IsFirstOverfull}
+use Rattle.csn_desc.specs.Laid.{Laid}
 use Rattle.csn_grammar.specs.declared.rules.Rule.{Rule}
 use Rattle.csn_grammar.specs.RulesV.{RulesV}
 use Rattle.csn_grammar.specs.Names.{built_in_names, rule_of}
@@ -28,16 +26,7 @@ use Rattle.csn_resolve.proofs.LaidFacts.{laid_nodes}
 use Rattle.csn_resolve.proofs.FewNodes.{few_nodes}
 use Rattle.csn_resolve.proofs.Quiet.{quiet_from, first_of, rest_of}
 
--- ---- the number of a crowded field
-
-module _ (nodes : List Node) where
-  sees_below : {k : ℕ} {shown : List ℕ} → Sees nodes k shown → Below nodes 0 [] k shown
-  sees_below (sees_none e f) = below_here e f
-  sees_below (sees_parts n at s p) = below_part n at (sees_below s) p
-
-  pub crowded_within : {i : ℕ} → Laid nodes [] 0 0 (length nodes) → IsFirstOverfull nodes i → i < length nodes
-  crowded_within {i} well first =
-      let within = below_within nodes well i [] first.overfull.seen (sees_below first.overfull.sees) in within.1
+-- ---- what is refused last
 
 -- what is refused where a field is crowded
 pub crowded_at :

@@ -10,7 +10,7 @@ use Rattle.csn_desc.specs.declared.node.Node.{Node}
 use Rattle.csn_desc.specs.declared.node.Node.TheVariants.{Named}
 use Rattle.csn_desc.specs.Values.{is_labelled, is_named}
 use Rattle.csn_desc.specs.Formed.{IsCount, width_of, labelled_part, value_width, with_seen}
-use Rattle.csn_desc.specs.Standing.{seen_behind}
+use Rattle.csn_desc.specs.Laid.{seen_behind}
 use Rattle.csn_grammar.specs.declared.exponent.Exponent.{Exponent}
 use Rattle.csn_grammar.specs.declared.exponent.Exponent.TheVariants.{Number, Linear}
 use Rattle.csn_grammar.specs.ExprV.{ExprV}

@@ -1,6 +1,7 @@
 ghost use Rattle.std.specs.Prelude.{◌≡◌, ◌<◌, ◌≤◌, ◌+◌, ℕ, List, [], ◌∷◌, ◌++◌, length, slice_get, Some, Err, IfOk, OnOk};
 ghost use Rattle.csn_desc.specs.Overfull.{IsOverfull, IsFirstOverfull};
-ghost use Rattle.csn_desc.specs.Standing.{Laid};
+ghost use Rattle.csn_desc.specs.Formed.{Spans};
+ghost use Rattle.csn_desc.specs.WellFormed.{AreWellFormed};
 ghost use Rattle.csn_resolve.specs.declared.why.Why.{Why as WhyV};
 ghost use Rattle.csn_resolve.specs.Gives.{Placed, placed};
 ghost use Rattle.csn_resolve.specs.Resolved.{nodes_of};
@@ -79,7 +80,8 @@ impl Made {
     /// The description that has these nodes, which are numbered through and well formed. A field that some
     /// count stands on and that sees 64 such fields is refused at its place.
     pub(crate) fn describe(self, alloc: Global, reading: Reading) -> Result<Desc, ResolveFault>
-        requires { Laid (nodes_of self) [] 0 0 (length (nodes_of self)) }
+        requires numbered { Spans (nodes_of self) 0 (length (nodes_of self)) }
+        requires well_formed { AreWellFormed (nodes_of self) }
         ensures described { IfOk result (λ desc. desc ≡ record { reading = reading; nodes = nodes_of self }) }
         ensures fits { OnOk result ((i : ℕ) → ¬ IsOverfull (nodes_of self) i) }
         ensures refused { (why : WhyV) (place : ℕ) → result ≡ Err (ResolveFault.Refused why place) → IsOverfullAt self why place }

@@ -1,5 +1,6 @@
 use Rattle.std.proofs.Common.{◌≡◌, ℕ, List, [], length, Some, sym, ◌∙◌, subst}
 use Rattle.std.proofs.lemmas.Result.{err_from_is_err_and}
+use Rattle.csn_desc.proofs.WellFormed.{laid_spans, well_formed}
 use Rattle.csn_grammar.specs.Names.{rule_of}
 use Rattle.csn_resolve.specs.Seen.{Seen}
 use Rattle.csn_resolve.specs.Gives.{Placed}
@@ -25,13 +26,21 @@ build_rule-requires-clause-gives c =
     let Q : Seen ℕ → Type 0 = λ z. RuleGivesFew c.args.names.now c.args.reading c.rule.result.now (length c.new-made.result) z in
     subst Q (sym (shown-Nothing c.args.reading)) (subst P (sym c.new-made.ensures) (rule_few c.args.names.now c.args.reading c.args.name.now found c.in_ok-number.ensures.accepted))
 
-pub describe-requires : goal.describe-requires
-describe-requires c =
+pub describe-requires-clause-numbered : goal.describe-requires-clause-numbered
+describe-requires-clause-numbered c =
     let found : rule_of c.args.names.now c.args.name.now ≡ Some c.rule.result.now = c.in_ok-number.ensures.rule ∙ c.rule.ensures in
     let P : Seen ℕ → Type 0 = λ z. AddsRule c.args.names.now c.args.reading c.rule.result.now z c.new-made.result c.build_rule.new.made in
     let Q : List Placed → Type 0 = λ z. AddsRule c.args.names.now c.args.reading c.rule.result.now [] z c.build_rule.new.made in
     let adds : AddsRule c.args.names.now c.args.reading c.rule.result.now [] [] c.build_rule.new.made = subst Q c.new-made.ensures (subst P (shown-Nothing c.args.reading) c.in_ok-build_rule.ensures) in
-    made_laid c.args.names.now c.args.reading c.args.name.now c.requires.shaped found c.in_ok-number.ensures.accepted adds
+    laid_spans _ (made_laid c.args.names.now c.args.reading c.args.name.now c.requires.shaped found c.in_ok-number.ensures.accepted adds)
+
+pub describe-requires-clause-well_formed : goal.describe-requires-clause-well_formed
+describe-requires-clause-well_formed c =
+    let found : rule_of c.args.names.now c.args.name.now ≡ Some c.rule.result.now = c.in_ok-number.ensures.rule ∙ c.rule.ensures in
+    let P : Seen ℕ → Type 0 = λ z. AddsRule c.args.names.now c.args.reading c.rule.result.now z c.new-made.result c.build_rule.new.made in
+    let Q : List Placed → Type 0 = λ z. AddsRule c.args.names.now c.args.reading c.rule.result.now [] z c.build_rule.new.made in
+    let adds : AddsRule c.args.names.now c.args.reading c.rule.result.now [] [] c.build_rule.new.made = subst Q c.new-made.ensures (subst P (shown-Nothing c.args.reading) c.in_ok-build_rule.ensures) in
+    well_formed _ (made_laid c.args.names.now c.args.reading c.args.name.now c.requires.shaped found c.in_ok-number.ensures.accepted adds)
 
 pub returns-clause-resolved : goal.returns-clause-resolved
 returns-clause-resolved c =

@@ -1,7 +1,8 @@
 -- A new builder has no nodes.
 use Rattle.std.proofs.Common.{ℕ, List, [], refl, sym, subst, reverse, lit≤, inl}
 use Rattle.csn_desc.specs.declared.node.Node.{Node}
-use Rattle.csn_desc.specs.Standing.{Stands, laid_end, chain_out}
+use Rattle.csn_desc.specs.Laid.{laid_end}
+use Rattle.csn_desc.specs.Standing.{Stands, chain_out}
 use Rattle.csn_desc.proofs.builder.DescBuilder.new.Goals as goal
 
 none_stand : Stands [] []
