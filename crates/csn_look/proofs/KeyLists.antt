@@ -1,47 +1,15 @@
 -- The list of the keys of a set.
-use Rattle.std.proofs.Common.{◌≡◌, ℕ, zero, suc, ◌+◌, ◌-◌, ◌*◌, ◌/◌, ◌%◌, ◌^◌, ◌<◌, ◌≤◌, Bool, true, false, Result, Ok, Err, IfOk, List, [], ◌∷◌, ◌++◌, length, get_or, IsTrue, ◌⊎◌, refl, sym, ap, ◌∙◌, subst, arith, inl, inr, append_assoc, append-nil, length-append}
+use Rattle.std.proofs.Common.{◌≡◌, ℕ, zero, suc, ◌+◌, ◌-◌, ◌*◌, ◌^◌, ◌<◌, ◌≤◌, Bool, true, false, Result, Ok, Err, IfOk, List, [], ◌∷◌, ◌++◌, length, IsTrue, ◌⊎◌, refl, sym, ap, ◌∙◌, subst, arith, inl, inr, append_assoc, append-nil, length-append}
 use Rattle.std.specs.List.{Contains}
 use Rattle.std.proofs.Math.Nat.{pow-suc, pow-le-pow_right}
-use Rattle.std.proofs.lemmas.Nat.{div-mul-add}
 use Rattle.std.proofs.lemmas.List.Elements.{Contains-append_left, Contains-append_right, Contains-append_cases}
 use Rattle.csn_bits.specs.Octets.{IsBits}
 use Rattle.csn_bits.proofs.Packing.{IsBits-append}
-use Rattle.csn_desc.specs.Values.{number_of}
-use Rattle.csn_desc.proofs.NumberFacts.{number_of-lt}
 use Rattle.csn_look.specs.declared.word.Key.{Key}
 use Rattle.csn_look.specs.KeyMarks.{IsWord, is_marked, place_of, has_key}
 use Rattle.csn_look.specs.KeyTables.{IsKeyTable, IsFront}
 use Rattle.csn_look.specs.KeyLists.{IsBefore, cut_first, shorter, lower, IsBeforeAll, IsRising, IsKeyList, keys_if, own_keys, keys_from}
-use Rattle.csn_look.proofs.Places.{place_of-append, place_of-push}
-use Rattle.csn_look.proofs.Products.{bits_back, split_at}
-
--- ---- the bits of a word by its place
-
-get_at : (front : List ℕ) (x : ℕ) (back : List ℕ) → get_or (front ++ x ∷ back) (length front) 0 ≡ x
-get_at [] x back = refl
-get_at (y ∷ front) x back = get_at front x back
-
-pub bit_of_place :
-    (word : List ℕ) (place size at behind : ℕ) → IsWord word → place_of word ≡ place → length word ≡ size → at < size
-    → behind ≡ 2 ^ (size - 1 - at) → place / behind % 2 ≡ get_or word at 0
-bit_of_place word place size at behind is here many within power =
-    let s = split_at at word (omega arith) in
-    bit s.front s.next s.back s.parts s.many
-  where
-    bit : (front : List ℕ) (x : ℕ) (back : List ℕ) → word ≡ front ++ x ∷ back → length front ≡ at → place / behind % 2 ≡ get_or word at 0
-    bit front x back parts front_many =
-        let bits : IsBits (front ++ x ∷ back) = let P : List ℕ → Type 0 = IsBits in subst P parts is.bits in
-        let both : IsBits (x ∷ back) = bits_back front (x ∷ back) bits in
-        let low : x ≤ 1 = both.0 in
-        let left : length back ≡ size - 1 - at = let e = ap length parts in omega (arith, e, length-append front (x ∷ back)) in
-        let split : place ≡ (2 * place_of front + x) * 2 ^ length back + number_of back =
-        sym here ∙ ap place_of parts ∙ ap place_of (sym (append_assoc front (x ∷ []) back)) ∙ place_of-append (front ++ x ∷ []) back
-        ∙ ap (λ p. p * 2 ^ length back + number_of back) (place_of-push front x) in
-        let half : place / behind ≡ 2 * place_of front + x =
-        ap (λ p. p / behind) split ∙ ap (λ b. ((2 * place_of front + x) * 2 ^ length back + number_of back) / b) (power ∙ ap (λ n. 2 ^ n) (sym left))
-        ∙ div-mul-add (2 * place_of front + x) (2 ^ length back) (number_of back) (number_of-lt back both.1) in
-        let odd : (2 * place_of front + x) % 2 ≡ x = omega arith in
-        ap (λ n. n % 2) half ∙ odd ∙ sym (get_at front x back) ∙ ap (λ n. get_or (front ++ x ∷ back) n 0) front_many ∙ ap (λ l. get_or l at 0) (sym parts)
+use Rattle.csn_look.proofs.Products.{bits_back}
 
 -- ---- places that are small enough
 

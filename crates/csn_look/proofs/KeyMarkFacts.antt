@@ -5,7 +5,7 @@ use Rattle.std.proofs.lemmas.Bool.{eqb-true}
 use Rattle.std.proofs.lemmas.Bool.Decides.{eqb_tells, nat_tests}
 use Rattle.csn_bits.specs.Octets.{IsBits}
 use Rattle.csn_desc.proofs.BitFacts.{IsBits-front}
-use Rattle.csn_look.specs.KeyMarks.{IsWord, is_marked, place_of, key_mark, has_key, Adds, BeginsWithKey, StartsKey}
+use Rattle.csn_look.specs.KeyMarks.{IsWord, is_marked, place_of, key_mark, has_key, Adds, BeginsWithKey, StartsKey, IsKeyOf}
 use Rattle.csn_look.specs.KeyTables.{IsKeyTable, IsFront, AddsKey}
 use Rattle.csn_look.proofs.Places.{place_of-half, place_of-small, place_of-same, place_of-one, LastBit, no_bits, last_bit, last_of, fronts, word_front}
 
@@ -437,3 +437,18 @@ searched_last marks word at told is one e s = (
 -- what is written back through a borrow of all numbers
 pub written_back : (items new : List ℕ) (n : ℕ) → n ≡ length items → length new ≡ length items → take n (new ++ drop (length new) items) ≡ new
 written_back items new n all same = take-append-le n new (drop (length new) items) (omega arith) ∙ take_all n new (omega arith)
+
+-- ---- one very word
+
+pub key_told : (marks word : List ℕ) (at : ℕ) → place_of word ≡ at → IsTrue (is_marked marks at || is_marked marks (8192 + at)) ↔ IsKeyOf marks word
+key_told marks word at here = (
+  (λ h. let k = key_here marks word at here h in (k.whole, k.key)),
+  (λ (whole, key). here_key marks word at whole here key),
+)
+
+pub starts_told : (marks word : List ℕ) (at : ℕ) → IsKeyTable marks → IsWord word → place_of word ≡ at → IsTrue (is_marked marks (16384 + at)) ↔ StartsKey marks word
+starts_told marks word at table is here =
+    let same : is_marked marks (16384 + at) ≡ is_marked marks (16384 + place_of word) = ap (λ p. is_marked marks (16384 + p)) (sym here) in (
+      (λ h. (table.starts word is).0 (sym same ∙ h)),
+      (λ h. same ∙ (table.starts word is).1 h),
+    )

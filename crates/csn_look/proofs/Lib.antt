@@ -24,6 +24,7 @@ pub mod MarkFacts
 pub mod KeyMarkFacts
 pub mod Extensions
 pub mod Products
+pub mod Words
 pub mod KeyLists
 pub mod KeyWords
 pub mod NodeKeys

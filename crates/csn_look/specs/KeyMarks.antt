@@ -7,6 +7,8 @@ use Rattle.csn_bits.specs.Octets.{IsBits}
 use Rattle.csn_desc.specs.Values.{number_of}
 use Rattle.csn_look.specs.declared.key_table.Begins.{Begins}
 use Rattle.csn_look.specs.declared.key_table.Begins.TheVariants as answer
+use Rattle.csn_look.specs.declared.key_table.Stands.{Stands}
+use Rattle.csn_look.specs.declared.key_table.Stands.TheVariants as stand
 
 -- a word that may be a key: at most 12 bits
 pub record IsWord (word : List ℕ) : Type 0 where
@@ -61,3 +63,13 @@ abbrev pub IsBeginning : Begins → List ℕ → List ℕ → Type 0
 IsBeginning answer.Key marks held = BeginsWithKey marks held
 IsBeginning answer.Proper marks held = (¬ BeginsWithKey marks held) × StartsKey marks held
 IsBeginning answer.Neither marks held = (¬ BeginsWithKey marks held) × (¬ StartsKey marks held)
+
+-- the very word is a key of the set, whole or cut
+abbrev pub IsKeyOf : List ℕ → List ℕ → Type 0
+IsKeyOf marks word = (whole : Bool) × IsTrue (has_key marks word whole)
+
+-- what is told of one very word: that it is a key, or else that it is a prefix of one, or else neither
+abbrev pub IsStanding : Stands → List ℕ → List ℕ → Type 0
+IsStanding stand.Key marks word = IsKeyOf marks word
+IsStanding stand.Starts marks word = (¬ IsKeyOf marks word) × StartsKey marks word
+IsStanding stand.Neither marks word = (¬ IsKeyOf marks word) × (¬ StartsKey marks word)

@@ -1,5 +1,6 @@
 pub mod SignsV
 pub mod Signs
+pub mod WordV
 pub mod Marks
 pub mod Nullable
 pub mod Ends

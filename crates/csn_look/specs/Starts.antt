@@ -81,3 +81,8 @@ module _ (d : DescV) where
   abbrev pub InFirst : (follow : ℕ → Option ℕ → Type 0) → ℕ → ℕ → Option ℕ → Type 0
   InFirst follow i o None = Nullable d i × follow o None
   InFirst follow i o (Some bit) = InStart i o bit ⊎ (Nullable d i × follow o (Some bit))
+
+  -- what stands next may begin node i: a bit that it may begin with, and never the end
+  abbrev pub StartsSign : ℕ → ℕ → Option ℕ → Type 0
+  StartsSign i o None = ⊥
+  StartsSign i o (Some bit) = InStart i o bit

@@ -22,7 +22,7 @@ pub(crate) fn key_mark(place: usize, whole: bool) -> usize
 }
 
 /// Whether the word with this place is a key, whole or cut.
-fn is_key(marks: &[u64], place: usize) -> bool
+pub(crate) fn is_key(marks: &[u64], place: usize) -> bool
     requires size { length marks.now ≡ 384 }
     requires small { place < 8192 }
     ensures { result ≡ (is_marked marks.now place || is_marked marks.now (CUT + place)) }

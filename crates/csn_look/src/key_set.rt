@@ -3,7 +3,6 @@ ghost use Rattle.csn_look.specs.KeyMarks.{IsWord, place_of, has_key};
 ghost use Rattle.csn_look.specs.KeyLists.{keys_if, keys_from};
 
 use crate::key_marks::{STARTS, key_mark};
-use crate::key_products::words_of;
 use crate::marks::is_marked;
 use crate::word::{Key, Word};
 use csn_bits::NoMemory;
@@ -45,34 +44,15 @@ impl KeySet {
     }
 }
 
-/// The word with this place, which has so many bits.
-fn word_at(place: usize, size: usize) -> Word
-    requires { size ≤ 12 }
-    ensures { (word : List ℕ) → IsWord word → place_of word ≡ place → length word ≡ size → result ≡ word }
-{
-    let mut word = Word::new();
-    for at in 0..size {
-        let behind = words_of(size - 1 - at);
-        word.push((place / behind % 2) as u8);
-    }
-    word
-}
-
-/// Lists the word with this place, which has so many bits, where it is a key with this mark.
-fn list_key(
-    marks: &[u64],
-    place: usize,
-    size: usize,
-    whole: bool,
-    keys: &mut Vec<Key>,
-) -> Result<(), NoMemory>
+/// Lists the word with this place, where it is a key with this mark.
+fn list_key(marks: &[u64], place: usize, whole: bool, keys: &mut Vec<Key>) -> Result<(), NoMemory>
     requires marks { length marks.now ≡ 384 }
-    requires few { size ≤ 12 }
+    requires some { 0 < place }
     requires small { place < 8192 }
-    ensures { (word : List ℕ) → IsWord word → place_of word ≡ place → length word ≡ size → IfOk result (λ done. keys.new.items ≡ keys.old.items ++ keys_if (has_key marks.now word whole) (record { word = word; whole = whole } ∷ [])) }
+    ensures { (word : List ℕ) → IsWord word → place_of word ≡ place → IfOk result (λ done. keys.new.items ≡ keys.old.items ++ keys_if (has_key marks.now word whole) (record { word = word; whole = whole } ∷ [])) }
 {
     if is_marked(marks, key_mark(place, whole)) {
-        let word = word_at(place, size);
+        let word = Word::with_place(place);
         return Ok(keys.push(Key { word, whole })?);
     }
     Ok(())
@@ -87,11 +67,12 @@ pub(crate) fn list_keys(
 ) -> Result<(), NoMemory>
     requires marks { length marks.now ≡ 384 }
     requires few { size ≤ 12 }
+    requires some { 0 < place }
     requires small { place < 2 ^ (size + 1) }
     ensures { (word : List ℕ) → IsWord word → place_of word ≡ place → length word ≡ size → IfOk result (λ done. keys.new.items ≡ keys.old.items ++ keys_from marks.now (12 - size) word) }
 {
-    list_key(marks, place, size, false, keys)?;
-    list_key(marks, place, size, true, keys)?;
+    list_key(marks, place, false, keys)?;
+    list_key(marks, place, true, keys)?;
     if size == 12 {
         return Ok(());
     }

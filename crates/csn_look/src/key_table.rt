@@ -1,10 +1,10 @@
 ghost use Rattle.std.specs.Prelude.{◌≡◌, ℕ, ◌<◌, ◌≤◌, ◌%◌, [], length, IsTrue, IfOk, slice_index, slice_index_or};
-ghost use Rattle.csn_look.specs.KeyMarks.{has_key, KeysAre, Adds, IsBeginning};
+ghost use Rattle.csn_look.specs.KeyMarks.{has_key, KeysAre, Adds, IsBeginning, IsStanding};
 ghost use Rattle.csn_look.specs.KeyLists.{IsKeyList};
 ghost use Rattle.csn_look.specs.KeyProducts.{AfterKeys};
 ghost use Rattle.csn_look.specs.KeySteps.{Extends};
 
-use crate::key_marks::{STARTS, add_key, begins_with_key, key_mark};
+use crate::key_marks::{STARTS, add_key, begins_with_key, is_key, key_mark};
 use crate::key_products::{add_after_size, add_words, words_of};
 use crate::key_set::{KeySet, list_keys};
 use crate::marks::{is_marked, join_marks};
@@ -20,6 +20,17 @@ pub enum Begins {
     Key,
     /// No key is a prefix of them, and they are a prefix of a key.
     Proper,
+    /// Neither.
+    Neither,
+}
+
+/// How one very word stands in a set of keys.
+#[derive(Clone, Copy, Debug, PartialEq, Eq)]
+pub enum Stands {
+    /// It is a key, whole or cut.
+    Key,
+    /// It is no key, and a prefix of one.
+    Starts,
     /// Neither.
     Neither,
 }
@@ -69,6 +80,21 @@ impl KeyTable {
             Begins::Proper
         } else {
             Begins::Neither
+        }
+    }
+
+    /// How one very word stands in the set; its own prefixes are not asked for. Going on by a bit from the empty
+    /// word, and only from words that start keys, meets each key that no other one begins.
+    pub fn stands(&self, word: &Word) -> Stands
+        ensures { IsStanding result self.now word.now }
+    {
+        let place = word.place();
+        if is_key(&self.marks, place) {
+            Stands::Key
+        } else if is_marked(&self.marks, STARTS + place) {
+            Stands::Starts
+        } else {
+            Stands::Neither
         }
     }
 

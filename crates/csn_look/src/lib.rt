@@ -26,10 +26,10 @@ mod word;
 
 pub use follow::Follow;
 pub use key_set::KeySet;
-pub use key_table::{Begins, KeyTable};
+pub use key_table::{Begins, KeyTable, Stands};
 pub use key_tables::KeyTables;
 pub use look::Look;
 pub use octet_set::OctetSet;
 pub use reach::Reach;
 pub use symbol_set::{Sign, SymbolSet};
-pub use word::{Key, MOST_WORD, Word};
+pub use word::{Key, MOST_WORD, PLACES, Word};

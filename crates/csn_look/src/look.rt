@@ -2,7 +2,8 @@ ghost use Rattle.std.specs.Prelude.{◌≡◌, ◌<◌, ◌≤◌, ◌↔◌, le
 ghost use Rattle.csn_desc.specs.Nodes.{DescV};
 ghost use Rattle.csn_look.specs.Nullable.{Nullable};
 ghost use Rattle.csn_look.specs.Ends.{InEnds};
-ghost use Rattle.csn_look.specs.Starts.{InFirst};
+ghost use Rattle.csn_look.specs.Starts.{InFirst, StartsSign};
+ghost use Rattle.csn_look.specs.Signs.{bit_of_sign};
 ghost use Rattle.csn_look.specs.Keys.{IsFirm, InKeys};
 ghost use Rattle.csn_look.specs.Told.{OctetsAre, SignsAre, FollowHas};
 ghost use Rattle.csn_look.specs.NodeSets.{LengthsAre, IsLookOf};
@@ -89,6 +90,20 @@ impl Look {
         self.of(node).lengths.turned(octet)
     }
 
+    /// Whether a node may begin with this sign at an octet position, which is from 0 to 7.
+    pub fn starts(&self, node: u16, octet: u8, sign: Sign) -> bool
+        requires node { node < length self.now.sets }
+        requires octet { octet ≤ 7 }
+        ensures { (d : DescV) → IsLookOf d self.now.sets → IsTrue result ↔ StartsSign d node octet (bit_of_sign sign) }
+    {
+        let sets = self.of(node);
+        match sign {
+            Sign::Zero => sets.zero.has(octet),
+            Sign::One => sets.one.has(octet),
+            Sign::End => false,
+        }
+    }
+
     /// What may stand first at an octet position, from 0 to 7, at which a node is reached, where `follow`
     /// says what may stand after it.
     pub fn first(&self, node: u16, octet: u8, follow: &Follow) -> SymbolSet
@@ -112,6 +127,17 @@ impl Look {
     {
         let row = self.rows[node as usize];
         self.tables.get(row[octet as usize])
+    }
+
+    /// Whether one table has the keys of a node at two octet positions, which are from 0 to 7.
+    pub fn same_keys(&self, node: u16, octet: u8, other: u8) -> bool
+        requires node { node < length self.now.rows }
+        requires octet { octet ≤ 7 }
+        requires other { other ≤ 7 }
+        ensures { IsTrue result → table_at self.now node octet ≡ table_at self.now node other }
+    {
+        let row = self.rows[node as usize];
+        row[octet as usize] == row[other as usize]
     }
 
     /// The keys of a node at an octet position, which is from 0 to 7, in a list.

@@ -1,4 +1,5 @@
-ghost use Rattle.std.specs.Prelude.{◌≡◌, ℕ, ◌<◌, ◌≤◌, length, slice_get, slice_set, [], Some, IfOk};
+ghost use Rattle.std.specs.Prelude.{◌≡◌, ℕ, ◌<◌, ◌≤◌, ◌↔◌, length, slice_get, slice_set, [], Some, IsTrue, IfOk};
+ghost use Rattle.csn_look.specs.Signs.{bit_of_sign};
 ghost use Rattle.csn_desc.specs.Nodes.{DescV, parts_of};
 ghost use Rattle.csn_look.specs.Ends.{PartsEnd};
 ghost use Rattle.csn_look.specs.Told.{OctetsAre};
@@ -12,6 +13,7 @@ use crate::follow::Follow;
 use crate::following::{Following, follow_table, signs_of};
 use crate::look::Look;
 use crate::octet_set::OctetSet;
+use crate::symbol_set::Sign;
 use csn_bits::NoMemory;
 use csn_desc::{Count, Desc, Node, Parts};
 use std::alloc::Global;
@@ -62,6 +64,20 @@ impl Reach {
         ensures { (d : DescV) → IsFollowOf d self.now.follow → IsFollow result (InFollow d node) }
     {
         signs_of(&self.follow[node as usize])
+    }
+
+    /// Whether this sign may stand after a node that ends at an octet position, which is from 0 to 7.
+    pub fn may_follow(&self, node: u16, octet: u8, sign: Sign) -> bool
+        requires node { node < length self.now.follow }
+        requires octet { octet ≤ 7 }
+        ensures { (d : DescV) → IsFollowOf d self.now.follow → IsTrue result ↔ InFollow d node octet (bit_of_sign sign) }
+    {
+        let following = self.follow[node as usize];
+        match sign {
+            Sign::Zero => following.zero.has(octet),
+            Sign::One => following.one.has(octet),
+            Sign::End => following.end.has(octet),
+        }
     }
 }
 

@@ -1,30 +1,35 @@
-ghost use Rattle.std.specs.Prelude.{◌≡◌, ◌<◌, ◌≤◌, [], ◌∷◌, ◌++◌, length, slice_index};
+ghost use Rattle.std.specs.Prelude.{◌≡◌, ◌<◌, ◌≤◌, ℕ, List, [], ◌∷◌, ◌++◌, length, slice_index};
 ghost use Rattle.csn_bits.specs.Octets.{IsBits};
 ghost use Rattle.csn_look.specs.KeyMarks.{IsWord, place_of};
 
-use arrayvec::ArrayVec;
 use std::marker::Model;
 
 /// The most bits that are looked at ahead.
 pub const MOST_WORD: usize = 12;
 
-/// A word of at most 12 bits. A contract sees the list of them.
-#[derive(Debug, Drop, PartialEq, Eq)]
+/// How many places of words there are: the words of at most 12 bits have those from 1 on.
+pub const PLACES: usize = 8192;
+
+/// A word of at most 12 bits: the number that a 1 and then its bits write. A contract sees the list of its bits.
+#[derive(Clone, Copy, Debug, PartialEq, Eq)]
 pub struct Word {
-    bits: ArrayVec<u8, MOST_WORD>,
+    place: u16,
 }
 
 impl Model for Word {
-    ghost use Rattle.std.specs.Prelude.{List, ℕ, ◌≤◌, length};
-    ghost use Rattle.csn_bits.specs.Octets.{IsBits};
+    ghost use Rattle.std.specs.Prelude.{List, ℕ, ◌<◌};
+    ghost use Rattle.std.proofs.Common.{ap};
+    ghost use Rattle.csn_look.specs.WordV.{word_of, write_on, word_of-written};
 
     ghost Value = { List ℕ };
 
-    ghost view = { λ w. w.bits.items };
+    ghost view = { λ w. word_of w.place };
 
-    ghost invariant = { λ w. IsBits w.bits.items × (length w.bits.items ≤ 12) };
+    ghost invariant = { λ w. (0 < w.place) × (w.place < 8192) };
 
-    ghost inverse = { λ bits. record { bits = record { items = bits } } };
+    ghost inverse = { λ bits. record { place = write_on 1 bits } };
+
+    ghost inverse_ok = { λ w h. ap (λ p. record { place = p }) (word_of-written w.place h.0 h.1) };
 }
 
 impl Word {
@@ -32,8 +37,17 @@ impl Word {
     pub fn new() -> Word
         ensures { result ≡ [] }
     {
+        Word { place: 1 }
+    }
+
+    /// The word with this place.
+    pub(crate) fn with_place(place: usize) -> Word
+        requires some { 0 < place }
+        requires small { place < PLACES }
+        ensures { (word : List ℕ) → IsWord word → place_of word ≡ place → result ≡ word }
+    {
         Word {
-            bits: ArrayVec::new(),
+            place: place as u16,
         }
     }
 
@@ -43,7 +57,7 @@ impl Word {
         requires room { length self.old < MOST_WORD }
         ensures { self.new ≡ self.old ++ bit ∷ [] }
     {
-        self.bits.push(bit);
+        self.place = 2 * self.place + bit as u16;
     }
 
     /// How many bits there are.
@@ -52,7 +66,7 @@ impl Word {
         ensures within { result ≤ MOST_WORD }
         ensures bits { IsBits self.now }
     {
-        self.bits.len() as u8
+        (15 - self.place.leading_zeros()) as u8
     }
 
     /// The bit at a place, counted from 0.
@@ -61,37 +75,30 @@ impl Word {
         ensures value { result ≡ slice_index self.now at }
         ensures bit { result ≤ 1 }
     {
-        self.bits[at as usize]
+        let behind = self.len() - 1 - at;
+        ((self.place >> behind) % 2) as u8
     }
 
     /// The same word once more.
     pub fn copy(&self) -> Word
         ensures { result ≡ self.now }
     {
-        let mut word = Word::new();
-        for at in 0..self.len() {
-            word.push(self.get(at));
-        }
-        word
+        *self
     }
 
     /// The place of the word among all words: the number that a 1 and then its bits write.
-    pub(crate) fn place(&self) -> usize
+    pub fn place(&self) -> usize
         ensures value { result ≡ place_of self.now }
         ensures some { 0 < result }
-        ensures small { result < 8192 }
+        ensures small { result < PLACES }
         ensures word { IsWord self.now }
     {
-        let mut place = 1;
-        for at in 0..self.len() {
-            place = 2 * place + self.get(at) as usize;
-        }
-        place
+        self.place as usize
     }
 }
 
 /// What a part begins with: all of a string of it, or the first bits of some, which are cut.
-#[derive(Debug, Drop, PartialEq, Eq)]
+#[derive(Clone, Copy, Debug, PartialEq, Eq)]
 pub struct Key {
     pub word: Word,
     pub whole: bool,

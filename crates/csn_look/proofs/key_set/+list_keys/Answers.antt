@@ -18,7 +18,7 @@ pub returns : goal.returns
 returns t c = λ word is here many.
     listed_none c.args.marks.now word c.args.size c.args.keys.now.items c.list_key.new.keys.items c.list_key-2.new.keys.items (omega arith)
     (ap (λ p. is_marked c.args.marks.now (16384 + p)) here ∙ sym c.is_marked.ensures ∙ c.if-is_marked.false)
-    (c.in_ok-list_key.ensures word is here many) (c.in_ok-list_key-2.ensures word is here many)
+    (c.in_ok-list_key.ensures word is here) (c.in_ok-list_key-2.ensures word is here)
 
 pub returns-then-is_marked : goal.returns-then-is_marked
 returns-then-is_marked t c = λ word is here many.
@@ -32,6 +32,6 @@ returns-then-is_marked t c = λ word is here many.
     (c.list_keys-then-is_marked.new.keys.items ≡ c.list_keys.new.keys.items ++ keys_from c.args.marks.now (12 - (c.args.size + 1)) (word ++ 1 ∷ []))
     (c.list_keys-then-is_marked.new.keys.items ≡ c.args.keys.now.items ++ keys_from c.args.marks.now (12 - c.args.size) word)
     (λ last. listed_more c.args.marks.now word c.args.size c.args.keys.now.items c.list_key.new.keys.items c.list_key-2.new.keys.items c.list_keys.new.keys.items c.list_keys-then-is_marked.new.keys.items
-    small test (c.in_ok-list_key.ensures word is here many) (c.in_ok-list_key-2.ensures word is here many)
+    small test (c.in_ok-list_key.ensures word is here) (c.in_ok-list_key-2.ensures word is here)
     (c.in_ok-list_keys.ensures (word ++ 0 ∷ []) (word_longer word 0 c.args.size (omega arith) many small is) zero_place zero_many) last)
     (c.list_keys-then-is_marked.ensures (word ++ 1 ∷ []) (word_longer word 1 c.args.size (omega arith) many small is) one_place one_many)
