@@ -39,9 +39,8 @@ pub(crate) fn tables_meet(left: &KeyTable, right: &KeyTable, word: &Word) -> boo
 fn longer(word: &Word, bit: u8) -> Word
     requires bit { bit ≤ 1 }
     requires room { length word.now < 12 }
-    ensures { result ≡ word.now ++ bit ∷ [] }
+    ensures value { result ≡ word.now ++ bit ∷ [] }
+    ensures word { IsWord result }
 {
-    let mut longer = word.copy();
-    longer.push(bit);
-    longer
+    word.with(bit)
 }

@@ -1,5 +1,5 @@
 -- The keys of a node are words: bits, at most as many as a key may have.
-use Rattle.std.proofs.Common.{◌≡◌, ℕ, ◌≤◌, Bool, List, [], ◌∷◌, length, sym, subst, arith}
+use Rattle.std.proofs.Common.{◌≡◌, ℕ, ◌≤◌, Bool, List, [], length, sym, subst, arith}
 use Rattle.std.proofs.lemmas.List.{length-take}
 use Rattle.csn_bits.specs.Octets.{IsBits}
 use Rattle.csn_bits.proofs.Packing.{IsBits-append, IsBits-take}

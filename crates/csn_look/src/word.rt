@@ -60,6 +60,18 @@ impl Word {
         self.place = 2 * self.place + bit as u16;
     }
 
+    /// The word and a bit behind it.
+    pub fn with(&self, bit: u8) -> Word
+        requires bit { bit ≤ 1 }
+        requires room { length self.now < MOST_WORD }
+        ensures value { result ≡ self.now ++ bit ∷ [] }
+        ensures word { IsWord result }
+    {
+        Word {
+            place: 2 * self.place + bit as u16,
+        }
+    }
+
     /// How many bits there are.
     pub fn len(&self) -> u8
         ensures count { result ≡ length self.now }

@@ -1,4 +1,4 @@
-use Rattle.std.proofs.Common.{inr}
+use Rattle.std.proofs.Common.{rules, ◌≡◌, ◌+◌, ◌-◌, ◌<◌, [], ◌∷◌, length, length-append, ap, ◌∙◌, arith, inr}
 use Rattle.csn_certify.proofs.SearchFacts.{denied}
 use Rattle.csn_certify.specs.Overlaps.{MeetUnder}
 use Rattle.csn_certify.proofs.TablesMeet.{apart_left, apart_right, by_left_key, by_right_key, no_touch, never, always, met_at_zero, met_at_one}
@@ -34,7 +34,7 @@ returns-then-tables_meet t c =
     let right = c.args.right.now in
     let word = c.args.word.now in
     always (MeetUnder left right word)
-    (met_at_zero left right word c.requires c.in-Proper.ensures.0 c.in-Proper-begins.ensures.0 c.longer.result c.longer.ensures (c.tables_meet.ensures.0 c.if-tables_meet.true))
+    (met_at_zero left right word c.requires c.in-Proper.ensures.0 c.in-Proper-begins.ensures.0 c.longer.result c.longer.ensures.value (c.tables_meet.ensures.0 c.if-tables_meet.true))
 
 pub returns-else-tables_meet : goal.returns-else-tables_meet
 returns-else-tables_meet t c =
@@ -42,4 +42,18 @@ returns-else-tables_meet t c =
     let right = c.args.right.now in
     let word = c.args.word.now in
     met_at_one left right word c.requires c.in-Proper.ensures.0 c.in-Proper-begins.ensures.0 c.tables_meet-in-Proper-begins.result c.longer.result c.longer-in-Proper-begins.result
-    c.longer.ensures c.longer-in-Proper-begins.ensures (denied c.tables_meet.result (MeetUnder left right c.longer.result) c.tables_meet.ensures c.if-tables_meet.false) c.tables_meet-in-Proper-begins.ensures
+    c.longer.ensures.value c.longer-in-Proper-begins.ensures.value (denied c.tables_meet.result (MeetUnder left right c.longer.result) c.tables_meet.ensures c.if-tables_meet.false) c.tables_meet-in-Proper-begins.ensures
+
+pub tables_meet-requires : goal.tables_meet-requires
+tables_meet-requires t c =
+    let size = ap length c.longer.ensures.value ∙ length-append c.args.word.now (0 ∷ []) in
+    let short = c.longer.ensures.word.short in
+    let fewer : 12 - length c.longer.result < 12 - length c.args.word.now = omega arith in
+    (search rules, c.longer.ensures.word)
+
+pub tables_meet-requires-in-Proper-begins : goal.tables_meet-requires-in-Proper-begins
+tables_meet-requires-in-Proper-begins t c =
+    let size = ap length c.longer-in-Proper-begins.ensures.value ∙ length-append c.args.word.now (1 ∷ []) in
+    let short = c.longer-in-Proper-begins.ensures.word.short in
+    let fewer : 12 - length c.longer-in-Proper-begins.result < 12 - length c.args.word.now = omega arith in
+    (search rules, c.longer-in-Proper-begins.ensures.word)
