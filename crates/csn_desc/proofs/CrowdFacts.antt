@@ -15,7 +15,7 @@ use Rattle.csn_desc.proofs.Entering.{get_within}
 module _ (nodes : List Node) where
   -- ---- from a node to its parts
 
-  data First (i : ℕ) (seen : List ℕ) (k : ℕ) (shown : List ℕ) : Type 0 where
+  pub data First (i : ℕ) (seen : List ℕ) (k : ℕ) (shown : List ℕ) : Type 0 where
     first_here : k ≡ i → shown ≡ seen → First i seen k shown
     first_part : (n : Node) → slice_get nodes i ≡ Some n → BelowPart nodes (parts_of n) (shows_earlier n) seen k shown → First i seen k shown
 
@@ -31,7 +31,7 @@ module _ (nodes : List Node) where
   step_more n at sees (first_part m is h) =
       first_part m is (record { part = h.part; round = h.round; sees = h.sees; below = below_part n at h.below sees })
 
-  below_step : {i : ℕ} {seen : List ℕ} {k : ℕ} {shown : List ℕ} → Below nodes i seen k shown → First i seen k shown
+  pub below_step : {i : ℕ} {seen : List ℕ} {k : ℕ} {shown : List ℕ} → Below nodes i seen k shown → First i seen k shown
   below_step (below_here e f) = first_here e f
   below_step (below_part n at h sees) = step_more n at sees (below_step h)
 
@@ -47,11 +47,11 @@ module _ (nodes : List Node) where
 
   -- ---- where they are
 
-  data FirstPart (p : ℕ) (rest : List ℕ) (shows : Bool) (seen : List ℕ) (k : ℕ) (shown : List ℕ) : Type 0 where
+  pub data FirstPart (p : ℕ) (rest : List ℕ) (shows : Bool) (seen : List ℕ) (k : ℕ) (shown : List ℕ) : Type 0 where
     in_first : Below nodes p seen k shown → FirstPart p rest shows seen k shown
     in_rest : BelowPart nodes rest shows (with_seen nodes shows p seen) k shown → FirstPart p rest shows seen k shown
 
-  sees_step :
+  pub sees_step :
       {p part k : ℕ} {rest : List ℕ} {shows : Bool} {seen round shown : List ℕ}
       → PartSees nodes shows seen (p ∷ rest) part round → Below nodes part round k shown → FirstPart p rest shows seen k shown
   sees_step {k = k} {shown = shown} (part_here {round = seen} {j = p} {i = part} {seen = round} e f) h =
@@ -60,7 +60,7 @@ module _ (nodes : List Node) where
       in_first (subst Q f (subst P (sym e) h))
   sees_step {part = part} {round = round} (part_later sees) h = in_rest (record { part = part; round = round; sees = sees; below = h })
 
-  none_sees : {A : Type 0} {shows : Bool} {seen : List ℕ} {k : ℕ} {shown : List ℕ} → BelowPart nodes [] shows seen k shown → A
+  pub none_sees : {A : Type 0} {shows : Bool} {seen : List ℕ} {k : ℕ} {shown : List ℕ} → BelowPart nodes [] shows seen k shown → A
   none_sees h = elim h.sees [ ]
 
   abbrev Within : ℕ → ℕ → ℕ → Type 0

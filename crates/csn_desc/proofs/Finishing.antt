@@ -11,7 +11,7 @@ use Rattle.csn_desc.proofs.CrowdFacts.{below_join, later_sees}
 
 module _ (nodes : List Node) where
   mutual
-    laid_formed :
+    pub laid_formed :
         {seen : List ℕ} {round i end : ℕ} → Laid nodes seen round i end
         → ((k : ℕ) (shown : List ℕ) → Below nodes i seen k shown → Crowded nodes k shown → ⊥) → Formed nodes seen round i
     laid_formed {seen} {round} {i} (laid n at deep head has parts) none =
@@ -28,11 +28,11 @@ module _ (nodes : List Node) where
         (laid_formed h (λ k shown b crowded. none k shown (record { part = i; round = seen; sees = part_here refl refl; below = b }) crowded))
         (parts_formed rest (λ k shown b crowded. none k shown (later_sees nodes b) crowded))
 
-  sees_below : {k : ℕ} {shown : List ℕ} → Sees nodes k shown → Below nodes 0 [] k shown
+  pub sees_below : {k : ℕ} {shown : List ℕ} → Sees nodes k shown → Below nodes 0 [] k shown
   sees_below (sees_none e f) = below_here e f
   sees_below (sees_parts n at s p) = below_part n at (sees_below s) p
 
-  below_sees : {k : ℕ} {shown : List ℕ} → Below nodes 0 [] k shown → Sees nodes k shown
+  pub below_sees : {k : ℕ} {shown : List ℕ} → Below nodes 0 [] k shown → Sees nodes k shown
   below_sees (below_here e f) = sees_none e f
   below_sees (below_part n at s p) = sees_parts n at (below_sees s) p
 
