@@ -16,6 +16,7 @@ pub mod PicksRight
 pub mod Turns
 pub mod Components
 pub mod Waiting
+pub mod MoreHeld
 pub mod BeginsString
 pub mod NoFurther
 pub mod OnePick

@@ -51,6 +51,13 @@ PicksAreOne =
     → Picks d most node octet held ended q
     → p ≡ q
 
+-- what it takes with some held bits, it takes with more
+abbrev pub TakesStay : Type 0
+TakesStay =
+    (d : DescV) (most node octet j : ℕ) (held more : List ℕ) (ended : Bool)
+    → IsDescription d → Certified d most → IsAsked d node octet → Picks d most node octet held false (Take j)
+    → Picks d most node octet (held ++ more) ended (Take j)
+
 -- the tree is of the alternative with this number
 abbrev pub HasAlternative : ℕ → TreeV → Type 0
 HasAlternative j t = (u : TreeV) × (t ≡ alt j u)

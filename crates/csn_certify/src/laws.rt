@@ -1,6 +1,6 @@
 //! Laws over the definitions, each the contract of a function that does nothing.
 
-ghost use Rattle.csn_certify.specs.Laws.{FirstConflictIsOne, CertifiedHasNoConflict, LongerWordsCertify, NoContinuation, BlocksHaveOneTree, PicksAreOne, ChoicesTakeTheOne, ChoicesRefuseNone, RepetitionsGoOn, RepetitionsStop, FollowedTakeTheOne, FollowedRefuseNone, FollowedGoOn, FollowedStop, FollowedTurnsStop, FreeTurnsHaveBits, CountedTurnsHaveBits, NoBitFollowsTheLast, NothingIsBehindTheLast, NoBitFollowsComponents, NoBitFollowsTrees, TruncationsGoOn, FollowedTruncationsGoOn, TruncationsEnd, WaitingIsFollowed, WaitingHoldsFew, WaitingEndsInRefusal, RefusedHasNoEmptyTree, FollowedBeginStrings, FollowedInOneWay};
+ghost use Rattle.csn_certify.specs.Laws.{FirstConflictIsOne, CertifiedHasNoConflict, LongerWordsCertify, NoContinuation, BlocksHaveOneTree, PicksAreOne, TakesStay, ChoicesTakeTheOne, ChoicesRefuseNone, RepetitionsGoOn, RepetitionsStop, FollowedTakeTheOne, FollowedRefuseNone, FollowedGoOn, FollowedStop, FollowedTurnsStop, FreeTurnsHaveBits, CountedTurnsHaveBits, NoBitFollowsTheLast, NothingIsBehindTheLast, NoBitFollowsComponents, NoBitFollowsTrees, TruncationsGoOn, FollowedTruncationsGoOn, TruncationsEnd, WaitingIsFollowed, WaitingHoldsFew, WaitingEndsInRefusal, RefusedHasNoEmptyTree, FollowedBeginStrings, FollowedInOneWay};
 
 /// A description has at most one first conflict, and is not certified where it has one.
 pub fn first_conflict_is_one()
@@ -29,6 +29,15 @@ pub fn blocks_have_one_tree()
 pub fn picks_are_one()
     ensures { PicksAreOne }
 {}
+
+/// What look-ahead takes with some held bits, it takes with more, where the description is certified.
+pub fn takes_stay()
+    ensures { TakesStay }
+{
+    csn_look::laws::keys_are_of_bits();
+    csn_look::laws::firm_nodes_have_bits();
+    csn_look::laws::parts_are_reached();
+}
 
 /// What look-ahead answers is right, where the description is certified: every tree of what lies ahead at a
 /// choice has the alternative that is taken, and there is none where it refuses; every tree at a free
