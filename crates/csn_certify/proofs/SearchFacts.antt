@@ -33,7 +33,7 @@ use Rattle.csn_look.proofs.EmptyKeys.{empty_key}
 use Rattle.csn_look.proofs.Octets.{has_union, has_none}
 use Rattle.csn_look.proofs.ReachedParts.{reached_small, parts_below}
 use Rattle.csn_look.proofs.LookFacts.{follow_has}
-use Rattle.csn_look.proofs.Tells.{both, together, is_so}
+use Rattle.csn_look.proofs.Telling.{both, together, is_so}
 use Rattle.csn_certify.specs.Search.{IsLeastFrom, IsClashing, IsFollowed, MayEndAt, IsNullAt}
 use Rattle.csn_certify.specs.Conflicts.{IsNull}
 use Rattle.std.proofs.lemmas.Option.{slice_get_within}

@@ -27,7 +27,7 @@ use Rattle.csn_look.specs.declared.symbol_set.Sign.TheVariants.{Zero, One, End}
 use Rattle.csn_look.specs.SignsV.{SignsV}
 use Rattle.csn_look.specs.Signs.{no_signs, with_sign}
 use Rattle.csn_look.proofs.LookFacts.{follow_has}
-use Rattle.csn_look.proofs.Tells.{both, back, truth, PartsSetsAre}
+use Rattle.csn_look.proofs.Telling.{both, back, truth, PartsSetsAre}
 use Rattle.csn_look.proofs.Spanned.{span_inside, span_parts}
 use Rattle.csn_look.proofs.Parents.{one_parent}
 use Rattle.csn_look.proofs.ReachedParts.{single}

@@ -11,7 +11,12 @@ pub mod ReachFacts
 pub mod KeyMeant
 pub mod NearFacts
 pub mod KeyFollowed
-pub mod Tells
+pub mod Telling
+pub mod LeavesTell
+pub mod PartsTell
+pub mod RepetitionsTell
+pub mod UnitsTell
+pub mod LabelsTell
 pub mod Spanned
 pub mod LookFacts
 pub mod Puts

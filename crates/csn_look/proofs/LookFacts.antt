@@ -19,7 +19,7 @@ use Rattle.csn_look.specs.Ends.{InEnds}
 use Rattle.csn_look.specs.Starts.{InFirst}
 use Rattle.csn_look.specs.Keys.{InKeys, IsNotFirm, IsFirm}
 use Rattle.csn_look.proofs.EmptyKeys.{empty_key}
-use Rattle.csn_look.proofs.Tells.{both, is_so, either, together}
+use Rattle.csn_look.proofs.Telling.{both, is_so, either, together}
 
 -- a set of signs, kept where the first test holds, with 0 where the second does and 1 where the third does
 abbrev pub put_first : Bool → Bool → Bool → SignsV → SignsV

@@ -25,7 +25,7 @@ use Rattle.csn_look.proofs.Spanned.{span_inside, span_parts, part_before}
 use Rattle.csn_look.proofs.Parents.{one_parent}
 use Rattle.csn_look.proofs.Puts.{get_put_same, get_put_other, middle_get, middle_take, split_at, take_more}
 use Rattle.csn_look.proofs.Octets.{has_insert, has_none, sum_small}
-use Rattle.csn_look.proofs.Tells.{times_of, sum_of_times}
+use Rattle.csn_look.proofs.RepetitionsTell.{times_of, sum_of_times}
 
 module _ (d : DescV) where
   -- ---- ends are octet positions

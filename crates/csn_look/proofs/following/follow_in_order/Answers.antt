@@ -3,7 +3,9 @@ use Rattle.csn_desc.specs.declared.node.Node.TheVariants.{Seq}
 use Rattle.csn_look.specs.FollowV.{SaysFollow}
 use Rattle.csn_look.specs.Reached.{PartFollow}
 use Rattle.csn_look.proofs.LookFacts.{known_sets}
-use Rattle.csn_look.proofs.Tells.{PartsSetsAre, last_none, last_more, no_parts, more_parts}
+use Rattle.csn_look.proofs.Telling.{PartsSetsAre, last_none, last_more}
+use Rattle.csn_look.proofs.LeavesTell.{no_parts}
+use Rattle.csn_look.proofs.PartsTell.{more_parts}
 use Rattle.csn_look.proofs.ReachedParts.{kept_more}
 use Rattle.csn_look.proofs.FollowedParts.{put_last, put_before, says_seq}
 use Rattle.csn_look.proofs.following.follow_in_order.Goals as goal

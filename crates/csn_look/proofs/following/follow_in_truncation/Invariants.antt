@@ -4,7 +4,7 @@ use Rattle.csn_desc.specs.Nodes.{DescV}
 use Rattle.csn_look.specs.NodeSets.{IsLookOf}
 use Rattle.csn_look.specs.FollowV.{FollowsAre}
 use Rattle.csn_look.specs.Reached.{PartFollow}
-use Rattle.csn_look.proofs.Tells.{PartsSetsAre}
+use Rattle.csn_look.proofs.Telling.{PartsSetsAre}
 use Rattle.csn_look.proofs.ReachedParts.{KeptBeside}
 use Rattle.csn_look.proofs.FollowedParts.{PutFrom}
 use Rattle.csn_look.proofs.following.follow_in_truncation.Given as goal

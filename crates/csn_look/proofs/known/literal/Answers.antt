@@ -1,7 +1,8 @@
 use Rattle.std.proofs.Common.{◌≡◌, ℕ, ◌%◌, ◌↔◌, nat_eq, subst, ap, ◌∙◌}
 use Rattle.std.specs.Prelude.{IsTrue}
 use Rattle.std.specs.FinSet as set
-use Rattle.csn_look.proofs.Tells.{lits_sets, zero_test}
+use Rattle.csn_look.proofs.Telling.{zero_test}
+use Rattle.csn_look.proofs.LeavesTell.{lits_sets}
 use Rattle.csn_look.proofs.known.literal.Goals as goal
 
 pub returns : goal.returns

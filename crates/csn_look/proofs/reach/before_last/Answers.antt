@@ -1,4 +1,4 @@
-use Rattle.csn_look.proofs.Tells.{many_lengths}
+use Rattle.csn_look.proofs.RepetitionsTell.{many_lengths}
 use Rattle.csn_look.proofs.ReachedParts.{before_none, before_fixed, before_counted}
 use Rattle.csn_look.proofs.reach.before_last.Goals as goal
 

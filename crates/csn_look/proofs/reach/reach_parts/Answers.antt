@@ -1,5 +1,5 @@
 use Rattle.std.proofs.Common.{refl, length}
-use Rattle.csn_look.proofs.Tells.{many_lengths}
+use Rattle.csn_look.proofs.RepetitionsTell.{many_lengths}
 use Rattle.csn_look.proofs.ReachedParts.{once_kind, below_kind, part_below, steps_of, trunc_steps, single_steps, single_others, others_of, at_times, at_many, at_window, at_named}
 use Rattle.csn_look.proofs.reach.reach_parts.Goals as goal
 

@@ -1,7 +1,7 @@
 use Rattle.std.proofs.Common.{◌-◌, [], drop, ℕ, List, sym, subst}
 use Rattle.csn_look.specs.Keys.{PartsKeys}
 use Rattle.csn_look.specs.KeyRows.{Makes}
-use Rattle.csn_look.proofs.Tells.{last_none, last_all, last_more}
+use Rattle.csn_look.proofs.Telling.{last_none, last_all, last_more}
 use Rattle.csn_look.proofs.RowFacts.{makes_as}
 use Rattle.csn_look.proofs.RowKeys.{no_parts}
 use Rattle.csn_look.proofs.RowsMade.{rowed_stays, parts_next}

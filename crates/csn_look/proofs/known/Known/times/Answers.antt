@@ -1,5 +1,6 @@
 use Rattle.std.proofs.Common.{refl}
-use Rattle.csn_look.proofs.Tells.{same_fact, either, together, zero_test, some_test, fixed_times, counted_times}
+use Rattle.csn_look.proofs.Telling.{same_fact, either, together, zero_test, some_test}
+use Rattle.csn_look.proofs.RepetitionsTell.{fixed_times, counted_times}
 use Rattle.csn_look.proofs.known.Known.times.Goals as goal
 
 pub returns-in-Fixed : goal.returns-in-Fixed

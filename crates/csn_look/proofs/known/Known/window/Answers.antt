@@ -1,5 +1,6 @@
 use Rattle.std.proofs.Common.{refl}
-use Rattle.csn_look.proofs.Tells.{same_fact, together, window_sets}
+use Rattle.csn_look.proofs.Telling.{same_fact, together}
+use Rattle.csn_look.proofs.UnitsTell.{window_sets}
 use Rattle.csn_look.proofs.known.Known.window.Goals as goal
 
 pub returns : goal.returns
