@@ -1,5 +1,5 @@
 -- What may follow nodes, from what may follow the nodes above them.
-use Rattle.std.proofs.Common.{◌≡◌, ◌≢◌, ℕ, suc, ◌+◌, ◌-◌, ◌<◌, ◌≤◌, ◌⊎◌, ◌↔◌, Bool, true, false, List, [], ◌∷◌, length, take, drop, refl, sym, ap, ◌∙◌, subst, arith, inl, inr, Option, Some, None}
+use Rattle.std.proofs.Common.{◌≡◌, ◌≢◌, ℕ, suc, ◌+◌, ◌-◌, ◌<◌, ◌≤◌, ◌⊎◌, ◌↔◌, Bool, true, false, ◌||◌, List, [], ◌∷◌, length, take, drop, refl, sym, ap, ◌∙◌, subst, arith, inl, inr, Option, Some, None}
 use Rattle.std.specs.Prelude.{slice_get, IsTrue, if◌then◌else◌}
 use Rattle.std.specs.Ordering.{nat_cmp}
 use Rattle.std.specs.FinSet as set
@@ -21,7 +21,7 @@ use Rattle.csn_look.specs.Nullable.{AllNullable}
 use Rattle.csn_look.specs.Starts.{InStart, PartsStart}
 use Rattle.csn_look.specs.Reached.{InFollow, PartFollow, follow_root, follow_part, follow_later, follow_seq, follow_kept, follow_trunc, follow_times_again, follow_times, follow_many_again, follow_many, follow_choice, follow_named, follow_window}
 use Rattle.csn_look.specs.Steps.{HasPartsOnce}
-use Rattle.csn_look.specs.FollowV.{SaysFollow, HasFollow, FollowsAre, HasFollows, IsFollowOf, IsBehind, signs_at, IsFollow}
+use Rattle.csn_look.specs.FollowV.{SaysFollow, HasFollow, FollowsAre, HasFollows, IsFollowOf, IsBehind, signs_at, IsFollow, in_order}
 use Rattle.csn_look.proofs.Octets.{has_none, has_union}
 use Rattle.csn_look.specs.declared.symbol_set.Sign.TheVariants.{Zero, One, End}
 use Rattle.csn_look.specs.SignsV.{SignsV}
@@ -107,10 +107,6 @@ module _ (d : DescV) where
   in_seq parts after k p o None = ((λ h. follow_seq h.0 h.1), (λ h. seq_follow h))
   in_seq parts after k p o (Some bit) = ((λ h. elim h [ inl now ↦ follow_later now | inr later ↦ follow_seq later.0 later.1 ]), (λ h. seq_follow h))
 
-  pub says_seq : (parts after : List ℕ) (k p : ℕ) (rest : NodeSets) (above f : Following) → PartsSetsAre d after rest → FollowsAre d k above → IsBehind rest above f → SaysFollow f (PartFollow d (Seq parts) k after p)
-  says_seq parts after k p rest above f t says b =
-      resay (behind_says rest above f (PartsStart d after) (AllNullable d after) (InFollow d k) t.zero t.one t.nullable says b) (λ o s. in_seq parts after k p o s)
-
   trunc_follow : {parts after : List ℕ} {k p o : ℕ} {s : Option ℕ} → PartFollow d (Trunc parts) k after p o s → BehindOf (PartsStart d after) (Unit {0}) (InFollow d k) o s
   trunc_follow (follow_kept h) = inl h
   trunc_follow {after = after} {k = k} {o = o} {s = s} (follow_trunc h) = beyond (PartsStart d after) (InFollow d k) o s tt h
@@ -119,13 +115,31 @@ module _ (d : DescV) where
   in_trunc parts after k p o None = ((λ h. follow_trunc h.1), (λ h. trunc_follow h))
   in_trunc parts after k p o (Some bit) = ((λ h. elim h [ inl now ↦ follow_kept now | inr later ↦ follow_trunc later.1 ]), (λ h. trunc_follow h))
 
-  pub says_trunc : (parts after : List ℕ) (k p : ℕ) (rest cut : NodeSets) (above f : Following) → PartsSetsAre d after rest → cut.nullable ≡ true → cut.zero ≡ rest.zero → cut.one ≡ rest.one → FollowsAre d k above → IsBehind cut above f → SaysFollow f (PartFollow d (Trunc parts) k after p)
+  says_trunc : (parts after : List ℕ) (k p : ℕ) (rest cut : NodeSets) (above f : Following) → PartsSetsAre d after rest → cut.nullable ≡ true → cut.zero ≡ rest.zero → cut.one ≡ rest.one → FollowsAre d k above → IsBehind cut above f → SaysFollow f (PartFollow d (Trunc parts) k after p)
   says_trunc parts after k p rest cut above f t n z e says b =
       resay (behind_says cut above f (PartsStart d after) (Unit {0}) (InFollow d k)
       (subst (λ q. OctetsAre q (λ o. PartsStart d after o 0)) (sym z) t.zero)
       (subst (λ q. OctetsAre q (λ o. PartsStart d after o 1)) (sym e) t.one)
       (truth n tt) says b)
       (λ o s. in_trunc parts after k p o s)
+
+  -- one or the other: behind the later parts stands what follows them where they may be none
+  pub says_in_order : (ends_early : Bool) (parts after : List ℕ) (k p : ℕ) (rest behind : NodeSets) (above f : Following) → PartsSetsAre d after rest → behind.nullable ≡ (rest.nullable || ends_early) → behind.zero ≡ rest.zero → behind.one ≡ rest.one → FollowsAre d k above → IsBehind behind above f → SaysFollow f (PartFollow d (in_order ends_early parts) k after p)
+  says_in_order true parts after k p rest behind above f t n z e says b = says_trunc parts after k p rest behind above f t (n ∙ or_true rest.nullable) z e says b
+    where
+      or_true : (b : Bool) → (b || true) ≡ true
+      or_true true = refl
+      or_true false = refl
+  says_in_order false parts after k p rest behind above f t n z e says b =
+      resay (behind_says behind above f (PartsStart d after) (AllNullable d after) (InFollow d k)
+      (subst (λ q. OctetsAre q (λ o. PartsStart d after o 0)) (sym z) t.zero)
+      (subst (λ q. OctetsAre q (λ o. PartsStart d after o 1)) (sym e) t.one)
+      (subst (λ q. IsTrue q ↔ AllNullable d after) (sym (n ∙ or_false rest.nullable)) t.nullable) says b)
+      (λ o s. in_seq parts after k p o s)
+    where
+      or_false : (b : Bool) → (b || false) ≡ b
+      or_false true = refl
+      or_false false = refl
 
   times_follow : {count : Count} {i k p o : ℕ} {after : List ℕ} {s : Option ℕ} → PartFollow d (Times count i) k after p o s → BehindOf (InStart d p) (Unit {0}) (InFollow d k) o s
   times_follow (follow_times_again h) = inl h

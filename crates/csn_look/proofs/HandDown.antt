@@ -8,14 +8,10 @@ use Rattle.csn_desc.specs.declared.node.Node.{Node}
 use Rattle.csn_desc.specs.Nodes.{DescV, parts_of}
 use Rattle.csn_desc.specs.Formed.{IsDescription}
 use Rattle.csn_desc.proofs.Numbering.{span_grows, part_from}
-use Rattle.csn_look.specs.Steps.{KeepsOthers}
+use Rattle.csn_look.specs.Steps.{KeepsOthers, HasRight}
 use Rattle.csn_look.proofs.Spanned.{span_inside, span_parts}
 use Rattle.csn_look.proofs.Parents.{one_parent, parent_of}
 use Rattle.csn_look.proofs.Puts.{get_put_same}
-
--- the list has for node i what is right there
-abbrev pub HasRight : {A : Type 0} → (ℕ → A → Type 0) → List A → ℕ → Type 0
-HasRight {A} Right table i = (a : A) × (slice_get table i ≡ Some a) × Right i a
 
 pub record Handed {A : Type 0} (Right : ℕ → A → Type 0) (d : DescV) (k : ℕ) (table : List A) : Type 0 where
   pub same : length table ≡ length d.nodes

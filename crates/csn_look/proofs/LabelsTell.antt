@@ -1,5 +1,5 @@
 -- What the sets tell of labelled parts, and of a node whose kind is known.
-use Rattle.std.proofs.Common.{◌≡◌, ℕ, ◌-◌, Bool, List, sym, subst, Some}
+use Rattle.std.proofs.Common.{◌≡◌, ℕ, Bool, List, sym, subst, Some}
 use Rattle.std.specs.Prelude.{slice_get}
 use Rattle.csn_desc.specs.declared.node.Node.{Node}
 use Rattle.csn_desc.specs.declared.node.Node.TheVariants.{Named}

@@ -21,6 +21,7 @@ use Rattle.csn_look.specs.Ends.{InEnds, NodeEnds, PartsEnd, TimesEnd, ManyEnd, L
 use Rattle.csn_look.specs.Reached.{Reached, PartReached, reached_root, reached_part, reached_seq, reached_trunc, reached_choice, reached_window, reached_named, reached_times, reached_counted, reached_many}
 use Rattle.csn_look.specs.ReachV.{HasAt}
 use Rattle.csn_look.specs.Steps.{IsStep, HasSteps, KeepsOthers, HasPartsOnce, HasPartsBelow}
+use Rattle.csn_look.proofs.ReachFacts.{parts_end_more}
 use Rattle.csn_look.proofs.Spanned.{span_inside, span_parts, part_before}
 use Rattle.csn_look.proofs.Parents.{one_parent}
 use Rattle.csn_look.proofs.Puts.{get_put_same, get_put_other, middle_get, middle_take, split_at, take_more}
@@ -82,10 +83,6 @@ module _ (d : DescV) where
 
   -- ---- one part more
 
-  pub end_more : {parts : List ℕ} {i o middle p : ℕ} → PartsEnd d parts o middle → InEnds d i middle p → PartsEnd d (parts ++ i ∷ []) o p
-  end_more {i = i} {p = p} (parts_end e) h = parts_next p (subst (λ q. InEnds d i q p) e h) (parts_end refl)
-  end_more (parts_next m first others) h = parts_next m first (end_more others h)
-
   pub record LastEnd (parts : List ℕ) (i o p : ℕ) : Type 0 where
     pub middle : ℕ
     pub front : PartsEnd d parts o middle
@@ -118,7 +115,7 @@ module _ (d : DescV) where
             let s = (sums o low).0 h in
             let b = (are s.a s.a_small).0 s.has_a in
             let last = (ends s.a o s.a_small).0 (record { length = s.b; small = s.b_small; has_length = s.has_b; is = s.is }) in
-            (b.0, b.1, b.2, subst (λ ps. PartsEnd d ps b.0 o) (sym longer) (end_more b.3 last))),
+            (b.0, b.1, b.2, subst (λ ps. PartsEnd d ps b.0 o) (sym longer) (parts_end_more d b.3 last))),
         (λ (begin, small, h, e).
             let l = last_end (take j parts) p (subst (λ ps. PartsEnd d ps begin o) longer e) in
             let middle_low = parts_end_small l.front small in

@@ -19,7 +19,6 @@ use Rattle.csn_look.specs.Ends.{InEnds, PartsEnd, LeadEnd}
 use Rattle.csn_look.specs.Starts.{InStart, PartsStart}
 use Rattle.csn_look.specs.Keys.{InKeys, PartsKeys}
 use Rattle.csn_look.proofs.Octets.{has_insert, has_union, has_none}
-use Rattle.csn_look.proofs.EmptyKeys.{cut_empty}
 
 pub true_is_not : false ≡ true → ⊥
 true_is_not e = cc

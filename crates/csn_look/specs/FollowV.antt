@@ -1,8 +1,9 @@
 -- What may follow all nodes of a description, as it is kept: for each node and sign the octet positions at
 -- which the node may end before it.
-use Rattle.std.specs.Prelude.{◌≡◌, ℕ, suc, ◌<◌, ◌≤◌, ◌⊎◌, ◌↔◌, List, length, drop, slice_get, Option, Some, None, IsTrue}
+use Rattle.std.specs.Prelude.{◌≡◌, ℕ, suc, ◌<◌, ◌≤◌, ◌⊎◌, ◌↔◌, Bool, true, false, List, length, drop, slice_get, Option, Some, None, IsTrue}
 use Rattle.std.specs.FinSet as set
 use Rattle.csn_desc.specs.declared.node.Node.{Node}
+use Rattle.csn_desc.specs.declared.node.Node.TheVariants.{Seq, Trunc}
 use Rattle.csn_desc.specs.Nodes.{DescV, parts_of}
 use Rattle.csn_look.specs.declared.following.Following.{Following}
 use Rattle.csn_look.specs.declared.node_sets.NodeSets.{NodeSets}
@@ -23,6 +24,11 @@ pub record SaysFollow (sets : Following) (P : ℕ → Option ℕ → Type 0) : T
 abbrev pub HasFollow : List Following → ℕ → (ℕ → Option ℕ → Type 0) → Type 0
 HasFollow table i P = (sets : Following) × (slice_get table i ≡ Some sets) × SaysFollow sets P
 
+-- a sequence, or a truncation where the parts may end early
+abbrev pub in_order : Bool → List ℕ → Node
+in_order false parts = Seq parts
+in_order true parts = Trunc parts
+
 module _ (d : DescV) where
   -- the sets say what may follow node k, and the list what may follow each part of it
   abbrev pub FollowsAre : ℕ → Following → Type 0
@@ -32,6 +38,12 @@ module _ (d : DescV) where
   HasFollows n k table =
       (j p : ℕ) → slice_get (parts_of n) j ≡ Some p
       → HasFollow table p (PartFollow d n k (drop (suc j) (parts_of n)) p)
+
+  -- the same of parts one after another, which may end early as those of a truncation
+  abbrev pub HasFollowsInOrder : Bool → List ℕ → ℕ → List Following → Type 0
+  HasFollowsInOrder ends_early parts k table =
+      (j p : ℕ) → slice_get parts j ≡ Some p
+      → HasFollow table p (PartFollow d (in_order ends_early parts) k (drop (suc j) parts) p)
 
   -- it says what may follow each node
   pub record IsFollowOf (table : List Following) : Type 0 where

@@ -1,5 +1,5 @@
 -- Where the parts of one node are reached from where the node is.
-use Rattle.std.specs.Prelude.{◌≡◌, ℕ, ◌<◌, ◌≤◌, List, take, slice_get, Some}
+use Rattle.std.specs.Prelude.{◌≡◌, ℕ, ◌<◌, ◌≤◌, List, length, take, slice_get, Some}
 use Rattle.std.specs.Ordering.{nat_cmp}
 use Rattle.std.specs.FinSet as set
 use Rattle.csn_desc.specs.declared.node.Node.{Node}
@@ -29,3 +29,11 @@ HasPartsOnce n = (j k p : ℕ) → slice_get (parts_of n) j ≡ Some p → slice
 -- what the list has for what is no part of the node stays
 abbrev pub KeepsOthers : {A : Type 0} → Node → List A → List A → Type 0
 KeepsOthers n old new = (i : ℕ) → ((j : ℕ) → slice_get (parts_of n) j ≡ Some i → ⊥) → slice_get new i ≡ slice_get old i
+
+-- the list has for node i what is right there, and for each of so many nodes
+abbrev pub HasRight : {A : Type 0} → (ℕ → A → Type 0) → List A → ℕ → Type 0
+HasRight {A} Right table i = (a : A) × (slice_get table i ≡ Some a) × Right i a
+
+pub record AreRight {A : Type 0} (Right : ℕ → A → Type 0) (count : ℕ) (table : List A) : Type 0 where
+  pub same : length table ≡ count
+  pub right : (i : ℕ) → i < count → HasRight Right table i

@@ -1,20 +1,19 @@
-ghost use Rattle.std.specs.Prelude.{◌≡◌, ℕ, suc, ◌<◌, ◌≤◌, ◌⊎◌, length, slice_get, [], Some, None, IsTrue, IfOk};
+ghost use Rattle.std.specs.Prelude.{◌≡◌, ℕ, suc, ◌<◌, ◌≤◌, ◌⊎◌, length, slice_get, [], Some, None, IsTrue};
 ghost use Rattle.std.specs.FinSet as set;
 ghost use Rattle.csn_desc.specs.Nodes.{DescV, parts_of};
 ghost use Rattle.csn_look.specs.Told.{OctetsAre};
 ghost use Rattle.csn_look.specs.Sums.{Has};
 ghost use Rattle.csn_look.specs.NodeSets.{IsLookOf};
 ghost use Rattle.csn_look.specs.Steps.{HasPartsBelow, HasPartsOnce, KeepsOthers};
-ghost use Rattle.csn_look.specs.FollowV.{IsBehind, FollowsAre, HasFollows, IsFollowOf, signs_at};
+ghost use Rattle.csn_look.specs.FollowV.{IsBehind, FollowsAre, HasFollows, HasFollowsInOrder, signs_at};
 
 use crate::follow::Follow;
+use crate::hand_down::{HandDown, hand_to_each};
 use crate::look::Look;
 use crate::node_sets::NodeSets;
 use crate::octet_set::OctetSet;
 use crate::symbol_set::{Sign, SymbolSet};
-use csn_bits::NoMemory;
-use csn_desc::{Desc, Node, Parts};
-use std::alloc::Global;
+use csn_desc::{Node, Parts};
 
 /// What may stand next where a node ends: the octet positions at which it may end before a 0, before a 1
 /// and before the end.
@@ -26,21 +25,8 @@ pub struct Following {
 }
 
 impl Following {
-    /// Nothing at all.
-    fn nothing() -> Following
-        ensures zero { result.zero ≡ set.empty }
-        ensures one { result.one ≡ set.empty }
-        ensures end { result.end ≡ set.empty }
-    {
-        Following {
-            zero: OctetSet::empty(),
-            one: OctetSet::empty(),
-            end: OctetSet::empty(),
-        }
-    }
-
     /// The end alone, at every octet position.
-    fn end() -> Following
+    pub fn end() -> Following
         ensures zero { result.zero ≡ set.empty }
         ensures one { result.one ≡ set.empty }
         ensures end { (o : ℕ) → o ≤ 7 → Has result.end o }
@@ -72,32 +58,12 @@ impl Following {
     }
 }
 
-/// What may follow each node of a description. Its nodes are gone through once, the root first.
-pub(crate) fn follow_table(
-    alloc: Global,
-    desc: &Desc,
-    look: &Look,
-) -> Result<Vec<Following>, NoMemory>
-    requires { IsLookOf desc.now look.now.sets }
-    ensures { IfOk result (λ table. IsFollowOf desc.now table.items) }
-{
-    let count = desc.len();
-    let mut table = nothing_follows(alloc, count)?;
-    table[0] = Following::end();
-    for k in 0..count {
-        let above = table[k as usize];
-        follow_parts(look, desc.node(k), above, table.as_mut_slice());
-    }
-    Ok(table)
-}
+/// What may follow a node tells what may follow its parts.
+impl HandDown for Following {
+    ghost is_right = { λ d i sets. FollowsAre d i sets };
 
-/// As many times nothing as there are nodes.
-fn nothing_follows(alloc: Global, count: u16) -> Result<Vec<Following>, NoMemory>
-    ensures { IfOk result (λ table. length table.items ≡ count) }
-{
-    match vec![in alloc; Following::nothing(); count as usize] {
-        Ok(table) => Ok(table),
-        Err(_) => Err(NoMemory),
+    fn hand_down(look: &Look, node: &Node, above: Following, table: &mut [Following]) {
+        follow_parts(look, node, above, table)
     }
 }
 
@@ -110,9 +76,9 @@ fn follow_parts(look: &Look, node: &Node, above: Following, table: &mut [Followi
     ensures others { KeepsOthers node.now table.old table.new }
 {
     match node {
-        Node::Seq(parts) => follow_in_order(look, parts, above, table),
-        Node::Trunc(parts) => follow_in_truncation(look, parts, above, table),
-        Node::Choice(parts) => follow_each(parts, &above, table),
+        Node::Seq(parts) => follow_in_order(look, parts, false, above, table),
+        Node::Trunc(parts) => follow_in_order(look, parts, true, above, table),
+        Node::Choice(parts) => hand_to_each(parts, above, table),
         Node::Times { count: _, part } => {
             let again = NodeSets {
                 nullable: true,
@@ -146,50 +112,29 @@ fn follow_parts(look: &Look, node: &Node, above: Following, table: &mut [Followi
     }
 }
 
-/// What may follow parts one after another.
-fn follow_in_order(look: &Look, parts: &Parts, above: Following, table: &mut [Following])
+/// What may follow parts one after another, of which the last may be left out where they may end early.
+fn follow_in_order(
+    look: &Look,
+    parts: &Parts,
+    ends_early: bool,
+    above: Following,
+    table: &mut [Following],
+)
     requires once { HasPartsOnce (Node.Seq parts.now) }
     requires below { HasPartsBelow (Node.Seq parts.now) (length table.old) }
     requires known { HasPartsBelow (Node.Seq parts.now) (length look.now.sets) }
-    ensures follows { (d : DescV) (k : ℕ) → IsLookOf d look.now.sets → FollowsAre d k above → HasFollows d (Node.Seq parts.now) k table.new }
+    ensures follows { (d : DescV) (k : ℕ) → IsLookOf d look.now.sets → FollowsAre d k above → HasFollowsInOrder d ends_early parts.now k table.new }
     ensures others { KeepsOthers (Node.Seq parts.now) table.old table.new }
 {
     let mut rest = NodeSets::no_bits();
     for at in (0..parts.len()).rev() {
         let part = parts.get(at);
-        table[part as usize] = above.ahead_of(&rest);
-        rest = look.of(part).then(&rest);
-    }
-}
-
-/// What may follow parts of which the last may be left out.
-fn follow_in_truncation(look: &Look, parts: &Parts, above: Following, table: &mut [Following])
-    requires once { HasPartsOnce (Node.Trunc parts.now) }
-    requires below { HasPartsBelow (Node.Trunc parts.now) (length table.old) }
-    requires known { HasPartsBelow (Node.Trunc parts.now) (length look.now.sets) }
-    ensures follows { (d : DescV) (k : ℕ) → IsLookOf d look.now.sets → FollowsAre d k above → HasFollows d (Node.Trunc parts.now) k table.new }
-    ensures others { KeepsOthers (Node.Trunc parts.now) table.old table.new }
-{
-    let mut rest = NodeSets::no_bits();
-    for at in (0..parts.len()).rev() {
-        let part = parts.get(at);
-        let cut = NodeSets {
-            nullable: true,
+        let behind = NodeSets {
+            nullable: rest.nullable | ends_early,
             ..rest
         };
-        table[part as usize] = above.ahead_of(&cut);
+        table[part as usize] = above.ahead_of(&behind);
         rest = look.of(part).then(&rest);
-    }
-}
-
-/// What may follow parts of which there is one.
-fn follow_each(parts: &Parts, above: &Following, table: &mut [Following])
-    requires below { HasPartsBelow (Node.Choice parts.now) (length table.old) }
-    ensures follows { (d : DescV) (k : ℕ) → FollowsAre d k above.now → HasFollows d (Node.Choice parts.now) k table.new }
-    ensures others { KeepsOthers (Node.Choice parts.now) table.old table.new }
-{
-    for at in 0..parts.len() {
-        table[parts.get(at) as usize] = *above;
     }
 }
 

@@ -3,6 +3,7 @@
 
 mod follow;
 mod following;
+mod hand_down;
 mod key_marks;
 mod key_products;
 mod key_rows;

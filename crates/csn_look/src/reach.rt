@@ -10,7 +10,8 @@ ghost use Rattle.csn_look.specs.FollowV.{IsFollow, IsFollowOf};
 ghost use Rattle.csn_look.specs.Steps.{HasSteps, HasPartsBelow, HasPartsOnce, KeepsOthers};
 
 use crate::follow::Follow;
-use crate::following::{Following, follow_table, signs_of};
+use crate::following::{Following, signs_of};
+use crate::hand_down::{HandDown, hand_to_each, handed_down};
 use crate::look::Look;
 use crate::octet_set::OctetSet;
 use crate::symbol_set::Sign;
@@ -45,8 +46,8 @@ impl Reach {
         ensures reached { IfOk result (λ reach. IsReachOf desc.now reach.reached) }
         ensures follow { IfOk result (λ reach. IsFollowOf desc.now reach.follow) }
     {
-        let reached = reach_table(alloc, desc, look)?;
-        let follow = follow_table(alloc, desc, look)?;
+        let reached = handed_down(alloc, desc, look, OctetSet::empty().with(0))?;
+        let follow = handed_down(alloc, desc, look, Following::end())?;
         Ok(Reach { reached, follow })
     }
 
@@ -81,28 +82,12 @@ impl Reach {
     }
 }
 
-/// Where each node of a description is reached. Its nodes are gone through once, the root first.
-fn reach_table(alloc: Global, desc: &Desc, look: &Look) -> Result<Vec<OctetSet>, NoMemory>
-    requires { IsLookOf desc.now look.now.sets }
-    ensures { IfOk result (λ table. IsReachOf desc.now table.items) }
-{
-    let count = desc.len();
-    let mut reached = nowhere(alloc, count)?;
-    reached[0] = OctetSet::empty().with(0);
-    for k in 0..count {
-        let from = reached[k as usize];
-        reach_parts(look, desc.node(k), from, reached.as_mut_slice());
-    }
-    Ok(reached)
-}
+/// Where a node is reached tells where its parts are.
+impl HandDown for OctetSet {
+    ghost is_right = { λ d i octets. OctetsAre octets (Reached d i) };
 
-/// As many sets of no octet position as there are nodes.
-fn nowhere(alloc: Global, count: u16) -> Result<Vec<OctetSet>, NoMemory>
-    ensures { IfOk result (λ sets. length sets.items ≡ count) }
-{
-    match vec![in alloc; OctetSet::empty(); count as usize] {
-        Ok(sets) => Ok(sets),
-        Err(_) => Err(NoMemory),
+    fn hand_down(look: &Look, node: &Node, above: OctetSet, table: &mut [OctetSet]) {
+        reach_parts(look, node, above, table)
     }
 }
 
@@ -117,7 +102,7 @@ fn reach_parts(look: &Look, node: &Node, from: OctetSet, reached: &mut [OctetSet
     match node {
         Node::Seq(parts) => reach_in_order(look, parts, from, reached),
         Node::Trunc(parts) => reach_in_order(look, parts, from, reached),
-        Node::Choice(parts) => reach_each(parts, from, reached),
+        Node::Choice(parts) => hand_to_each(parts, from, reached),
         Node::Times { count, part } => {
             reached[*part as usize] = from.plus(before_last(look, *count, *part));
         }
@@ -156,17 +141,6 @@ fn reach_in_order(look: &Look, parts: &Parts, from: OctetSet, reached: &mut [Oct
         let part = parts.get(at);
         reached[part as usize] = here;
         here = here.plus(look.lengths(part));
-    }
-}
-
-/// Where parts are reached of which there is one.
-fn reach_each(parts: &Parts, from: OctetSet, reached: &mut [OctetSet])
-    requires below { HasPartsBelow (Node.Choice parts.now) (length reached.old) }
-    ensures steps { (d : DescV) → HasSteps d (Node.Choice parts.now) from reached.new }
-    ensures others { KeepsOthers (Node.Choice parts.now) reached.old reached.new }
-{
-    for at in 0..parts.len() {
-        reached[parts.get(at) as usize] = from;
     }
 }
 

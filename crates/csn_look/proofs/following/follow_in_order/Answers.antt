@@ -1,13 +1,12 @@
 use Rattle.std.proofs.Common.{◌≡◌, ℕ, suc, ◌-◌, List, drop, Option, refl, sym, subst, arith}
-use Rattle.csn_desc.specs.declared.node.Node.TheVariants.{Seq}
-use Rattle.csn_look.specs.FollowV.{SaysFollow}
+use Rattle.csn_look.specs.FollowV.{SaysFollow, in_order}
 use Rattle.csn_look.specs.Reached.{PartFollow}
 use Rattle.csn_look.proofs.LookFacts.{known_sets}
 use Rattle.csn_look.proofs.Telling.{PartsSetsAre, last_none, last_more}
 use Rattle.csn_look.proofs.LeavesTell.{no_parts}
 use Rattle.csn_look.proofs.PartsTell.{more_parts}
 use Rattle.csn_look.proofs.ReachedParts.{kept_more}
-use Rattle.csn_look.proofs.FollowedParts.{put_last, put_before, says_seq}
+use Rattle.csn_look.proofs.FollowedParts.{put_last, put_before, says_in_order}
 use Rattle.csn_look.proofs.following.follow_in_order.Goals as goal
 
 pub loop-at-init : goal.loop-at-init
@@ -19,7 +18,7 @@ loop-at-init c =
       (λ d k look says. (
         subst (λ (ps : List ℕ). PartsSetsAre d ps c.no_bits-rest.result) (sym (last_none parts end c.len-at.ensures.len))
             (no_parts d c.no_bits-rest.result (record { nullable = none.nullable; whole_empty = none.whole_empty; cut_empty = none.cut_empty; lengths = none.lengths; zero = none.zero; one = none.one })),
-        put_last parts end c.args.table.now (λ j p. PartFollow d (Seq parts) k (drop (suc j) parts) p) c.len-at.ensures.len,
+        put_last parts end c.args.table.now (λ j p. PartFollow d (in_order c.args.ends_early parts) k (drop (suc j) parts) p) c.len-at.ensures.len,
       )),
     )
 
@@ -34,13 +33,13 @@ loop-at-preserved c =
       kept_more parts c.args.table.now c.loop-at.table (at - 1) part f c.get-part.ensures c.loop-at.invariant.0,
       (λ d k look says.
           let h = c.loop-at.invariant.1 d k look says in
-          let Q : ℕ → ℕ → ℕ → Option ℕ → Type 0 = λ j p. PartFollow d (Seq parts) k (drop (suc j) parts) p in
-          let here = says_seq d parts (drop at parts) k part c.loop-at.rest c.args.above f h.0 says c.ahead_of.ensures in (
+          let Q : ℕ → ℕ → ℕ → Option ℕ → Type 0 = λ j p. PartFollow d (in_order c.args.ends_early parts) k (drop (suc j) parts) p in
+          let here = says_in_order d c.args.ends_early parts (drop at parts) k part c.loop-at.rest _ c.args.above f h.0 refl refl refl says c.ahead_of.ensures in (
             subst (λ (ps : List ℕ). PartsSetsAre d ps c.then-rest.result) (sym (last_more parts at part c.loop-at-test.true c.get-part.ensures))
                 (more_parts d part (drop at parts) c.of.result c.loop-at.rest c.then-rest.result (known_sets d c.args.look.now.sets part c.of.result look c.of.ensures) h.0
                 (record { nullable = then.nullable; whole_empty = then.whole_empty; cut_empty = then.cut_empty; lengths = then.lengths; zero = then.zero; one = then.one })),
             put_before parts at part c.loop-at.table f Q c.requires.once c.loop-at-test.true c.get-part.ensures (omega (arith, c.requires.below (at - 1) part c.get-part.ensures))
-                (subst (λ (n : ℕ). SaysFollow f (PartFollow d (Seq parts) k (drop n parts) part)) next here) h.1,
+                (subst (λ (n : ℕ). SaysFollow f (PartFollow d (in_order c.args.ends_early parts) k (drop n parts) part)) next here) h.1,
           )),
     )
 

@@ -1,7 +1,7 @@
-use Rattle.std.proofs.Common.{refl, length}
+use Rattle.std.proofs.Common.{suc, drop, refl, length}
 use Rattle.csn_look.proofs.LookFacts.{known_sets}
 use Rattle.csn_look.proofs.ReachedParts.{once_kind, below_kind, part_below, single_others, others_of}
-use Rattle.csn_look.proofs.FollowedParts.{follows_of, single_follows, says_times, says_many, says_window, says_named}
+use Rattle.csn_look.proofs.FollowedParts.{follows_of, single_follows, says_choice, says_times, says_many, says_window, says_named}
 use Rattle.csn_look.proofs.following.follow_parts.Goals as goal
 
 pub follow_in_order-requires-clause-once : goal.follow_in_order-requires-clause-once
@@ -19,29 +19,30 @@ returns-in-Seq-clause-follows c = λ d k look says. follows_of d c.args.node.now
 pub returns-in-Seq-clause-others : goal.returns-in-Seq-clause-others
 returns-in-Seq-clause-others c = others_of c.args.node.now _ c.args.table.now c.follow_in_order.new.table c.in-Seq.is c.follow_in_order.ensures.others
 
-pub follow_in_truncation-requires-clause-once : goal.follow_in_truncation-requires-clause-once
-follow_in_truncation-requires-clause-once c = once_kind c.args.node.now _ c.in-Trunc.is c.requires.once
+pub follow_in_order-requires-in-Trunc-clause-once : goal.follow_in_order-requires-in-Trunc-clause-once
+follow_in_order-requires-in-Trunc-clause-once c = once_kind c.args.node.now _ c.in-Trunc.is c.requires.once
 
-pub follow_in_truncation-requires-clause-below : goal.follow_in_truncation-requires-clause-below
-follow_in_truncation-requires-clause-below c = below_kind c.args.node.now _ (length c.args.table.now) c.in-Trunc.is c.requires.below
+pub follow_in_order-requires-in-Trunc-clause-below : goal.follow_in_order-requires-in-Trunc-clause-below
+follow_in_order-requires-in-Trunc-clause-below c = below_kind c.args.node.now _ (length c.args.table.now) c.in-Trunc.is c.requires.below
 
-pub follow_in_truncation-requires-clause-known : goal.follow_in_truncation-requires-clause-known
-follow_in_truncation-requires-clause-known c = below_kind c.args.node.now _ (length c.args.look.now.sets) c.in-Trunc.is c.requires.known
+pub follow_in_order-requires-in-Trunc-clause-known : goal.follow_in_order-requires-in-Trunc-clause-known
+follow_in_order-requires-in-Trunc-clause-known c = below_kind c.args.node.now _ (length c.args.look.now.sets) c.in-Trunc.is c.requires.known
 
 pub returns-in-Trunc-clause-follows : goal.returns-in-Trunc-clause-follows
-returns-in-Trunc-clause-follows c = λ d k look says. follows_of d c.args.node.now _ k c.follow_in_truncation.new.table c.in-Trunc.is (c.follow_in_truncation.ensures.follows d k look says)
+returns-in-Trunc-clause-follows c = λ d k look says. follows_of d c.args.node.now _ k c.follow_in_order-in-Trunc.new.table c.in-Trunc.is (c.follow_in_order-in-Trunc.ensures.follows d k look says)
 
 pub returns-in-Trunc-clause-others : goal.returns-in-Trunc-clause-others
-returns-in-Trunc-clause-others c = others_of c.args.node.now _ c.args.table.now c.follow_in_truncation.new.table c.in-Trunc.is c.follow_in_truncation.ensures.others
+returns-in-Trunc-clause-others c = others_of c.args.node.now _ c.args.table.now c.follow_in_order-in-Trunc.new.table c.in-Trunc.is c.follow_in_order-in-Trunc.ensures.others
 
-pub follow_each-requires : goal.follow_each-requires
-follow_each-requires c = record { below = below_kind c.args.node.now _ (length c.args.table.now) c.in-Choice.is c.requires.below }
+pub hand_to_each-requires : goal.hand_to_each-requires
+hand_to_each-requires c = record { below = below_kind c.args.node.now _ (length c.args.table.now) c.in-Choice.is c.requires.below }
 
 pub returns-in-Choice-clause-follows : goal.returns-in-Choice-clause-follows
-returns-in-Choice-clause-follows c = λ d k look says. follows_of d c.args.node.now _ k c.follow_each.new.table c.in-Choice.is (c.follow_each.ensures.follows d k says)
+returns-in-Choice-clause-follows c = λ d k look says. follows_of d c.args.node.now _ k c.hand_to_each.new.table c.in-Choice.is
+    (λ j p get. (c.args.above, c.hand_to_each.ensures.parts j p get, says_choice d c.in-Choice.parts (drop (suc j) c.in-Choice.parts) k p c.args.above says))
 
 pub returns-in-Choice-clause-others : goal.returns-in-Choice-clause-others
-returns-in-Choice-clause-others c = others_of c.args.node.now _ c.args.table.now c.follow_each.new.table c.in-Choice.is c.follow_each.ensures.others
+returns-in-Choice-clause-others c = others_of c.args.node.now _ c.args.table.now c.hand_to_each.new.table c.in-Choice.is c.hand_to_each.ensures.others
 
 pub of-requires : goal.of-requires
 of-requires c = part_below c.args.node.now _ (length c.args.look.now.sets) c.in-Times.part c.in-Times.is refl c.requires.known

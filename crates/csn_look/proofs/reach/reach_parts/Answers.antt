@@ -1,6 +1,6 @@
 use Rattle.std.proofs.Common.{refl, length}
 use Rattle.csn_look.proofs.RepetitionsTell.{many_lengths}
-use Rattle.csn_look.proofs.ReachedParts.{once_kind, below_kind, part_below, steps_of, trunc_steps, single_steps, single_others, others_of, at_times, at_many, at_window, at_named}
+use Rattle.csn_look.proofs.ReachedParts.{once_kind, below_kind, part_below, steps_of, trunc_steps, single_steps, single_others, others_of, at_choice, at_times, at_many, at_window, at_named}
 use Rattle.csn_look.proofs.reach.reach_parts.Goals as goal
 
 pub reach_in_order-requires-clause-once : goal.reach_in_order-requires-clause-once
@@ -21,8 +21,8 @@ reach_in_order-requires-in-Trunc-clause-below c = below_kind c.args.node.now _ (
 pub reach_in_order-requires-in-Trunc-clause-known : goal.reach_in_order-requires-in-Trunc-clause-known
 reach_in_order-requires-in-Trunc-clause-known c = below_kind c.args.node.now _ (length c.args.look.now.sets) c.in-Trunc.is c.requires.known
 
-pub reach_each-requires : goal.reach_each-requires
-reach_each-requires c = record { below = below_kind c.args.node.now _ (length c.args.reached.now) c.in-Choice.is c.requires.below }
+pub hand_to_each-requires : goal.hand_to_each-requires
+hand_to_each-requires c = record { below = below_kind c.args.node.now _ (length c.args.reached.now) c.in-Choice.is c.requires.below }
 
 pub before_last-requires : goal.before_last-requires
 before_last-requires c = part_below c.args.node.now _ (length c.args.look.now.sets) c.in-Times.part c.in-Times.is refl c.requires.known
@@ -55,10 +55,11 @@ pub returns-in-Trunc-clause-others : goal.returns-in-Trunc-clause-others
 returns-in-Trunc-clause-others c = others_of c.args.node.now _ c.args.reached.now c.reach_in_order-in-Trunc.new.reached c.in-Trunc.is c.reach_in_order-in-Trunc.ensures.others
 
 pub returns-in-Choice-clause-steps : goal.returns-in-Choice-clause-steps
-returns-in-Choice-clause-steps c = λ d look. steps_of d c.args.node.now _ c.args.from c.reach_each.new.reached c.in-Choice.is (c.reach_each.ensures.steps d)
+returns-in-Choice-clause-steps c = λ d look. steps_of d c.args.node.now _ c.args.from c.hand_to_each.new.table c.in-Choice.is
+    (λ j p get. (c.args.from, c.hand_to_each.ensures.parts j p get, at_choice d c.in-Choice.parts c.args.from j p))
 
 pub returns-in-Choice-clause-others : goal.returns-in-Choice-clause-others
-returns-in-Choice-clause-others c = others_of c.args.node.now _ c.args.reached.now c.reach_each.new.reached c.in-Choice.is c.reach_each.ensures.others
+returns-in-Choice-clause-others c = others_of c.args.node.now _ c.args.reached.now c.hand_to_each.new.table c.in-Choice.is c.hand_to_each.ensures.others
 
 pub returns-in-Times-clause-steps : goal.returns-in-Times-clause-steps
 returns-in-Times-clause-steps c = λ d look. single_steps d c.args.node.now _ c.args.from c.plus.result c.in-Times.part c.args.reached.now c.in-Times.is refl (part_below c.args.node.now _ (length c.args.reached.now) c.in-Times.part c.in-Times.is refl c.requires.below)
