@@ -1,5 +1,6 @@
 pub mod Label
 pub mod TreeV
+pub mod TreeParts
 pub mod TreeCode
 pub mod ShapeView
 pub mod Nodes

@@ -18,7 +18,7 @@ use Rattle.csn_grammar.specs.RulesV.{RulesV}
 use Rattle.csn_grammar.specs.Names.{is_built_in, same_name, rule_of}
 use Rattle.csn_grammar.specs.Place.{HasRules}
 use Rattle.csn_treetext.specs.declared.version.Version.TheVariants.{Second}
-use Rattle.csn_treetext.specs.Fits.{HasParts, AllHaveParts}
+use Rattle.csn_desc.specs.TreeParts.{HasTreeParts, AllHaveTreeParts}
 use Rattle.csn_treetext.specs.Text.{text_of}
 use Rattle.csn_treetext.specs.Place.{TreeText}
 use Rattle.csn_run.specs.declared.simple.things.Thing.{Thing}
@@ -73,11 +73,11 @@ rule_labels rules name rule e h = go (is_built_in name) e
 
 -- ---- the trees of things have texts
 
-thing_parts : (t : Thing) (b : List ℕ) → ThingLabel t → IsBits b → length b ≤ 524288 → HasParts (thing_tree t b)
+thing_parts : (t : Thing) (b : List ℕ) → ThingLabel t → IsBits b → length b ≤ 524288 → HasTreeParts (thing_tree t b)
 thing_parts (Literal word) b label all few = tt
 thing_parts (Field name n) b label all few = (label, (all, few))
 
-list_parts : (ts : List Thing) (b : List ℕ) → ThingLabels ts → IsBits b → length b ≤ 524288 → AllHaveParts (trees_of (tree_list ts b))
+list_parts : (ts : List Thing) (b : List ℕ) → ThingLabels ts → IsBits b → length b ≤ 524288 → AllHaveTreeParts (trees_of (tree_list ts b))
 list_parts [] b labels all few = tt
 list_parts (t ∷ ts) b labels all few =
     let n : ℕ = length (thing_slots t) in (
@@ -85,7 +85,7 @@ list_parts (t ∷ ts) b labels all few =
       list_parts ts (drop n b) labels.1 (IsBits-drop n b all) (omega (arith, few, length-drop n b)),
     )
 
-tree_parts : (ts : List Thing) (b : List ℕ) → ThingLabels ts → IsBits b → length b ≤ 524288 → HasParts (tree_of ts b)
+tree_parts : (ts : List Thing) (b : List ℕ) → ThingLabels ts → IsBits b → length b ≤ 524288 → HasTreeParts (tree_of ts b)
 tree_parts [] b labels all few = tt
 tree_parts (t ∷ []) b labels all few = thing_parts t b labels.0 all few
 tree_parts (t ∷ u ∷ ts) b labels all few = list_parts (t ∷ u ∷ ts) b labels all few

@@ -13,7 +13,8 @@ use Rattle.csn_treetext.specs.declared.stack.Frame.{Frame}
 use Rattle.csn_treetext.specs.declared.stack.Frame.TheVariants.{Row, Alt, Named}
 use Rattle.csn_treetext.specs.declared.mode.Mode.TheVariants.{Start, Opened, Behind, Hash}
 use Rattle.csn_treetext.specs.Text.{text_of, row_text, rest_text, bit_digits, leaf_text, is_short, short_text, other_text}
-use Rattle.csn_treetext.specs.Fits.{FitsInside, AllFitInside, HasParts, AllHaveParts}
+use Rattle.csn_desc.specs.TreeParts.{HasTreeParts, AllHaveTreeParts}
+use Rattle.csn_treetext.specs.Fits.{FitsInside, AllFitInside}
 use Rattle.csn_treetext.specs.Place.{IsTextOf}
 use Rattle.csn_treetext.specs.reader.Machine.{with_tree, step}
 use Rattle.csn_treetext.proofs.Fitting.{room_for}
@@ -40,7 +41,7 @@ first_other First b = record { byte = 98; behind = bit_digits b; is = refl; othe
 first_other Second [] = record { byte = 98; behind = []; is = refl; other = refl }
 first_other Second (x ∷ b) = record { byte = 120; behind = written (x ∷ b); is = refl; other = refl }
 
-first_byte : (version : Version) (t : TreeV) → HasParts t → FirstByte (text_of version t)
+first_byte : (version : Version) (t : TreeV) → HasTreeParts t → FirstByte (text_of version t)
 first_byte version empty h = record { byte = 46; behind = []; is = refl; other = refl }
 first_byte version (bits b) h = elim (cases_Bool (is_short b)) [
   | inl short ↦ (
@@ -77,7 +78,7 @@ list_back none = refl
 list_back (more t ts) = ap (λ us. more t us) (list_back ts)
 
 mutual
-  pub tree_run : (version : Version) (t : TreeV) (stack : List Frame) → FitsInside (length stack) t → HasParts t → (rest : List ℕ) → Stops rest → run version (At Start stack) (text_of version t ++ rest) ≡ run version (Some (with_tree stack t)) rest
+  pub tree_run : (version : Version) (t : TreeV) (stack : List Frame) → FitsInside (length stack) t → HasTreeParts t → (rest : List ℕ) → Stops rest → run version (At Start stack) (text_of version t ++ rest) ≡ run version (Some (with_tree stack t)) rest
   tree_run version empty stack fits parts rest stops = refl
   tree_run version (bits b) stack fits parts rest stops = leaf_run version stack b parts.0 parts.1 rest stops
   tree_run version (row none) stack fits parts rest stops = refl
@@ -105,7 +106,7 @@ mutual
       ∙ label_run version stack l low parts.0 (text_of version t ++ rest)
       ∙ tree_run version t (Named l ∷ stack) fits parts.1 rest stops
 
-  rows_run : (version : Version) (ts : Trees) (stack : List Frame) (before : List TreeV) → AllFitInside (suc (length stack)) ts → AllHaveParts ts → (rest : List ℕ) → run version (At Behind (Row before ∷ stack)) (rest_text version ts ++ 93 ∷ rest) ≡ run version (Some (with_tree stack (row (trees_of (before ++ list_of ts))))) rest
+  rows_run : (version : Version) (ts : Trees) (stack : List Frame) (before : List TreeV) → AllFitInside (suc (length stack)) ts → AllHaveTreeParts ts → (rest : List ℕ) → run version (At Behind (Row before ∷ stack)) (rest_text version ts ++ 93 ∷ rest) ≡ run version (Some (with_tree stack (row (trees_of (before ++ list_of ts))))) rest
   rows_run version none stack before fit have rest =
       ap (λ us. run version (Some (with_tree stack (row (trees_of us)))) rest) (sym (append-nil before))
   rows_run version (more t ts) stack before fit have rest =

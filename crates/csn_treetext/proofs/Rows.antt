@@ -4,7 +4,7 @@ use Rattle.csn_desc.specs.TreeV.{TreeV, trees_of}
 use Rattle.csn_desc.specs.TreeCode.{tree_size, rows_size}
 use Rattle.csn_treetext.specs.declared.version.Version.{Version}
 use Rattle.csn_treetext.specs.Text.{text_of, row_text, rest_text}
-use Rattle.csn_treetext.specs.Fits.{HasParts, AllHaveParts}
+use Rattle.csn_desc.specs.TreeParts.{HasTreeParts, AllHaveTreeParts}
 
 -- a tree of a row is smaller than the row
 pub member_size : (trees : List TreeV) (at : ℕ) (t : TreeV) → slice_get trees at ≡ Some t → tree_size t < rows_size trees
@@ -40,9 +40,9 @@ row_text-push version u ts t =
     ap (λ l. text_of version u ++ l) (rest_text-push version ts t)
     ∙ sym (append_assoc (text_of version u) (rest_text version (trees_of ts)) (32 ∷ text_of version t))
 
-pub AllHaveParts-push : (ts : List TreeV) (t : TreeV) → AllHaveParts (trees_of ts) → HasParts t → AllHaveParts (trees_of (ts ++ t ∷ []))
-AllHaveParts-push [] t all this = (this, tt)
-AllHaveParts-push (u ∷ ts) t all this = (all.0, AllHaveParts-push ts t all.1 this)
+pub AllHaveTreeParts-push : (ts : List TreeV) (t : TreeV) → AllHaveTreeParts (trees_of ts) → HasTreeParts t → AllHaveTreeParts (trees_of (ts ++ t ∷ []))
+AllHaveTreeParts-push [] t all this = (this, tt)
+AllHaveTreeParts-push (u ∷ ts) t all this = (all.0, AllHaveTreeParts-push ts t all.1 this)
 
 -- what is written after the first tree of a row, and after one more
 pub wrote_first : (version : Version) (before after : List ℕ) (trees : List TreeV) (at : ℕ) (t : TreeV) → slice_get trees at ≡ Some t → at ≡ 0
@@ -69,7 +69,7 @@ wrote_next version before after (u ∷ trees) (suc at) t h some wrote =
     ∙ ap (λ l. after ++ 91 ∷ row_text version (trees_of l)) (sym next)
     ∙ ap (λ n. after ++ 91 ∷ row_text version (trees_of (take n (u ∷ trees)))) (sym count)
 
-pub have_next : (trees : List TreeV) (at : ℕ) (t : TreeV) → slice_get trees at ≡ Some t → AllHaveParts (trees_of (take at trees)) → HasParts t → AllHaveParts (trees_of (take (at + 1) trees))
+pub have_next : (trees : List TreeV) (at : ℕ) (t : TreeV) → slice_get trees at ≡ Some t → AllHaveTreeParts (trees_of (take at trees)) → HasTreeParts t → AllHaveTreeParts (trees_of (take (at + 1) trees))
 have_next trees at t h all this =
     let count : at + 1 ≡ suc at = omega arith in
-    rw count (rw (take_next trees at t h) (AllHaveParts-push (take at trees) t all this))
+    rw count (rw (take_next trees at t h) (AllHaveTreeParts-push (take at trees) t all this))

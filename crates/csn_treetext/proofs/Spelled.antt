@@ -12,7 +12,8 @@ use Rattle.csn_treetext.specs.declared.stack.Frame.TheVariants.{Row, Alt, Named}
 use Rattle.csn_treetext.specs.declared.mode.Mode.{Mode}
 use Rattle.csn_treetext.specs.declared.mode.Mode.TheVariants.{Start, Opened, Behind, Done, Width, Quote, Value, Hash, Number, Name, NameEnd, Octets, Slash, Bare}
 use Rattle.csn_treetext.specs.Text.{text_of, row_text, rest_text, bit_digits}
-use Rattle.csn_treetext.specs.Fits.{FitsInside, AllFitInside, HasParts, AllHaveParts}
+use Rattle.csn_desc.specs.TreeParts.{HasTreeParts, AllHaveTreeParts}
+use Rattle.csn_treetext.specs.Fits.{FitsInside, AllFitInside}
 use Rattle.csn_treetext.specs.reader.Machine.{State, IsMode, with_tree}
 use Rattle.csn_treetext.proofs.Rows.{row_text-one, row_text-push}
 
@@ -61,7 +62,7 @@ spelled version (Bare b) stack = before version stack ++ 98 ∷ bit_digits b
 
 pub record IsTree (round : ℕ) (t : TreeV) : Type 0 where
   pub fits : FitsInside round t
-  pub parts : HasParts t
+  pub parts : HasTreeParts t
 
 abbrev pub AreTrees : ℕ → List TreeV → Type 0
 AreTrees round [] = Unit {0}
@@ -119,7 +120,7 @@ all_fit : (round : ℕ) (ts : List TreeV) → AreTrees round ts → AllFitInside
 all_fit round [] are = tt
 all_fit round (t ∷ ts) are = (are.0.fits, all_fit round ts are.1)
 
-all_have : (round : ℕ) (ts : List TreeV) → AreTrees round ts → AllHaveParts (trees_of ts)
+all_have : (round : ℕ) (ts : List TreeV) → AreTrees round ts → AllHaveTreeParts (trees_of ts)
 all_have round [] are = tt
 all_have round (t ∷ ts) are = (are.0.parts, all_have round ts are.1)
 

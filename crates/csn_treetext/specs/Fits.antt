@@ -1,7 +1,5 @@
 -- Which trees have a text. The bounds are this project's own.
-use Rattle.std.specs.Prelude.{ℕ, suc, ◌<◌, ◌≤◌, length}
-use Rattle.csn_bits.specs.Octets.{IsBits}
-use Rattle.csn_desc.specs.Label.{IsLabel}
+use Rattle.std.specs.Prelude.{ℕ, suc, ◌<◌}
 use Rattle.csn_desc.specs.TreeV.{TreeV, empty, bits, row, alt, named, Trees, none, more}
 
 -- a tree with `round` levels round it reaches down to level 64 at most, where the outermost is level 1,
@@ -21,17 +19,3 @@ abbrev mutual
 -- the tree has at most 64 levels, and alternatives below 16,384
 abbrev pub Fits : TreeV → Type 0
 Fits t = FitsInside 0 t
-
--- the leaves are bits, as many as a block has at most, and the labels are labels: so it is with every
--- tree of a program
-abbrev mutual
-  pub HasParts : TreeV → Type 0
-  HasParts empty = Unit {0}
-  HasParts (bits b) = IsBits b × (length b ≤ 524288)
-  HasParts (row ts) = AllHaveParts ts
-  HasParts (alt j t) = HasParts t
-  HasParts (named l t) = IsLabel l × HasParts t
-
-  pub AllHaveParts : Trees → Type 0
-  AllHaveParts none = Unit {0}
-  AllHaveParts (more t ts) = HasParts t × AllHaveParts ts

@@ -6,12 +6,13 @@ use Rattle.csn_treetext.specs.declared.version.Version.TheVariants.{First, Secon
 use Rattle.csn_treetext.specs.declared.fault.TextFault.{TextFault}
 use Rattle.csn_treetext.specs.declared.fault.TextFault.TheVariants.{Place, NoMemory}
 use Rattle.csn_treetext.specs.Text.{text_of}
-use Rattle.csn_treetext.specs.Fits.{Fits, HasParts}
+use Rattle.csn_desc.specs.TreeParts.{HasTreeParts}
+use Rattle.csn_treetext.specs.Fits.{Fits}
 
 -- these bytes are the text of the tree in a version
 pub record IsTextOf (version : Version) (t : TreeV) (text : List ℕ) : Type 0 where
   pub fits : Fits t
-  pub parts : HasParts t
+  pub parts : HasTreeParts t
   pub spelled : text ≡ text_of version t
 
 -- the text of a tree as it is written today, and as it was before

@@ -4,7 +4,8 @@ ghost use Rattle.csn_bits.specs.Octets.{IsBits};
 ghost use Rattle.csn_desc.specs.Values.{number_of};
 ghost use Rattle.csn_treetext.specs.declared.version.Version.TheVariants.{Second};
 ghost use Rattle.csn_treetext.specs.Text.{leaf_text, text_of};
-ghost use Rattle.csn_treetext.specs.Fits.{Fits, HasParts};
+ghost use Rattle.csn_desc.specs.TreeParts.{HasTreeParts};
+ghost use Rattle.csn_treetext.specs.Fits.{Fits};
 ghost use Rattle.csn_treetext.specs.Place.{TreeText};
 
 use csn_bits::{Bits, NoMemory};
@@ -24,7 +25,7 @@ pub fn write_tree(alloc: Global, tree: &Tree) -> Result<Vec<u8>, NoMemory>
 
 fn push_tree(out: &mut Vec<u8>, tree: &Tree) -> Result<(), NoMemory>
     ensures text { OnOk result (out.new.items ≡ out.old.items ++ text_of Second tree.now) }
-    ensures parts { OnOk result (HasParts tree.now) }
+    ensures parts { OnOk result (HasTreeParts tree.now) }
 {
     match &tree.shape {
         Shape::Empty => out.push(b'.')?,
