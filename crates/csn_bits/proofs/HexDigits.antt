@@ -1,9 +1,9 @@
--- Hexadecimal digits, as the crate hex reads them.
-use Rattle.std.proofs.Common.{◌≡◌, ℕ, ◌<◌, nat_lt, nat_le, Bool, true, false, [], ◌∷◌, get_or, Option, Some, None, refl, ap, arith}
+-- Hexadecimal digits, as the crate hex reads and writes them. Other crates cite this.
+use Rattle.std.proofs.Common.{◌≡◌, ℕ, ◌/◌, ◌%◌, ◌<◌, nat_lt, nat_le, Bool, true, false, List, [], ◌∷◌, ◌++◌, get_or, slice_index, Option, Some, None, refl, ap, arith}
 use Rattle.std.specs.Prelude.{MatchResult}
 use Rattle.std.specs.Option.{ForSome}
 use Rattle.std.proofs.lemmas.Bool.{agree_below_at, and_right, lt-leb, ltb-true}
-use Rattle.hex.specs.Hex.{decode_sized, hex_digit_value, is_hex_digit}
+use Rattle.hex.specs.Hex.{decode_sized, encode_upper, encode_with, hex_digit_value, is_hex_digit, upper_digits}
 use Rattle.hex.proofs.OnLiterals.{hex_on_literals}
 
 -- no byte from 103 on is a digit
@@ -39,3 +39,9 @@ small_from None h = λ x is. absurd (cc)
 
 pub value_small : (byte : ℕ) → byte < 256 → ForSome (hex_digit_value byte) (λ value. value < 16)
 value_small byte low = small_from (hex_digit_value byte) (agree_below_at (λ b. is_small (hex_digit_value b)) (λ _. true) 256 byte refl low)
+
+-- the digits of some octets and then others
+pub encode_upper-append : (front back : List ℕ) → encode_upper (front ++ back) ≡ encode_upper front ++ encode_upper back
+unfolding encode_with
+encode_upper-append [] back = refl
+encode_upper-append (o ∷ front) back = ap (λ l. slice_index upper_digits (o / 16) ∷ slice_index upper_digits (o % 16) ∷ l) (encode_upper-append front back)

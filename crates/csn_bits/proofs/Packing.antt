@@ -1,6 +1,8 @@
--- Bits into octets and back.
-use Rattle.std.proofs.Common.{◌≡◌, ℕ, zero, suc, ◌+◌, ◌-◌, ◌*◌, ◌/◌, ◌%◌, ◌^◌, ◌<◌, ◌≤◌, List, [], ◌∷◌, ◌++◌, length, take, drop, set, get_or, slice_index, refl, sym, ap, ◌∙◌, arith, length-append}
+-- Bits into octets and back. Other crates cite this.
+use Rattle.std.proofs.Common.{◌≡◌, ℕ, zero, suc, ◌+◌, ◌-◌, ◌*◌, ◌/◌, ◌%◌, ◌^◌, ◌<◌, ◌≤◌, List, [], ◌∷◌, ◌++◌, length, take, drop, set, get_or, slice_index, refl, sym, ap, ◌∙◌, arith, length-append, append_assoc}
+use Rattle.std.specs.Prelude.{replicate}
 use Rattle.std.proofs.lemmas.List.{length-take-le, get_or-take, get_or_read, get_or-set_same, set_split, take-take, drop_all}
+use Rattle.std.proofs.Math.Seq.{drop-append-add}
 use Rattle.csn_bits.specs.Octets.{IsBits, IsPacked, bits_of_octet, bits_of_octets, octet_of, octets_of}
 
 -- an octet of eight bits has these bits
@@ -121,6 +123,10 @@ pub IsBits-append : (front back : List ℕ) → IsBits front → IsBits back →
 IsBits-append [] back s t = t
 IsBits-append (bit ∷ front) back s t = (s.0, IsBits-append front back s.1 t)
 
+pub IsBits-zeros : (n : ℕ) → IsBits (replicate n 0)
+IsBits-zeros zero = tt
+IsBits-zeros (suc n) = (omega arith, IsBits-zeros n)
+
 pub IsBits-take : (n : ℕ) (bits : List ℕ) → IsBits bits → IsBits (take n bits)
 IsBits-take zero bits s = tt
 IsBits-take (suc n) [] s = tt
@@ -143,6 +149,28 @@ IsBits-bits_of_octets (n ∷ rest) small =
 pub length-bits_of_octets : (octets : List ℕ) → length (bits_of_octets octets) ≡ 8 * length octets
 length-bits_of_octets [] = refl
 length-bits_of_octets (n ∷ rest) = let later = length-bits_of_octets rest in omega (arith, later)
+
+-- some octets and then others
+pub bits_of_octets-append : (front back : List ℕ) → bits_of_octets (front ++ back) ≡ bits_of_octets front ++ bits_of_octets back
+bits_of_octets-append [] back = refl
+bits_of_octets-append (o ∷ front) back =
+    ap (λ (l : List ℕ). bits_of_octet o ++ l) (bits_of_octets-append front back)
+    ∙ sym (append_assoc (bits_of_octet o) (bits_of_octets front) (bits_of_octets back))
+
+-- the bits behind the first octets
+pub drop-bits_of_octets : (k : ℕ) (octets : List ℕ) → drop (8 * k) (bits_of_octets octets) ≡ bits_of_octets (drop k octets)
+drop-bits_of_octets zero octets = refl
+drop-bits_of_octets (suc k) [] = drop_all (8 * suc k) [] (omega arith)
+drop-bits_of_octets (suc k) (o ∷ rest) =
+    let eight : 8 * suc k ≡ 8 + 8 * k = omega arith in
+    rw eight (drop-append-add (bits_of_octet o) (bits_of_octets rest) (8 * k) ∙ drop-bits_of_octets k rest)
+
+-- bits that fill octets, and then others
+pub octets_of-append : (front back : List ℕ) → length front % 8 ≡ 0 → octets_of (front ++ back) ≡ octets_of front ++ octets_of back
+octets_of-append [] back whole = refl
+octets_of-append (a ∷ b ∷ c ∷ d ∷ e ∷ f ∷ g ∷ h ∷ rest) back whole =
+    ap (λ (l : List ℕ). octet_of (a ∷ b ∷ c ∷ d ∷ e ∷ f ∷ g ∷ h ∷ []) ∷ l) (octets_of-append rest back (omega arith))
+octets_of-append few back whole = absurd (omega arith)
 
 -- the octet that has all bits of an octet, or all but the last of them as zeros
 pub octet_of-bits_of_octet : (n : ℕ) → octet_of (bits_of_octet n) ≡ n

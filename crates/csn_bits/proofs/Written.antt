@@ -71,11 +71,11 @@ AreOctets-take (suc n) (o ∷ rest) bytes (suc k) = AreOctets-take n rest (λ i.
 
 -- ---- the octets of a block
 
-octets_of-append : (front bits : List ℕ) → octets_of (bits_of_octets front ++ bits) ≡ front ++ octets_of bits
-octets_of-append [] bits = refl
-octets_of-append (n ∷ front) bits =
+octets_of-behind : (front bits : List ℕ) → octets_of (bits_of_octets front ++ bits) ≡ front ++ octets_of bits
+octets_of-behind [] bits = refl
+octets_of-behind (n ∷ front) bits =
     ap (λ (m : ℕ). m ∷ octets_of (bits_of_octets front ++ bits)) (octet_of-bits_of_octet n)
-    ∙ ap (λ (l : List ℕ). n ∷ l) (octets_of-append front bits)
+    ∙ ap (λ (l : List ℕ). n ∷ l) (octets_of-behind front bits)
 
 octets_of-last : (octet used : ℕ) → 1 ≤ used → used ≤ 8 → octet % 2 ^ (8 - used) ≡ 0 → octets_of (take used (bits_of_octet octet)) ≡ octet ∷ []
 octets_of-last octet zero some few h = absurd (omega arith)
@@ -156,7 +156,7 @@ block_line digits tail octet used w zeros fits =
     let len : length bits ≡ 8 * length front + used =
     length-append (bits_of_octets front) (take used (bits_of_octet octet)) ∙ (let m = length-bits_of_octets front in omega arith) in
     let packed : octets_of bits ≡ octets =
-    octets_of-append front (take used (bits_of_octet octet))
+    octets_of-behind front (take used (bits_of_octet octet))
     ∙ ap (λ (l : List ℕ). front ++ l) (octets_of-last octet used w.some w.few zeros) ∙ sym parts in
     rw given (record {
       zeros_and_ones =
@@ -186,7 +186,7 @@ packs_line line octet used e =
     let len : length bits ≡ 8 * length given + used =
     length-append (bits_of_octets given) (take used (bits_of_octet octet)) ∙ (let m = length-bits_of_octets given in omega arith) in
     let exact : given ++ octet ∷ [] ≡ octets_of bits =
-    sym (octets_of-append given (take used (bits_of_octet octet)) ∙ ap (λ (l : List ℕ). given ++ l) e.filled) in
+    sym (octets_of-behind given (take used (bits_of_octet octet)) ∙ ap (λ (l : List ℕ). given ++ l) e.filled) in
     packs_from _ bits _ exact (sym len) e.spelled.zeros_and_ones (let h = e.spelled.few in omega arith)
 
 -- a feed gives no more octets than a block has

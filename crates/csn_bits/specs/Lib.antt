@@ -1,4 +1,5 @@
 pub mod Octets
+pub mod Numbers
 pub mod Line
 pub mod Feed
 pub mod Fault

@@ -14,11 +14,12 @@ use Rattle.csn_desc.specs.Values.{Values, value_of, count_of, with_value}
 use Rattle.csn_desc.specs.Means.{NMeans, NodeMeans, PartsMean, TimesMean, ManyMean, LeadMean, means_at, means_lits, means_spare, means_pad, means_null, means_field, means_rest, means_seq, means_choice, means_times, means_many, means_cut, means_trunc, means_named, parts_end, parts_next, times_end, times_next, many_end, many_next, lead_last, lead_next}
 use Rattle.csn_desc.specs.Follows.{NFollow, NodeFollows, PartsFollow, TimesFollow, ManyFollow, follows_at, follows_whole, follows_lits, follows_spare, follows_pad, follows_field, follows_seq, follows_choice, follows_times, follows_many, follows_trunc, follows_window, follows_named, parts_here, parts_later, times_here, times_later, many_here, many_later}
 use Rattle.csn_desc.specs.Formed.{IsCount, shows_earlier, Formed, PartsFormed, formed, formed_end, formed_next, HaveValues, IsDescription}
-use Rattle.csn_desc.proofs.Empties.{nothing_seen, is_spare, IsBits-zeros}
+use Rattle.csn_desc.proofs.Empties.{nothing_seen, is_spare}
 use Rattle.csn_desc.proofs.ValuesKept.{values_kept}
 use Rattle.csn_look.proofs.NearFacts.{held_along}
 use Rattle.csn_look.proofs.KeyFollowed.{choice_formed}
 use Rattle.csn_certify.specs.Laws.{HasNoWindow}
+use Rattle.csn_bits.proofs.Packing.{IsBits-zeros}
 
 -- a count that stands on a field with a value is a number
 record Number (v : Values) (count : Count) : Type 0 where

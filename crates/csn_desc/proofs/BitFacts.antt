@@ -1,5 +1,5 @@
--- Zeros and ones.
-use Rattle.std.proofs.Common.{◌≡◌, ℕ, suc, ◌≤◌, List, [], ◌∷◌, ◌++◌, length, sym, arith, subst, lit<}
+-- Zeros and ones, and the bits of literals and spare parts. Other crates cite this.
+use Rattle.std.proofs.Common.{◌≡◌, ℕ, suc, ◌≤◌, List, [], ◌∷◌, ◌++◌, length, refl, sym, ap, arith, subst, lit<}
 use Rattle.std.specs.Prelude.{replicate}
 use Rattle.csn_bits.specs.Octets.{IsBits, bits_of_octet, pattern, octet_position}
 use Rattle.csn_bits.proofs.Packing.{IsBits-at, IsBits-bits_of_octet}
@@ -28,6 +28,11 @@ symbol_bit-le-one High place = omega arith
 pub IsBits-spelled : (run : List Symbol) (place : ℕ) → IsBits (spelled run place)
 IsBits-spelled [] place = tt
 IsBits-spelled (s ∷ run) place = (symbol_bit-le-one s place, IsBits-spelled run (suc place))
+
+-- a literal has a bit for each symbol
+pub length-spelled : (run : List Symbol) (place : ℕ) → length (spelled run place) ≡ length run
+length-spelled [] place = refl
+length-spelled (s ∷ run) place = ap suc (length-spelled run (suc place))
 
 pub IsBits-spare : (r : Reading) (s : Symbol) (place : ℕ) (b : List ℕ) → IsSpare r s place b → IsBits b
 IsBits-spare Received s place b p = p

@@ -2,7 +2,7 @@
 use Rattle.std.proofs.Common.{◌≡◌, ℕ, zero, suc, ◌+◌, ◌*◌, List, [], ◌∷◌, refl, arith, Some, None}
 use Rattle.std.specs.Prelude.{replicate, IsSome}
 use Rattle.std.proofs.lemmas.List.{length-replicate}
-use Rattle.csn_bits.specs.Octets.{IsBits}
+use Rattle.csn_bits.proofs.Packing.{IsBits-zeros}
 use Rattle.csn_desc.specs.declared.reading.Reading.{Reading}
 use Rattle.csn_desc.specs.declared.reading.Reading.TheVariants.{Received, Sent}
 use Rattle.csn_desc.specs.declared.symbol.Symbol.{Symbol}
@@ -19,10 +19,6 @@ use Rattle.csn_desc.specs.Means.{means_lits, means_spare, means_pad, means_null,
 use Rattle.csn_desc.specs.Follows.{NFollow, NodeFollows, follows_at, follows_whole, follows_lits, follows_spare, follows_pad, follows_field, follows_seq, follows_choice, follows_times, follows_window, follows_named, parts_here, times_here}
 use Rattle.csn_desc.specs.Formed.{IsCount, Formed, formed, formed_next, HaveValues}
 use Rattle.csn_desc.proofs.BitFacts.{IsBits-spelled}
-
-pub IsBits-zeros : (n : ℕ) → IsBits (replicate n 0)
-IsBits-zeros zero = tt
-IsBits-zeros (suc n) = (omega arith, IsBits-zeros n)
 
 -- the one bit that every reading takes
 pub is_spare : (r : Reading) (s : Symbol) (o : ℕ) → IsSpare r s o (spelled (s ∷ []) o)

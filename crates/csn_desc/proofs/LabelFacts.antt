@@ -1,4 +1,4 @@
--- Words with one space between are a label.
+-- Words with one space between are a label. Other crates cite this.
 use Rattle.std.proofs.Common.{◌≡◌, ℕ, Bool, true, false, List, [], ◌∷◌, ◌++◌, refl, ◌∙◌, ap, subst}
 use Rattle.std.specs.Prelude.{◌==◌, ◌&&◌, ◌||◌}
 use Rattle.std.specs.List.{All, list_all, slice_split}

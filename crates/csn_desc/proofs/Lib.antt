@@ -5,6 +5,7 @@ pub mod MeantBits
 pub mod Empties
 pub mod Numbering
 pub mod WellFormed
+pub mod Parents
 pub mod WalkFacts
 pub mod OneWalk
 pub mod Nodewise
@@ -21,3 +22,5 @@ pub mod MarkFacts
 pub mod Finishing
 pub mod ValuesKept
 pub mod Placed
+pub mod Decided
+pub mod Places

@@ -1,4 +1,4 @@
--- What a meaning and what a follow says, where the node is known.
+-- What a meaning and what a follow says, where the node is known. Other crates cite this.
 use Rattle.std.proofs.Common.{◌≡◌, ℕ, List, subst, Some}
 use Rattle.std.specs.Prelude.{slice_get}
 use Rattle.csn_desc.specs.declared.node.Node.{Node}

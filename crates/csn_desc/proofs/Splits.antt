@@ -1,4 +1,4 @@
--- Two splits of one list.
+-- Two splits of one list. Other crates cite this.
 use Rattle.std.proofs.Common.{◌≡◌, List, [], ◌∷◌, ◌++◌, refl, sym, ap, subst}
 
 -- where the first piece of one split ends: inside the first piece of the other, or behind it

@@ -5,11 +5,13 @@ use Rattle.std.specs.List.{slice_index_or}
 use Rattle.csn_desc.specs.declared.node.Node.{Node}
 use Rattle.csn_desc.specs.TreeV.{TreeV}
 use Rattle.csn_desc.specs.Nodes.{DescV}
-use Rattle.csn_desc.specs.Values.{Values, number_of, value_of, is_named, with_value}
+use Rattle.csn_bits.specs.Numbers.{number_of}
+use Rattle.csn_desc.specs.Values.{Values, value_of, is_named, with_value}
 use Rattle.csn_desc.specs.Means.{NMeans}
 use Rattle.csn_desc.specs.Formed.{value_width, with_seen, HaveValues, FitWidths}
-use Rattle.csn_desc.proofs.NumberFacts.{number_of-lt, value_has_width}
+use Rattle.csn_desc.proofs.NumberFacts.{value_has_width}
 use Rattle.csn_desc.proofs.MeantBits.{meant_bits}
+use Rattle.csn_bits.proofs.NumberFacts.{number_of-lt}
 
 -- ---- they are there
 

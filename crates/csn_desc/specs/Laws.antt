@@ -1,5 +1,5 @@
 -- Laws over the definitions.
-use Rattle.std.specs.Prelude.{◌≡◌, ℕ, ◌^◌, ◌<◌, List, [], ◌∷◌, ◌++◌, length, true, slice_get, Some}
+use Rattle.std.specs.Prelude.{◌≡◌, ◌⊎◌, ℕ, ◌^◌, ◌<◌, List, [], ◌∷◌, ◌++◌, length, true, slice_get, Some}
 use Rattle.csn_bits.specs.Octets.{IsBits}
 use Rattle.csn_lexer.specs.Word.{IsWord}
 use Rattle.csn_desc.specs.declared.moves.Move.{Move}
@@ -8,9 +8,10 @@ use Rattle.csn_desc.specs.declared.node.Node.{Node}
 use Rattle.csn_desc.specs.TreeV.{TreeV}
 use Rattle.csn_desc.specs.Nodes.{DescV}
 use Rattle.csn_desc.specs.Label.{IsLabel}
-use Rattle.csn_desc.specs.Values.{Values, number_of, count_of, with_value}
+use Rattle.csn_bits.specs.Numbers.{number_of}
+use Rattle.csn_desc.specs.Values.{Values, count_of, with_value}
 use Rattle.csn_desc.specs.Means.{NMeans}
-use Rattle.csn_desc.specs.Follows.{NFollow}
+use Rattle.csn_desc.specs.Follows.{NFollow, IsPlace}
 use Rattle.csn_desc.specs.Walks.{bits_of, Walk}
 use Rattle.csn_desc.specs.Formed.{value_width, IsCount, with_seen, Spans, Formed, HaveValues, FitWidths, IsDescription}
 
@@ -46,6 +47,25 @@ EmptyBitsAreFollowed =
 -- the empty block is followed
 abbrev pub EmptyBlocksAreFollowed : Type 0
 EmptyBlocksAreFollowed = (d : DescV) → IsDescription d → NFollow d 0 0 [] []
+
+-- bits have a tree at a node, or they have none
+abbrev pub MeaningIsDecided : Type 0
+MeaningIsDecided =
+    (d : DescV) (i o end : ℕ) (v : Values) (b : List ℕ) → Spans d.nodes i end
+    → ((t : TreeV) × NMeans d i o v b t) ⊎ (¬ ((t : TreeV) × NMeans d i o v b t))
+
+-- bits are followed by a node, or they are not
+abbrev pub FollowingIsDecided : Type 0
+FollowingIsDecided =
+    (d : DescV) (i o end : ℕ) (v : Values) (b : List ℕ) → Spans d.nodes i end
+    → NFollow d i o v b ⊎ (¬ NFollow d i o v b)
+
+-- a block has a place, and no two
+abbrev pub BlocksHaveAPlace : Type 0
+BlocksHaveAPlace = (d : DescV) (b : List ℕ) → IsDescription d → (place : ℕ) × IsPlace d b place
+
+abbrev pub BlocksHaveOnePlace : Type 0
+BlocksHaveOnePlace = (d : DescV) (b : List ℕ) (m n : ℕ) → IsPlace d b m → IsPlace d b n → m ≡ n
 
 -- a tree of some bits has moves, which take these bits
 abbrev pub TreesHaveMoves : Type 0

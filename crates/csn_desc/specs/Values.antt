@@ -1,17 +1,13 @@
 -- The values of labelled fields, and the counts that stand on them: 3GPP TS 24.007 Annex B writes such
 -- a count `val(Label)`. Which fields a part sees is this project's own choice: the labelled ones among
 -- the earlier parts of each sequence and truncation round it.
-use Rattle.std.specs.Prelude.{ℕ, ◌+◌, ◌*◌, ◌^◌, Bool, true, false, if◌then◌else◌, ◌==◌, List, [], ◌∷◌, length, slice_get, Option, Some, None}
+use Rattle.std.specs.Prelude.{ℕ, ◌+◌, ◌*◌, Bool, true, false, if◌then◌else◌, ◌==◌, List, [], ◌∷◌, slice_get, Option, Some, None}
 use Rattle.std.specs.Option.{option_map}
+use Rattle.csn_bits.specs.Numbers.{number_of}
 use Rattle.csn_desc.specs.declared.node.Count.{Count}
 use Rattle.csn_desc.specs.declared.node.Count.TheVariants.{Fixed, Counted}
 use Rattle.csn_desc.specs.declared.node.Node.{Node}
 use Rattle.csn_desc.specs.declared.node.Node.TheVariants.{Named}
-
--- the number that bits write, the first one most significant
-abbrev pub number_of : List ℕ → ℕ
-number_of [] = 0
-number_of (bit ∷ rest) = bit * 2 ^ length rest + number_of rest
 
 -- the bits of the labelled parts that a part sees, each with the node of its label, the last one first
 abbrev pub Values : Type 0

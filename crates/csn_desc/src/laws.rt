@@ -1,6 +1,6 @@
 //! Laws over the definitions, each the contract of a function that does nothing.
 
-ghost use Rattle.csn_desc.specs.Laws.{PrefixesAreFollowed, StringsAreFollowed, MeaningsAreBits, FollowedAreBits, EmptyBitsAreFollowed, EmptyBlocksAreFollowed, TreesHaveMoves, TreesHaveOneListOfMoves, MovesAreOfOneTree, ValuesHaveTheirWidth, NumbersFitTheirWidth, ValuesStayThere, ValuesStayFitting, NoValuesFit, CountsAreNumbers, NodesAreWellFormed, WordsAreLabels, WordsStandBeforeLabels};
+ghost use Rattle.csn_desc.specs.Laws.{PrefixesAreFollowed, StringsAreFollowed, MeaningsAreBits, FollowedAreBits, EmptyBitsAreFollowed, EmptyBlocksAreFollowed, MeaningIsDecided, FollowingIsDecided, BlocksHaveAPlace, BlocksHaveOnePlace, TreesHaveMoves, TreesHaveOneListOfMoves, MovesAreOfOneTree, ValuesHaveTheirWidth, NumbersFitTheirWidth, ValuesStayThere, ValuesStayFitting, NoValuesFit, CountsAreNumbers, NodesAreWellFormed, WordsAreLabels, WordsStandBeforeLabels};
 
 /// The first few of bits that a node follows are followed by it.
 pub fn prefixes_are_followed()
@@ -23,6 +23,18 @@ pub fn meanings_are_bits()
 pub fn empty_bits_are_followed()
     ensures node { EmptyBitsAreFollowed }
     ensures block { EmptyBlocksAreFollowed }
+{}
+
+/// Bits have a tree at a node or have none, and are followed by it or are not.
+pub fn following_is_decided()
+    ensures meant { MeaningIsDecided }
+    ensures followed { FollowingIsDecided }
+{}
+
+/// A block has exactly one place up to which a description can follow it.
+pub fn blocks_have_one_place()
+    ensures some { BlocksHaveAPlace }
+    ensures one { BlocksHaveOnePlace }
 {}
 
 /// A tree that bits have has moves, and these take the bits; and no tree has two lists of moves at one

@@ -13,10 +13,7 @@ use Rattle.csn_desc.specs.Means.{NMeans, NodeMeans, PartsMean, TimesMean, ManyMe
 use Rattle.csn_encode.specs.declared.misfit.MisfitWhy.{MisfitWhy}
 use Rattle.csn_encode.specs.Misfits.{has_kind, tree_count, kept_with, kept_count, HavePieces, pieces_end, pieces_next, MissesNode, wrong_kind, wrong_label, wrong_seq, wrong_times, wrong_trunc, idle_trunc, wrong_field, wide_spare, no_pad, wrong_spare, wrong_pad, no_alternative, wrong_window, past_lits, past_field, past_rest, past_spare, past_pad, Misses, MissesIn, MissesParts, MissesRepeats, misses_at, misses_here, misses_named, misses_choice, misses_window, misses_seq, misses_trunc, misses_times, misses_many, parts_here, parts_later, repeats_here, repeats_later}
 use Rattle.csn_encode.proofs.OneBits.{one_bits, at_node}
-
-length-spelled : (run : List Symbol) (o : ℕ) → length (spelled run o) ≡ length run
-length-spelled [] o = refl
-length-spelled (s ∷ run) o = ap suc (length-spelled run (suc o))
+use Rattle.csn_desc.proofs.BitFacts.{length-spelled}
 
 pub spare_in : {r q : Reading} (s : Symbol) {o p : ℕ} {b c : List ℕ} → r ≡ q → o ≡ p → b ≡ c → IsSpare r s o b → IsSpare q s p c
 spare_in {r} {q} s {o} {p} {b} {c} reading place same h =

@@ -23,10 +23,7 @@ use Rattle.csn_grammar.specs.Follow.{Follow, RuleFollows, follows_whole, follows
 use Rattle.csn_grammar.specs.Formed.{IsCount, Formed, ItemsFormed, RuleFormed, HaveValues, formed_lits, formed_null, formed_bit, formed_octet, formed_field, formed_rest, formed_spare_bit, formed_spare_low, formed_padding, formed_seq, formed_choice, formed_times, formed_many, formed_cut, formed_window, formed_labelled, formed_name, formed_group, formed_received, formed_sent, formed_end, formed_next, each_next, formed_plain, formed_tail}
 use Rattle.csn_grammar.proofs.VoidFacts.{same_window, same_rule, none_kept, tail_void, spare_bit_full, spare_low_full, padding_full, no_string_full}
 use Rattle.csn_grammar.proofs.Prefixes.{field_leaf, spare_bit_name, spare_low_name, padding_name, ItemsBegun, begun}
-
-IsBits-zeros : (n : ℕ) → IsBits (replicate n 0)
-IsBits-zeros zero = tt
-IsBits-zeros (suc n) = (omega arith, IsBits-zeros n)
+use Rattle.csn_bits.proofs.Packing.{IsBits-zeros}
 
 -- the one bit that every reading takes
 is_spare : (r : Reading) (s : Symbol) (o : ℕ) → IsSpare r s o (spelled (s ∷ []) o)

@@ -10,9 +10,10 @@ use Rattle.csn_desc.specs.Values.{Values, count_of}
 use Rattle.csn_desc.specs.Means.{NMeans, NodeMeans, PartsMean, TimesMean, ManyMean, LeadMean, means_at, means_lits, means_spare, means_pad, means_null, means_field, means_rest, means_seq, means_choice, means_times, means_many, means_cut, means_trunc, means_window, means_named, lead_last}
 use Rattle.csn_desc.specs.Means as mean
 use Rattle.csn_desc.specs.Formed.{FitWidths}
+use Rattle.csn_desc.proofs.BitFacts.{length-spelled}
 use Rattle.csn_desc.proofs.ValuesKept.{fits_kept}
 use Rattle.csn_look.specs.Ends.{InEnds, NodeEnds, PartsEnd, TimesEnd, ManyEnd, LeadEnd, ends_at, ends_lits, ends_spare, ends_null, ends_pad, ends_rest, ends_field, ends_window, ends_seq, ends_choice, ends_times, ends_counted, ends_many, ends_trunc, ends_named, parts_end, parts_next, times_end, times_next, many_end, many_next, lead_end, lead_next}
-use Rattle.csn_look.proofs.ShapeFacts.{NodeIs, Shaped, may_count, octet-on, octet-same, place-split, length-spelled}
+use Rattle.csn_look.proofs.ShapeFacts.{NodeIs, Shaped, may_count, octet-on, octet-same, place-split}
 
 octet-lt : (p : ℕ) → p % 8 < 8
 octet-lt p = omega arith

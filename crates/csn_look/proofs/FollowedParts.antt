@@ -11,7 +11,8 @@ use Rattle.csn_desc.specs.declared.node.Node.{Node}
 use Rattle.csn_desc.specs.declared.node.Node.TheVariants.{Seq, Choice, Times, Many, Trunc, Window, Named}
 use Rattle.csn_desc.specs.Nodes.{DescV, parts_of}
 use Rattle.csn_desc.specs.Formed.{IsDescription}
-use Rattle.csn_desc.proofs.Numbering.{part_from}
+use Rattle.csn_desc.proofs.Numbering.{part_from, span_inside, span_parts}
+use Rattle.csn_desc.proofs.Parents.{one_parent}
 use Rattle.csn_look.specs.declared.following.Following.{Following}
 use Rattle.csn_look.specs.declared.node_sets.NodeSets.{NodeSets}
 use Rattle.csn_look.specs.Told.{OctetsAre}
@@ -28,8 +29,6 @@ use Rattle.csn_look.specs.SignsV.{SignsV}
 use Rattle.csn_look.specs.Signs.{no_signs, with_sign}
 use Rattle.csn_look.proofs.LookFacts.{follow_has}
 use Rattle.csn_look.proofs.Telling.{both, back, truth, PartsSetsAre}
-use Rattle.csn_look.proofs.Spanned.{span_inside, span_parts}
-use Rattle.csn_look.proofs.Parents.{one_parent}
 use Rattle.csn_look.proofs.ReachedParts.{single}
 use Rattle.csn_look.proofs.Puts.{get_put_same, get_put_other, middle_get, middle_drop, split_drop}
 

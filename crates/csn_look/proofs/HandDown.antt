@@ -7,10 +7,9 @@ use Rattle.std.proofs.lemmas.Option.{slice_get_within}
 use Rattle.csn_desc.specs.declared.node.Node.{Node}
 use Rattle.csn_desc.specs.Nodes.{DescV, parts_of}
 use Rattle.csn_desc.specs.Formed.{IsDescription}
-use Rattle.csn_desc.proofs.Numbering.{span_grows, part_from}
+use Rattle.csn_desc.proofs.Numbering.{span_grows, part_from, span_inside, span_parts}
+use Rattle.csn_desc.proofs.Parents.{one_parent, parent_of}
 use Rattle.csn_look.specs.Steps.{KeepsOthers, HasRight}
-use Rattle.csn_look.proofs.Spanned.{span_inside, span_parts}
-use Rattle.csn_look.proofs.Parents.{one_parent, parent_of}
 use Rattle.csn_look.proofs.Puts.{get_put_same}
 
 pub record Handed {A : Type 0} (Right : ℕ → A → Type 0) (d : DescV) (k : ℕ) (table : List A) : Type 0 where

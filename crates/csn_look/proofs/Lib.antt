@@ -20,7 +20,6 @@ pub mod LabelsTell
 pub mod Spanned
 pub mod LookFacts
 pub mod Puts
-pub mod Parents
 pub mod HandDown
 pub mod ReachedParts
 pub mod FollowedParts

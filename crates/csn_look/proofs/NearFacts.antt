@@ -15,10 +15,11 @@ use Rattle.csn_desc.specs.Values.{Values, count_of}
 use Rattle.csn_desc.specs.Follows.{NFollow, NodeFollows, PartsFollow, TimesFollow, follows_at, follows_whole, follows_lits, follows_spare, follows_pad, follows_field, follows_seq, follows_choice, follows_times, follows_many, follows_trunc, follows_window, follows_named, parts_here, parts_later, times_here, times_later}
 use Rattle.csn_desc.specs.Formed.{shows_earlier, Formed, PartsFormed, formed, formed_end, formed_next}
 use Rattle.csn_desc.proofs.Splits.{splits, inside, behind}
-use Rattle.csn_desc.proofs.Empties.{is_spare, IsBits-zeros}
+use Rattle.csn_desc.proofs.Empties.{is_spare}
 use Rattle.csn_look.specs.Keys.{Cut, kept, cut, InKeys, NodeKeys, PartsKeys, TimesKeys, keys_at, keys_lits, keys_spare, keys_field, keys_pad, keys_null, keys_rest, keys_many, keys_trunc, keys_window, keys_counted_field, keys_counted_times, keys_seq, keys_times, keys_choice, keys_named, parts_none, parts_cut, parts_whole, times_none, times_cut, times_whole}
 use Rattle.csn_look.specs.Beginnings.{Begun, Near, near_begun, near_within}
 use Rattle.csn_look.proofs.KeyFacts.{keys, node_keys, as_key, unread, octet_word, marked_key, whole_word, cut_first, both_words}
+use Rattle.csn_bits.proofs.Packing.{IsBits-zeros}
 
 -- ---- there is a key
 

@@ -5,21 +5,11 @@ use Rattle.std.proofs.lemmas.Bool.{cases_order}
 use Rattle.std.proofs.lemmas.List.{length-take}
 use Rattle.std.proofs.lemmas.Nat.{pow-add, pow_pos}
 use Rattle.csn_bits.specs.Octets.{IsBits}
+use Rattle.csn_bits.proofs.NumberFacts.{number_of-push, number_of-append, number_of-lt, number_of-same}
 use Rattle.csn_bits.proofs.Packing.{IsBits-append, IsBits-take}
 use Rattle.csn_desc.proofs.BitFacts.{IsBits-front}
-use Rattle.csn_desc.specs.Values.{number_of}
-use Rattle.csn_desc.proofs.NumberFacts.{number_of-push, number_of-lt}
+use Rattle.csn_bits.specs.Numbers.{number_of}
 use Rattle.csn_look.specs.KeyMarks.{IsWord, place_of}
-
--- the number of some bits and then others
-pub number_of-append : (a b : List ℕ) → number_of (a ++ b) ≡ number_of a * 2 ^ length b + number_of b
-number_of-append [] b = omega arith
-number_of-append (x ∷ a) b =
-    let powers : 2 ^ length (a ++ b) ≡ 2 ^ length a * 2 ^ length b = ap (λ n. 2 ^ n) (length-append a b) ∙ pow-add 2 (length a) (length b) in
-    rw (powers, number_of-append a b) (product x (2 ^ length a) (2 ^ length b) (number_of a) (number_of b))
-  where
-    product : (x p q m n : ℕ) → x * (p * q) + (m * q + n) ≡ (x * p + m) * q + n
-    product x p q m n = omega arith
 
 pub place_of-append : (a b : List ℕ) → place_of (a ++ b) ≡ place_of a * 2 ^ length b + number_of b
 place_of-append a b = number_of-append (1 ∷ a) b
@@ -45,30 +35,6 @@ place_of-small a h = below (length a) h.short (place_of-most a h.bits)
         let longer : suc n ≤ 13 = omega arith in
         let power : 2 ^ suc n ≤ 8192 = pow-le-pow_right {n = 2} (omega arith) longer in
         omega arith
-
-pub number_of-same : (a b : List ℕ) → IsBits a → IsBits b → length a ≡ length b → number_of a ≡ number_of b → a ≡ b
-number_of-same [] [] h k l n = refl
-number_of-same [] (y ∷ b) h k l n = absurd (omega (arith, l))
-number_of-same (x ∷ a) [] h k l n = absurd (omega (arith, l))
-number_of-same (x ∷ a) (y ∷ b) h k l n =
-    let same : length a ≡ length b = omega (arith, l) in
-    let big : x * 2 ^ length a + number_of a ≡ y * 2 ^ length a + number_of b = n ∙ ap (λ m. y * 2 ^ m + number_of b) (sym same) in
-    let low : number_of b < 2 ^ length a = rw same (number_of-lt b k.1) in
-    let heads : x ≡ y = head x y (2 ^ length a) (number_of a) (number_of b) h.0 k.0 (number_of-lt a h.1) low big in
-    let tails : number_of a ≡ number_of b = tail x y (2 ^ length a) (number_of a) (number_of b) heads big in
-    let rest : a ≡ b = number_of-same a b h.1 k.1 same tails in
-    cc
-  where
-    head : (x y p m n : ℕ) → x ≤ 1 → y ≤ 1 → m < p → n < p → x * p + m ≡ y * p + n → x ≡ y
-    head zero zero p m n s t a b e = refl
-    head zero (suc zero) p m n s t a b e = absurd (omega arith)
-    head (suc zero) zero p m n s t a b e = absurd (omega arith)
-    head (suc zero) (suc zero) p m n s t a b e = refl
-    head (suc (suc x)) y p m n s t a b e = absurd (omega arith)
-    head x (suc (suc y)) p m n s t a b e = absurd (omega arith)
-
-    tail : (x y p m n : ℕ) → x ≡ y → x * p + m ≡ y * p + n → m ≡ n
-    tail x y p m n e big = let more : y * p + m ≡ y * p + n = ap (λ z. z * p + m) (sym e) ∙ big in omega arith
 
 -- words with one place are one
 pub place_of-same : (a b : List ℕ) → IsBits a → IsBits b → place_of a ≡ place_of b → a ≡ b

@@ -4,15 +4,15 @@ use Rattle.std.proofs.Math.Nat.{pow-le-pow_right, mul-le-mul_left}
 use Rattle.std.proofs.lemmas.Nat.{pow-add}
 use Rattle.std.proofs.lemmas.List.{take-append-le, take_all}
 use Rattle.csn_bits.specs.Octets.{IsBits}
+use Rattle.csn_bits.proofs.NumberFacts.{number_of-same, number_of-lt}
 use Rattle.csn_bits.proofs.Packing.{IsBits-append}
-use Rattle.csn_desc.specs.Values.{number_of}
-use Rattle.csn_desc.proofs.NumberFacts.{number_of-lt}
+use Rattle.csn_bits.specs.Numbers.{number_of}
 use Rattle.csn_look.specs.Keys.{Cut, kept, cut}
 use Rattle.csn_look.specs.KeyMarks.{IsWord, is_marked, place_of, has_key}
 use Rattle.csn_look.specs.KeyTables.{IsKeyTable, AddsKey}
 use Rattle.csn_look.specs.KeyProducts.{AfterKeys, after_cut, after_whole}
 use Rattle.csn_look.specs.KeySteps.{Extends, IsBehind, IsShortBehind, IsKeyBehind, IsAfter}
-use Rattle.csn_look.proofs.Places.{place_of-append, number_of-same, numbered}
+use Rattle.csn_look.proofs.Places.{place_of-append, numbered}
 use Rattle.csn_look.proofs.Extensions.{extends_none, extends_key, extends_then, extends_same}
 
 pub bits_back : (a b : List ℕ) → IsBits (a ++ b) → IsBits b

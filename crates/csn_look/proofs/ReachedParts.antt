@@ -13,7 +13,8 @@ use Rattle.csn_desc.specs.declared.node.Node.{Node}
 use Rattle.csn_desc.specs.declared.node.Node.TheVariants.{Seq, Choice, Times, Many, Trunc, Window, Named}
 use Rattle.csn_desc.specs.Nodes.{DescV, parts_of}
 use Rattle.csn_desc.specs.Formed.{IsDescription}
-use Rattle.csn_desc.proofs.Numbering.{part_from}
+use Rattle.csn_desc.proofs.Numbering.{part_from, span_inside, span_parts, part_before}
+use Rattle.csn_desc.proofs.Parents.{one_parent}
 use Rattle.csn_look.specs.Told.{OctetsAre}
 use Rattle.csn_look.specs.Sums.{Has, IsSum, SumOf, sum_none, sum_next}
 use Rattle.csn_look.specs.NodeSets.{LengthsAre}
@@ -22,8 +23,6 @@ use Rattle.csn_look.specs.Reached.{Reached, PartReached, reached_root, reached_p
 use Rattle.csn_look.specs.ReachV.{HasAt}
 use Rattle.csn_look.specs.Steps.{IsStep, HasSteps, KeepsOthers, HasPartsOnce, HasPartsBelow}
 use Rattle.csn_look.proofs.ReachFacts.{parts_end_more}
-use Rattle.csn_look.proofs.Spanned.{span_inside, span_parts, part_before}
-use Rattle.csn_look.proofs.Parents.{one_parent}
 use Rattle.csn_look.proofs.Puts.{get_put_same, get_put_other, middle_get, middle_take, split_at, take_more}
 use Rattle.csn_look.proofs.Octets.{has_insert, has_none, sum_small}
 use Rattle.csn_look.proofs.RepetitionsTell.{times_of, sum_of_times}

@@ -6,7 +6,7 @@ use Rattle.std.proofs.lemmas.Bool.Decides.{leb_tells}
 use Rattle.std.proofs.lemmas.Option.{slice_get_within}
 use Rattle.std.proofs.lemmas.List.{take_all, take-append-le, length-take, length-replicate}
 use Rattle.csn_bits.specs.Octets.{IsBits}
-use Rattle.csn_bits.proofs.Packing.{IsBits-append}
+use Rattle.csn_bits.proofs.Packing.{IsBits-append, IsBits-zeros}
 use Rattle.csn_desc.specs.declared.reading.Reading.{Reading}
 use Rattle.csn_desc.specs.declared.symbol.Symbol.{Symbol}
 use Rattle.csn_desc.specs.declared.symbol.Symbol.TheVariants.{Low}
@@ -21,6 +21,7 @@ use Rattle.csn_look.specs.KeyRows.{table_of, HasRow, RowAfter, IsSpareKey}
 use Rattle.csn_look.proofs.StartFacts.{symbol_bit-octet}
 use Rattle.csn_look.proofs.NodeKeys.{after_is_parts, after_is_times}
 use Rattle.csn_look.proofs.RowFacts.{keys_as, keys_added}
+use Rattle.csn_desc.proofs.BitFacts.{length-spelled}
 
 -- ---- what is cut of a whole word
 
@@ -44,10 +45,6 @@ cut_from w x mark (cut long is same) =
     ]
 
 -- ---- literals
-
-length-spelled : (run : List Symbol) (o : ℕ) → length (spelled run o) ≡ length run
-length-spelled [] o = refl
-length-spelled (s ∷ run) o = ap suc (length-spelled run (suc o))
 
 pub lits_keys :
     (d : DescV) (run : List Symbol) (o size : ℕ) (word : List ℕ) (whole : Bool) → word ≡ take 12 (spelled run o) → size ≡ length run → whole ≡ nat_le size 12
@@ -183,10 +180,6 @@ module _ (d : DescV) where
 
 abbrev pub FieldKey : ℕ → List ℕ → Bool → Type 0
 FieldKey width word mark = (w : List ℕ) × (length w ≡ width) × IsBits w × Cut 12 w true word mark
-
-IsBits-zeros : (n : ℕ) → IsBits (replicate n 0)
-IsBits-zeros zero = tt
-IsBits-zeros (suc n) = (omega arith, IsBits-zeros n)
 
 pub wide_field : (width : ℕ) → 12 < width → (x : List ℕ) (mark : Bool) → IsWord x → ((length x ≡ 12) × (mark ≡ false)) ↔ FieldKey width x mark
 wide_field width wide x mark is = (

@@ -101,7 +101,3 @@ octet-same o p k is none = let same : p ≡ o = omega arith in ap (λ x. x % 8) 
 -- where bits end that are split
 pub place-split : (o : ℕ) (b1 b2 : List ℕ) {b : List ℕ} (p : ℕ) → p ≡ o + length b → b ≡ b1 ++ b2 → p ≡ o + length b1 + length b2
 place-split o b1 b2 p is cut = let sum = ap length cut in omega (arith, sum, length-append b1 b2)
-
-pub length-spelled : (run : List Symbol) (o : ℕ) → length (spelled run o) ≡ length run
-length-spelled [] o = refl
-length-spelled (s ∷ run) o = ap suc (length-spelled run (suc o))

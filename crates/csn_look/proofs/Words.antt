@@ -5,9 +5,9 @@ use Rattle.std.proofs.lemmas.Nat.{div-mul-add}
 use Rattle.std.specs.Int.Count.{count_leading_zeros, leading_unique}
 use Rattle.std.proofs.lemmas.Bool.Decides.{nat_tests}
 use Rattle.csn_bits.specs.Octets.{IsBits}
+use Rattle.csn_bits.proofs.NumberFacts.{number_of-lt}
 use Rattle.csn_bits.proofs.Packing.{IsBits-append}
-use Rattle.csn_desc.specs.Values.{number_of}
-use Rattle.csn_desc.proofs.NumberFacts.{number_of-lt}
+use Rattle.csn_bits.specs.Numbers.{number_of}
 use Rattle.csn_look.specs.KeyMarks.{IsWord, place_of}
 use Rattle.csn_look.specs.WordV.{bits_behind, word_of}
 use Rattle.csn_look.proofs.Places.{place_of-append, place_of-push, place_of-least, place_of-most, place_of-same}

@@ -4,7 +4,7 @@
 use Rattle.std.specs.Prelude.{◌≡◌, ℕ, ◌+◌, ◌/◌, ◌%◌, ◌≤◌, ◌⊎◌, ◌↔◌, Bool, true, false, ◌==◌, List, ◌∷◌, ◌++◌, length, slice_index, IsTrue}
 use Rattle.std.specs.Int.{bit_at}
 use Rattle.csn_bits.specs.Octets.{IsBits}
-use Rattle.csn_desc.specs.Values.{number_of}
+use Rattle.csn_bits.specs.Numbers.{number_of}
 use Rattle.csn_look.specs.declared.key_table.Begins.{Begins}
 use Rattle.csn_look.specs.declared.key_table.Begins.TheVariants as answer
 use Rattle.csn_look.specs.declared.key_table.Stands.{Stands}

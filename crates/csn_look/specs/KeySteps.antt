@@ -1,6 +1,6 @@
 -- What the parts of a product of two sets of keys add, for the contracts of the functions that make it.
 use Rattle.std.specs.Prelude.{◌≡◌, ℕ, ◌+◌, ◌<◌, Bool, true, List, ◌++◌, length, IsTrue}
-use Rattle.csn_desc.specs.Values.{number_of}
+use Rattle.csn_bits.specs.Numbers.{number_of}
 use Rattle.csn_look.specs.KeyMarks.{IsWord, is_marked, place_of, has_key, Adds}
 use Rattle.csn_look.specs.KeyTables.{IsKeyTable}
 use Rattle.csn_look.specs.Keys.{Cut}

@@ -7,7 +7,8 @@ use Rattle.csn_desc.specs.declared.node.Count.{Count}
 use Rattle.csn_desc.specs.declared.node.Count.TheVariants.{Fixed, Counted}
 use Rattle.csn_desc.specs.declared.node.Node.{Node}
 use Rattle.csn_desc.specs.declared.reading.Reading.{Reading}
-use Rattle.csn_desc.specs.Values.{Values, number_of, is_named, with_value}
+use Rattle.csn_bits.specs.Numbers.{number_of}
+use Rattle.csn_desc.specs.Values.{Values, is_named, with_value}
 use Rattle.csn_desc.specs.Values as desc
 use Rattle.csn_grammar.specs.declared.exponent.Exponent.{Exponent}
 use Rattle.csn_grammar.specs.declared.exponent.Exponent.TheVariants.{Any, Number, Linear}

@@ -12,10 +12,7 @@ use Rattle.csn_grammar.specs.TailForm.{TailV}
 use Rattle.csn_grammar.specs.Void.{SomeVoid, void_here, void_later}
 use Rattle.csn_grammar.specs.Meaning.{Means, ItemsMean, ManyMean, TailMeans, means_lits, means_seq, items_next, many_end, many_next, tail_stop, tail_again}
 use Rattle.csn_grammar.specs.Follow.{Begins, Follow, ItemsFollow, ManyFollow, TailFollows, follows_whole, follows_leaf, follows_seq, items_here, items_later, many_here, many_later, tail_items, tail_stops, tail_goes_on, tail_turns}
-
-length-spelled : (run : List Symbol) (o : ℕ) → length (spelled run o) ≡ length run
-length-spelled [] o = refl
-length-spelled (s ∷ run) o = ap suc (length-spelled run (suc o))
+use Rattle.csn_desc.proofs.BitFacts.{length-spelled}
 
 abbrev pub word : List Symbol → ExprV
 word run = expr 0 0 (lits run)

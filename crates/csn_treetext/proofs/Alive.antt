@@ -7,7 +7,7 @@ use Rattle.std.proofs.lemmas.Bool.{lt-leb}
 use Rattle.std.proofs.lemmas.List.{map-append, length_push}
 use Rattle.hex.specs.Hex.{encode_upper, encode_with, upper_digits}
 use Rattle.csn_bits.specs.Octets.{IsBits}
-use Rattle.csn_bits.proofs.Packing.{IsBits-append}
+use Rattle.csn_bits.proofs.Packing.{IsBits-append, IsBits-zeros}
 use Rattle.csn_desc.specs.Label.{IsLabel}
 use Rattle.csn_desc.specs.TreeV.{TreeV, empty, bits, row, alt, named, none, trees_of}
 use Rattle.csn_treetext.specs.declared.version.Version.{Version}
@@ -18,7 +18,8 @@ use Rattle.csn_treetext.specs.declared.mode.Mode.{Mode}
 use Rattle.csn_treetext.specs.declared.mode.Mode.TheVariants.{Start, Opened, Behind, Done, Width, Quote, Value, Hash, Number, Name, NameEnd, Octets, Slash, Bare}
 use Rattle.csn_treetext.specs.Text.{text_of, row_text, bit_digits, is_short}
 use Rattle.csn_treetext.specs.Place.{BeginsText}
-use Rattle.csn_treetext.specs.reader.Numeral.{greatest_of, low_bits}
+use Rattle.csn_bits.specs.Numbers.{low_bits}
+use Rattle.csn_treetext.specs.reader.Numeral.{greatest_of}
 use Rattle.csn_treetext.specs.reader.Machine.{state, AreOctets, AreDigits, cut_octets}
 use Rattle.csn_treetext.proofs.Names.{closed_label}
 use Rattle.csn_treetext.proofs.OctetLeaves.{encode_upper-push, cut_text}
@@ -121,10 +122,6 @@ digits_begin stack octets (Some high) h are m =
     (encode_upper-push octets (16 * high) ∙ (rw (front, last) (sym (append_assoc (encode_upper octets) (slice_index upper_digits high ∷ []) (48 ∷ [])))))
 
 -- ---- bits that have begun
-
-IsBits-zeros : (n : ℕ) → IsBits (replicate n 0)
-IsBits-zeros zero = tt
-IsBits-zeros (suc n) = (omega arith, IsBits-zeros n)
 
 not_short : (b : List ℕ) → 65 ≤ length b → is_short b ≡ false
 not_short b long =

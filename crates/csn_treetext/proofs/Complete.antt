@@ -5,7 +5,7 @@ use Rattle.std.specs.Fmt.{decimal}
 use Rattle.std.proofs.lemmas.Fmt.{decimal_by_steps}
 use Rattle.std.proofs.lemmas.Bool.{cases_Bool, lt-ltb}
 use Rattle.csn_bits.specs.Line.{written}
-use Rattle.csn_desc.specs.Values.{number_of}
+use Rattle.csn_bits.specs.Numbers.{number_of}
 use Rattle.csn_desc.specs.TreeV.{TreeV, empty, bits, row, alt, named, Trees, none, more, trees_of, list_of}
 use Rattle.csn_treetext.specs.declared.version.Version.{Version}
 use Rattle.csn_treetext.specs.declared.version.Version.TheVariants.{First, Second}

@@ -19,7 +19,8 @@ use Rattle.csn_treetext.specs.declared.mode.NameAt.TheVariants.{Front}
 use Rattle.csn_treetext.specs.declared.mode.Mode.{Mode}
 use Rattle.csn_treetext.specs.declared.mode.Mode.TheVariants.{Width, Quote, Value, Hash, Number, Name, NameEnd, Octets, Slash, Bare}
 use Rattle.csn_treetext.specs.Text.{text_of, bit_digits, is_short}
-use Rattle.csn_treetext.specs.reader.Numeral.{grown, greatest_of, low_bits}
+use Rattle.csn_bits.specs.Numbers.{low_bits}
+use Rattle.csn_treetext.specs.reader.Numeral.{grown, greatest_of}
 use Rattle.csn_treetext.specs.reader.Machine.{State, state, with_stack, IsMode, AreOctets, name_after, name_from, may_end, after_name, after_width, after_quote, after_hash, after_number, after_octets, after_high, after_slash, after_bits, is_bit_digit, are_many, last_octet, upper_value, cut_octets}
 use Rattle.csn_treetext.proofs.Numerals.{grew_first, grew_next}
 use Rattle.csn_treetext.proofs.Names.{label_of_run, run-append}

@@ -11,7 +11,7 @@ use Rattle.csn_bits.specs.Octets.{IsBits, octets_of}
 use Rattle.csn_bits.specs.Line.{tail_written}
 use Rattle.csn_bits.proofs.Packing.{length-octets_of}
 use Rattle.csn_desc.specs.Label.{IsLabel}
-use Rattle.csn_desc.specs.Values.{number_of}
+use Rattle.csn_bits.specs.Numbers.{number_of}
 use Rattle.csn_desc.specs.TreeV.{TreeV, bits, alt, named}
 use Rattle.csn_treetext.specs.declared.version.Version.{Version}
 use Rattle.csn_treetext.specs.declared.version.Version.TheVariants.{First, Second}
@@ -24,9 +24,8 @@ use Rattle.csn_treetext.specs.declared.mode.Mode.TheVariants.{Start, Width, Quot
 use Rattle.csn_treetext.specs.Text.{bit_digits, leaf_text, is_short, short_text, other_text}
 use Rattle.csn_treetext.specs.reader.Numeral.{greatest_of}
 use Rattle.csn_treetext.specs.reader.Machine.{State, state, AreOctets, with_tree, closed, name_after, name_run, are_many, last_octet, upper_value, step, steps, root_of, ended}
-use Rattle.csn_treetext.proofs.Numbers.{number_of-small}
 use Rattle.csn_treetext.proofs.Numerals.{grown_first, grown_next}
-use Rattle.csn_treetext.proofs.LowBits.{low_bits-number_of}
+use Rattle.csn_bits.proofs.NumberFacts.{number_of-lt, low_bits-number_of}
 use Rattle.csn_treetext.proofs.Names.{run_of_label, run_none, not_greater}
 use Rattle.csn_treetext.proofs.OctetLeaves.{upper_value-digit, cut_bits, cut-octets_of, last_unused, used_of, AreOctets-octets_of}
 use Rattle.csn_treetext.proofs.WholeTrees.{short_is, eqb-lt, eqb-below}
@@ -150,7 +149,7 @@ pub short_run : (version : Version) (stack : List Frame) (b : List ℕ) → IsBi
 short_run version stack b are some few rest stops =
     let width : ℕ = length b in
     let number : ℕ = number_of b in
-    let small = number_of-small b are in
+    let small = number_of-lt b are in
     let same = low_bits-number_of b are in
     ap (λ l. run version (At Start stack) l) (append_assoc (decimal width) (39 ∷ decimal number) rest)
     ∙ width_run version stack width some few (39 ∷ (decimal number ++ rest))

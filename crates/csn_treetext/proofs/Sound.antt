@@ -15,7 +15,7 @@ use Rattle.csn_treetext.specs.declared.mode.NameAt.TheVariants.{Front}
 use Rattle.csn_treetext.specs.declared.mode.Mode.{Mode}
 use Rattle.csn_treetext.specs.declared.mode.Mode.TheVariants.{Start, Opened, Behind, Done, Width, Quote, Value, Hash, Number, Name, NameEnd, Octets, Slash, Bare}
 use Rattle.csn_treetext.specs.Text.{text_of, bit_digits, is_short}
-use Rattle.csn_treetext.specs.reader.Numeral.{low_bits}
+use Rattle.csn_bits.specs.Numbers.{low_bits}
 use Rattle.csn_treetext.specs.reader.Machine.{State, state, IsMode, AreOctets, with_tree, begun, begun_b, begun_x, inside, after_name, after_width, after_quote, after_hash, after_high, are_many, upper_value, cut_octets, step, step_from, steps, root_of, root_at, ended}
 use Rattle.csn_treetext.specs.Place.{IsTextOf}
 use Rattle.csn_treetext.proofs.Spelled.{before, spelled, IsTree, IsStack, IsPlaced, StandsFor, level_low, row_is_tree, tree_stands}

@@ -11,9 +11,10 @@ use Rattle.csn_treetext.specs.declared.stack.Frame.TheVariants.{Row, Alt, Named}
 use Rattle.csn_treetext.specs.declared.mode.Mode.{Mode}
 use Rattle.csn_treetext.specs.declared.mode.Mode.TheVariants.{Behind}
 use Rattle.csn_treetext.specs.Text.{text_of, row_text, is_short}
-use Rattle.csn_treetext.specs.reader.Numeral.{greatest_of, low_bits}
+use Rattle.csn_bits.specs.Numbers.{low_bits}
+use Rattle.csn_treetext.specs.reader.Numeral.{greatest_of}
 use Rattle.csn_treetext.specs.reader.Machine.{State, state, AreOctets, with_tree, after_tree, closed, closed_at, cut_octets}
-use Rattle.csn_treetext.proofs.LowBits.{length-low_bits, IsBits-low_bits, number_of-low_bits}
+use Rattle.csn_bits.proofs.NumberFacts.{length-low_bits, IsBits-low_bits, number_of-low_bits_small}
 use Rattle.csn_treetext.proofs.OctetLeaves.{IsBits-cut_bits, length-cut_bits}
 use Rattle.csn_treetext.proofs.Spelled.{before, behind, IsTree, IsStack, HasTree, StandsFor, row_is_tree, spaced-row, tree_stands}
 
@@ -55,7 +56,7 @@ number_text version width number some few small =
     let long = length-low_bits width number in
     let power : 0 < 2 ^ width = pow_pos width in
     let short = short_is (low_bits width number) (omega arith) (omega arith) in
-    let is = number_of-low_bits width number (omega arith) in
+    let is = number_of-low_bits_small width number (omega arith) in
     rw short (rw (long, is) refl)
 
 pub number_is_tree : (round width number : ℕ) → round < 64 → width ≤ 64 → IsTree round (bits (low_bits width number))

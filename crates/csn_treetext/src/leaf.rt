@@ -1,6 +1,7 @@
 ghost use Rattle.std.specs.Prelude.{◌≡◌, ◌<◌, ◌≤◌, ◌++◌, ◌∷◌, [], length, IfOk, OnOk};
 ghost use Rattle.csn_desc.specs.TreeV.{bits};
-ghost use Rattle.csn_treetext.specs.reader.Numeral.{digit_of, grown, greatest_of, low_bits};
+ghost use Rattle.csn_bits.specs.Numbers.{low_bits};
+ghost use Rattle.csn_treetext.specs.reader.Numeral.{digit_of, grown, greatest_of};
 ghost use Rattle.csn_treetext.specs.reader.Machine.{cut_octets, upper_value, last_octet};
 
 use crate::bytes::Bytes;

@@ -1,7 +1,7 @@
 ghost use Rattle.std.specs.Prelude.{◌≡◌, ◌≤◌, ◌++◌, length, IfOk, OnOk};
 ghost use Rattle.std.specs.Fmt.{decimal};
 ghost use Rattle.csn_bits.specs.Octets.{IsBits};
-ghost use Rattle.csn_desc.specs.Values.{number_of};
+ghost use Rattle.csn_bits.specs.Numbers.{number_of};
 ghost use Rattle.csn_treetext.specs.declared.version.Version.TheVariants.{Second};
 ghost use Rattle.csn_treetext.specs.Text.{leaf_text, text_of};
 ghost use Rattle.csn_desc.specs.TreeParts.{HasTreeParts};

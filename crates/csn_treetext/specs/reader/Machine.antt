@@ -15,7 +15,8 @@ use Rattle.csn_treetext.specs.declared.mode.NameAt.TheVariants.{Front, Within, J
 use Rattle.csn_treetext.specs.declared.mode.Mode.{Mode}
 use Rattle.csn_treetext.specs.declared.mode.Mode.TheVariants.{Start, Opened, Behind, Done, Width, Quote, Value, Hash, Number, Name, NameEnd, Octets, Slash, Bare}
 use Rattle.csn_treetext.specs.Text.{is_short}
-use Rattle.csn_treetext.specs.reader.Numeral.{grown, greatest_of, low_bits}
+use Rattle.csn_bits.specs.Numbers.{low_bits}
+use Rattle.csn_treetext.specs.reader.Numeral.{grown, greatest_of}
 
 pub record State : Type 0 where
   pub mode : Mode

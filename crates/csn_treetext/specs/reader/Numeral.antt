@@ -1,5 +1,5 @@
 -- Decimal numbers that are read digit by digit, with no zero in front.
-use Rattle.std.specs.Prelude.{ℕ, zero, suc, ◌+◌, ◌-◌, ◌*◌, ◌/◌, ◌%◌, ◌^◌, nat_le, ◌&&◌, if◌then◌else◌, List, [], ◌∷◌, ◌++◌, Option, Some, None}
+use Rattle.std.specs.Prelude.{ℕ, zero, suc, ◌+◌, ◌-◌, ◌*◌, ◌^◌, nat_le, ◌&&◌, if◌then◌else◌, Option, Some, None}
 
 -- the value of a digit
 abbrev pub digit_of : ℕ → Option ℕ
@@ -25,8 +25,3 @@ grown most number byte = grown_by most number (digit_of byte)
 -- the greatest number that so many bits write
 abbrev pub greatest_of : ℕ → ℕ
 greatest_of width = 2 ^ width - 1
-
--- the bits, so many, that write a number
-abbrev pub low_bits : ℕ → ℕ → List ℕ
-low_bits zero number = []
-low_bits (suc width) number = low_bits width (number / 2) ++ number % 2 ∷ []

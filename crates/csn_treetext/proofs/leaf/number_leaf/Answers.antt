@@ -1,6 +1,6 @@
 use Rattle.std.proofs.Common.{◌≡◌, ◌-◌, ◌%◌, ◌/◌, ◌^◌, ◌++◌, ◌∷◌, [], suc, ap, sym, ◌∙◌, length, arith}
-use Rattle.csn_treetext.specs.reader.Numeral.{low_bits}
-use Rattle.csn_treetext.proofs.LowBits.{low_bits-next, length-low_bits}
+use Rattle.csn_bits.specs.Numbers.{low_bits}
+use Rattle.csn_bits.proofs.NumberFacts.{low_bits-next, length-low_bits}
 use Rattle.csn_treetext.proofs.leaf.number_leaf.Goals as goal
 
 pub push_bit-requires-clause-room : goal.push_bit-requires-clause-room

@@ -1,5 +1,5 @@
 use Rattle.std.proofs.Common.{◌≡◌, ◌-◌, ◌/◌, ◌^◌, ◌≤◌}
-use Rattle.csn_treetext.specs.reader.Numeral.{low_bits}
+use Rattle.csn_bits.specs.Numbers.{low_bits}
 use Rattle.csn_treetext.proofs.leaf.number_leaf.Given as goal
 
 abbrev pub invariant-loop-left : goal.invariant-loop-left

@@ -1,5 +1,5 @@
 use Rattle.std.proofs.Common.{◌≡◌, take}
-use Rattle.csn_desc.specs.Values.{number_of}
+use Rattle.csn_bits.specs.Numbers.{number_of}
 use Rattle.csn_treetext.proofs.write.number_of.Given as goal
 
 abbrev pub invariant-loop-at : goal.invariant-loop-at

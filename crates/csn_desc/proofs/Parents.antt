@@ -1,4 +1,5 @@
--- A node is a part of one node at most, and each node but the root is one of a node before it.
+-- A node is a part of one node at most, and each node but the root is one of a node before it. Other crates
+-- cite this.
 use Rattle.std.proofs.Common.{◌≡◌, ℕ, zero, suc, ◌<◌, ◌≤◌, ◌⊎◌, List, ◌∷◌, length, sym, ap, subst, arith, inl, inr, Some}
 use Rattle.std.specs.Prelude.{slice_get}
 use Rattle.std.proofs.lemmas.Bool.{cases_order}
@@ -6,8 +7,7 @@ use Rattle.std.proofs.lemmas.Option.{slice_get_within}
 use Rattle.csn_desc.specs.declared.node.Node.{Node}
 use Rattle.csn_desc.specs.Nodes.{DescV, parts_of}
 use Rattle.csn_desc.specs.Formed.{IsDescription, Spans, PartsSpan, spans, span_end, span_next}
-use Rattle.csn_desc.proofs.Numbering.{span_grows, parts_span_grow, part_from, parts_distinct}
-use Rattle.csn_look.proofs.Spanned.{span_inside, span_parts, part_before}
+use Rattle.csn_desc.proofs.Numbering.{span_grows, parts_span_grow, part_from, parts_distinct, span_inside, span_parts, part_before}
 
 module _ (nodes : List Node) where
   -- a span that begins among those of some parts, and lies apart from where each of these begins
