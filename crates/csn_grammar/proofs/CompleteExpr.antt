@@ -1,6 +1,7 @@
 -- The reader takes every expression and all rules.
 use Rattle.std.proofs.Common.{◌≡◌, ℕ, suc, ◌<◌, Bool, true, false, List, [], ◌∷◌, ◌++◌, length, Some, None, refl, sym, ap, ◌∙◌, subst, arith, append_assoc, lt-ltb}
 use Rattle.csn_lexer.specs.declared.token.TokenKind.TheVariants as kind
+use Rattle.csn_grammar.specs.declared.expr.TheConstants.{MOST_OPEN}
 use Rattle.csn_grammar.specs.declared.reader.body.Frame.{Frame}
 use Rattle.csn_grammar.specs.declared.reader.body.Joint.{Joint}
 use Rattle.csn_grammar.specs.declared.reader.body.Joint.TheVariants.{Alone, Window, Sends}
@@ -105,17 +106,17 @@ module _ (rules : RulesV) (begin : ℕ) (title : List ℕ) where
   unfolding body_step begin_side
   less_comes frames level s n w ts out h = h
 
-  brace_comes : {d : ℕ} (frames : List Frame) (level : Level) (s n : ℕ) (w : List ℕ) (ts : List TokenV) (out : RulesV) → length frames ≡ d → d < 64
+  brace_comes : {d : ℕ} (frames : List Frame) (level : Level) (s n : ℕ) (w : List ℕ) (ts : List TokenV) (out : RulesV) → length frames ≡ d → d < MOST_OPEN
       → Comes rules begin title (record { start = s; opening = Brace; level = level } ∷ frames) fresh Side ts out
       → Comes rules begin title frames level Side (token kind.BraceLeft s n w ∷ ts) out
   unfolding body_step begin_side open_frame
-  brace_comes frames level s n w ts out deep limit h = rw (lt-ltb (length frames) 64 (omega arith)) h
+  brace_comes frames level s n w ts out deep limit h = rw (lt-ltb (length frames) MOST_OPEN (omega arith)) h
 
-  label_comes : {d : ℕ} (frames : List Frame) (level : Level) (st s n : ℕ) (l w : List ℕ) (ts : List TokenV) (out : RulesV) → length frames ≡ d → d < 64
+  label_comes : {d : ℕ} (frames : List Frame) (level : Level) (st s n : ℕ) (l w : List ℕ) (ts : List TokenV) (out : RulesV) → length frames ≡ d → d < MOST_OPEN
       → Comes rules begin title (record { start = st; opening = Label l; level = level } ∷ frames) fresh Side ts out
       → Comes rules begin title frames level (Name st l) (token kind.Colon s n w ∷ ts) out
   unfolding body_step after_words open_frame
-  label_comes frames level st s n l w ts out deep limit h = rw (lt-ltb (length frames) 64 (omega arith)) h
+  label_comes frames level st s n l w ts out deep limit h = rw (lt-ltb (length frames) MOST_OPEN (omega arith)) h
 
   pub greater_comes : (frames : List Frame) (level : Level) (st s n : ℕ) (l w : List ℕ) (ts : List TokenV) (out : RulesV)
       → Comes rules begin title frames level (Base (expr st n (name l))) ts out

@@ -5,6 +5,7 @@ use Rattle.std.proofs.Common.{le-leb}
 use Rattle.csn_lexer.specs.declared.token.TokenKind.TheVariants as kind
 use Rattle.csn_desc.specs.declared.symbol.Symbol.{Symbol}
 use Rattle.csn_desc.specs.declared.symbol.Symbol.TheVariants.{Zero, One, Low, High}
+use Rattle.csn_grammar.specs.declared.exponent.TheConstants.{MOST_DIGITS}
 use Rattle.csn_grammar.specs.declared.exponent.Exponent.{Exponent}
 use Rattle.csn_grammar.specs.declared.exponent.Exponent.TheVariants as exponent
 use Rattle.csn_grammar.specs.declared.reader.body.Frame.{Frame}
@@ -25,7 +26,7 @@ use Rattle.csn_grammar.proofs.Run.{Step, Leads, Comes}
 
 pub number_is : (w : List ℕ) (n : ℕ) → IsNumber w n → number_of w ≡ Some n
 number_is w n h =
-    rw (le-leb 1 (length w) h.some, le-leb (length w) 9 h.few, h.digits) (ap (λ k. Some k) (sym h.value))
+    rw (le-leb 1 (length w) h.some, le-leb (length w) MOST_DIGITS h.few, h.digits) (ap (λ k. Some k) (sym h.value))
 
 symbol_is : (s : Symbol) → symbol_of (letter_of s) ≡ Some s
 symbol_is Zero = refl

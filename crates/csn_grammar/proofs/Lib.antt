@@ -20,3 +20,7 @@ pub mod SoundBody
 pub mod SoundRules
 pub mod Alive
 pub mod Reading
+pub mod OfTexts
+pub mod OnePlace
+pub mod TextDecided
+pub mod Answering

@@ -5,6 +5,7 @@ use Rattle.std.specs.Option.{option_map}
 use Rattle.std.proofs.lemmas.Bool.{ltb-true}
 use Rattle.csn_lexer.specs.declared.token.TokenKind.{TokenKind}
 use Rattle.csn_lexer.specs.declared.token.TokenKind.TheVariants as kind
+use Rattle.csn_grammar.specs.declared.expr.TheConstants.{MOST_OPEN}
 use Rattle.csn_grammar.specs.declared.exponent.Exponent.{Exponent}
 use Rattle.csn_grammar.specs.declared.exponent.Exponent.TheVariants as exponent
 use Rattle.csn_grammar.specs.declared.reader.progress.Progress.{Progress}
@@ -60,7 +61,7 @@ module _ (rules : RulesV) (begin : ℕ) (title : List ℕ) where
   pub data BehindName (frames : List Frame) (level : Level) (st : ℕ) (l : List ℕ) : List TokenV → RulesV → Type 0 where
     behind_name : {s n : ℕ} {w : List ℕ} {ts : List TokenV} {out : RulesV}
         → AfterBase rules begin title frames level (expr st n (name l)) ts out → BehindName frames level st l (token kind.Greater s n w ∷ ts) out
-    behind_label : {s n : ℕ} {w : List ℕ} {ts : List TokenV} {out : RulesV} → length frames < 64
+    behind_label : {s n : ℕ} {w : List ℕ} {ts : List TokenV} {out : RulesV} → length frames < MOST_OPEN
         → Exprs rules begin title (record { start = st; opening = Label l; level = level } ∷ frames) ts out
         → BehindName frames level st l (token kind.Colon s n w ∷ ts) out
 
@@ -128,7 +129,7 @@ module _ (rules : RulesV) (begin : ℕ) (title : List ℕ) where
 
   -- behind braces
   group_back : {frames : List Frame} {level : Level} {ts middle : List TokenV} {out : RulesV} (s n : ℕ) (w : List ℕ) (s1 n1 : ℕ) (w1 : List ℕ) (x : ExprV)
-      → length frames < 64 → IsExpr (suc (length frames)) ts x (token kind.BraceRight s1 n1 w1 ∷ middle)
+      → length frames < MOST_OPEN → IsExpr (suc (length frames)) ts x (token kind.BraceRight s1 n1 w1 ∷ middle)
       → AfterBase rules begin title frames level (expr s n1 (group x)) middle out
       → Sides rules begin title frames level (token kind.BraceLeft s n w ∷ ts) out
   group_back {middle = middle} s n w s1 n1 w1 x limit is (base_whole free b) =
@@ -145,14 +146,14 @@ module _ (rules : RulesV) (begin : ℕ) (title : List ℕ) where
       }
 
   brace_back : {frames : List Frame} {level : Level} {ts : List TokenV} {out : RulesV} (s n : ℕ) (w : List ℕ) (x : ExprV) (middle : List TokenV)
-      → length frames < 64 → IsExpr (suc (length frames)) ts x middle
+      → length frames < MOST_OPEN → IsExpr (suc (length frames)) ts x middle
       → Closes rules begin title (record { start = s; opening = Brace; level = level } ∷ frames) x middle out
       → Sides rules begin title frames level (token kind.BraceLeft s n w ∷ ts) out
   brace_back s n w x middle limit is (closes_brace {s = s1} {n = n1} {w = w1} e b) = group_back s n w s1 n1 w1 x limit is b
   brace_back s n w x middle limit is (closes_label e b) = absurd (cc)
 
   label_back : {frames : List Frame} {level : Level} {ts inner : List TokenV} {out : RulesV} (s n : ℕ) (w : List ℕ) (s1 n1 : ℕ) (w1 l : List ℕ) (x : ExprV) (middle : List TokenV)
-      → length frames < 64 → IsName ts l (token kind.Colon s1 n1 w1 ∷ inner) → IsExpr (suc (length frames)) inner x middle
+      → length frames < MOST_OPEN → IsName ts l (token kind.Colon s1 n1 w1 ∷ inner) → IsExpr (suc (length frames)) inner x middle
       → Closes rules begin title (record { start = s; opening = Label l; level = level } ∷ frames) x middle out
       → Sides rules begin title frames level (token kind.Less s n w ∷ ts) out
   label_back s n w s1 n1 w1 l x middle limit title' is (closes_brace e b) = absurd (cc)
@@ -166,10 +167,10 @@ module _ (rules : RulesV) (begin : ℕ) (title : List ℕ) where
   less_back s n w l is (behind_name {n = n1} b) = base_back s n1 (name l) (λ k y e. absurd (cc)) (name_base is) b
   less_back s n w l is (behind_label {s = s1} {n = n1} {w = w1} limit x) = label_back s n w s1 n1 w1 l x.one x.rest limit is x.is x.behind
 
-  frame_back : {frames : List Frame} {level : Level} {ts : List TokenV} {out : RulesV} (n s : ℕ) (o : Opening) (b : Bool) → nat_lt (length frames) 64 ≡ b
+  frame_back : {frames : List Frame} {level : Level} {ts : List TokenV} {out : RulesV} (n s : ℕ) (o : Opening) (b : Bool) → nat_lt (length frames) MOST_OPEN ≡ b
       → Leaves n (if b then goes (record { start = s; opening = o; level = level } ∷ frames) fresh Side else None) ts out
-      → (length frames < 64) × Exprs rules begin title (record { start = s; opening = o; level = level } ∷ frames) ts out
-  frame_back {frames} n s o true e h = (ltb-true (length frames) 64 e, expr_gather rules begin title h)
+      → (length frames < MOST_OPEN) × Exprs rules begin title (record { start = s; opening = o; level = level } ∷ frames) ts out
+  frame_back {frames} n s o true e h = (ltb-true (length frames) MOST_OPEN e, expr_gather rules begin title h)
   frame_back n s o false e h = absurd h
 
   side_back : {frames : List Frame} {level : Level} {ts : List TokenV} {out : RulesV} (k : TokenKind) (s n : ℕ) (w : List ℕ)
@@ -178,7 +179,7 @@ module _ (rules : RulesV) (begin : ℕ) (title : List ℕ) where
   side_back kind.Word s n w h = word_case s n w (word_form w) refl h
   side_back kind.Less s n w h = less_back s n w h.one h.is h.behind
   side_back {frames} kind.BraceLeft s n w h =
-      let both = frame_back n s Brace (nat_lt (length frames) 64) refl h in
+      let both = frame_back n s Brace (nat_lt (length frames) MOST_OPEN) refl h in
       brace_back s n w both.1.one both.1.rest both.0 both.1.is both.1.behind
   side_back k s n w h = absurd h
 
@@ -334,7 +335,7 @@ module _ (rules : RulesV) (begin : ℕ) (title : List ℕ) where
   words_back frames level st ws kind.Word s n w h = next_name st s n ws w h
   words_back frames level st ws kind.Greater s n w h = words_whole (behind_name h)
   words_back frames level st ws kind.Colon s n w h =
-      let both = frame_back n st (Label ws) (nat_lt (length frames) 64) refl h in words_whole (behind_label both.0 both.1)
+      let both = frame_back n st (Label ws) (nat_lt (length frames) MOST_OPEN) refl h in words_whole (behind_label both.0 both.1)
   words_back frames level st ws k s n w h = absurd h
 
   pub body_back : (ts : List TokenV) (out : RulesV) (frames : List Frame) (level : Level) (mode : Mode) (k : TokenKind) (s n : ℕ) (w : List ℕ)

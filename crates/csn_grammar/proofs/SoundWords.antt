@@ -8,6 +8,7 @@ use Rattle.std.proofs.lemmas.Bool.{and_parts, eqb-true, leb-true}
 use Rattle.std.specs.Cmp.Lexicographic.{same_text}
 use Rattle.csn_desc.specs.declared.symbol.Symbol.{Symbol}
 use Rattle.csn_desc.specs.declared.symbol.Symbol.TheVariants.{Zero, One, Low, High}
+use Rattle.csn_grammar.specs.declared.exponent.TheConstants.{MOST_DIGITS}
 use Rattle.csn_grammar.specs.ExprV.{FormV, lits, null, bit, octet}
 use Rattle.csn_grammar.specs.Writing.{letter_of, IsLits, decimal_after, IsNumber}
 use Rattle.csn_grammar.specs.reader.Spellings.{is_text, number_of, symbol_of, with_symbol, run_of, word_form}
@@ -19,13 +20,13 @@ if_said true t x rest h = inl (refl, cc)
 if_said false t x rest h = inr h
 
 pub number_said : (w : List ℕ) (n : ℕ) → number_of w ≡ Some n → IsNumber w n
-number_said w n h = elim (if_said ((nat_le 1 (length w) && nat_le (length w) 9) && list_all is_ascii_digit w) (decimal_after 0 w) n None h) [
+number_said w n h = elim (if_said ((nat_le 1 (length w) && nat_le (length w) MOST_DIGITS) && list_all is_ascii_digit w) (decimal_after 0 w) n None h) [
   | inl said ↦
-      let whole = and_parts (nat_le 1 (length w) && nat_le (length w) 9) (list_all is_ascii_digit w) said.0 in
-      let sizes = and_parts (nat_le 1 (length w)) (nat_le (length w) 9) whole.0 in
+      let whole = and_parts (nat_le 1 (length w) && nat_le (length w) MOST_DIGITS) (list_all is_ascii_digit w) said.0 in
+      let sizes = and_parts (nat_le 1 (length w)) (nat_le (length w) MOST_DIGITS) whole.0 in
       record {
         some = leb-true 1 (length w) sizes.0;
-        few = leb-true (length w) 9 sizes.1;
+        few = leb-true (length w) MOST_DIGITS sizes.1;
         digits = whole.1;
         value = said.1;
       }

@@ -8,6 +8,7 @@
 use Rattle.std.specs.Prelude.{◌≡◌, ℕ, suc, ◌<◌, true, false, List, [], ◌∷◌, codes}
 use Rattle.csn_lexer.specs.declared.token.TokenKind.TheVariants.{Less, Greater, Colon, Define, Semicolon, BraceLeft, BraceRight, Bar, Bang, Ampersand, Equal, SlashSlash, Word}
 use Rattle.csn_desc.specs.declared.symbol.Symbol.{Symbol}
+use Rattle.csn_grammar.specs.declared.expr.TheConstants.{MOST_OPEN}
 use Rattle.csn_grammar.specs.declared.exponent.Exponent.{Exponent}
 use Rattle.csn_grammar.specs.declared.rules.Rule.{Rule}
 use Rattle.csn_grammar.specs.ExprV.{ExprV, expr, FormV, lits, null, bit, octet, name, labelled, group, seq, choice, power, cut, both, sends, ExprsV, no_item, item, BranchesV, no_branch, branch}
@@ -39,10 +40,10 @@ mutual
         → IsName ts l (token Greater s1 n1 w1 ∷ rest)
         → IsBase d (token Less s n w ∷ ts) (expr s n1 (name l)) rest
     labelled_base : {d s n s1 n1 s2 n2 : ℕ} {w w1 w2 l : List ℕ} {x : ExprV}
-        {ts inner rest : List TokenV} → d < 64 → IsName ts l (token Colon s1 n1 w1 ∷ inner)
+        {ts inner rest : List TokenV} → d < MOST_OPEN → IsName ts l (token Colon s1 n1 w1 ∷ inner)
         → IsExpr (suc d) inner x (token Greater s2 n2 w2 ∷ rest)
         → IsBase d (token Less s n w ∷ ts) (expr s n2 (labelled l x)) rest
-    group_base : {d s n s1 n1 : ℕ} {w w1 : List ℕ} {x : ExprV} {ts rest : List TokenV} → d < 64
+    group_base : {d s n s1 n1 : ℕ} {w w1 : List ℕ} {x : ExprV} {ts rest : List TokenV} → d < MOST_OPEN
         → IsExpr (suc d) ts x (token BraceRight s1 n1 w1 ∷ rest) → NotSlashes rest
         → IsBase d (token BraceLeft s n w ∷ ts) (expr s n1 (group x)) rest
 
@@ -58,7 +59,7 @@ mutual
         → IsBase d ts (expr s n f) middle → IsExponent middle e n1 rest
         → IsSide d ts (expr s n1 (power (expr s n f) e)) rest
     cut_side : {d s n s1 n1 s2 n2 : ℕ} {w w1 w2 : List ℕ} {x : ExprV} {ts rest : List TokenV}
-        → d < 64
+        → d < MOST_OPEN
         → IsExpr (suc d) ts x (token BraceRight s1 n1 w1 ∷ token SlashSlash s2 n2 w2 ∷ rest)
         → IsSide d (token BraceLeft s n w ∷ ts) (expr s n2 (group (components_of x))) rest
 

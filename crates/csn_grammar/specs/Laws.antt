@@ -13,6 +13,35 @@ use Rattle.csn_grammar.specs.Meaning.{Means}
 use Rattle.csn_grammar.specs.Follow.{Follow}
 use Rattle.csn_grammar.specs.Strings.{Strings, Followed, IsPlace}
 use Rattle.csn_grammar.specs.Formed.{Formed, RuleFormed, HaveValues}
+use Rattle.csn_grammar.specs.Shaped.{AreShaped}
+use Rattle.csn_grammar.specs.Labelled.{AreLabelled}
+use Rattle.csn_grammar.specs.Place.{HasRules, IsSyntaxPlace, Decided}
+
+-- no text has two lists of rules
+abbrev pub TextsHaveOneListOfRules : Type 0
+TextsHaveOneListOfRules =
+    (text : List ℕ) (rules others : RulesV) → HasRules text rules → HasRules text others → rules ≡ others
+
+-- each text has rules, or a place where it is wrong
+abbrev pub TextsAreDecided : Type 0
+TextsAreDecided = (text : List ℕ) → Decided text
+
+-- a text with rules has no such place
+abbrev pub RulesHaveNoFault : Type 0
+RulesHaveNoFault = (text : List ℕ) (rules : RulesV) (place : ℕ) → HasRules text rules → ¬ IsSyntaxPlace text place
+
+-- and no text has two
+abbrev pub TextsHaveOnePlace : Type 0
+TextsHaveOnePlace =
+    (text : List ℕ) (place other : ℕ) → IsSyntaxPlace text place → IsSyntaxPlace text other → place ≡ other
+
+-- the rules of a text have no empty word, sequence, choice or truncation
+abbrev pub RulesOfTextsAreShaped : Type 0
+RulesOfTextsAreShaped = (text : List ℕ) (rules : RulesV) → HasRules text rules → AreShaped rules
+
+-- the labels of a text are words with one space between
+abbrev pub LabelsOfTextsAreLabels : Type 0
+LabelsOfTextsAreLabels = (text : List ℕ) (rules : RulesV) → HasRules text rules → AreLabelled rules
 
 abbrev pub PrefixesAreFollowed : Type 0
 PrefixesAreFollowed =

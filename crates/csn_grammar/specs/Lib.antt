@@ -11,6 +11,8 @@ pub mod Meaning
 pub mod Follow
 pub mod Strings
 pub mod Formed
+pub mod Shaped
+pub mod Labelled
 pub mod Laws
 pub mod Examples
 pub mod TokenV

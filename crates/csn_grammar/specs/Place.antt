@@ -1,6 +1,6 @@
 -- The rules of a text, and the place of the fault where it has none. What the place is, is this
 -- project's own choice.
-use Rattle.std.specs.Prelude.{◌≡◌, ℕ, List, [], ◌∷◌, ◌++◌, length, Some, None, Ok, Err}
+use Rattle.std.specs.Prelude.{◌≡◌, ℕ, ◌⊎◌, List, [], ◌∷◌, ◌++◌, length, Some, None, Ok, Err}
 use Rattle.csn_lexer.specs.declared.token.Token.{Token}
 use Rattle.csn_lexer.specs.declared.token.LexFault.{LexFault}
 use Rattle.csn_lexer.specs.Tokens.{IsNext, AreTokens, AreAllTokens}
@@ -34,7 +34,6 @@ pub data IsSyntaxPlace (text : List ℕ) : ℕ → Type 0 where
       → ((rules : RulesV) → ¬ AreRules (tokens_in text front) rules) → place ≡ length text
       → IsSyntaxPlace text place
 
--- no text has two lists of rules
-abbrev pub HasRulesAtMostOnce : List ℕ → Type 0
-HasRulesAtMostOnce text =
-    (rules others : RulesV) → HasRules text rules → HasRules text others → rules ≡ others
+-- the text has rules, or a place where it is wrong
+abbrev pub Decided : List ℕ → Type 0
+Decided text = ((rules : RulesV) × HasRules text rules) ⊎ ((place : ℕ) × IsSyntaxPlace text place)

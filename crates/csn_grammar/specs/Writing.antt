@@ -5,6 +5,7 @@ use Rattle.std.specs.Char.{is_ascii_digit}
 use Rattle.std.specs.List.{list_all}
 use Rattle.csn_desc.specs.declared.symbol.Symbol.{Symbol}
 use Rattle.csn_desc.specs.declared.symbol.Symbol.TheVariants.{Zero, One, Low, High}
+use Rattle.csn_grammar.specs.declared.exponent.TheConstants.{MOST_DIGITS}
 
 -- how a symbol is written: `0`, `1`, `L` or `H`
 abbrev pub letter_of : Symbol → ℕ
@@ -22,9 +23,9 @@ abbrev pub decimal_after : ℕ → List ℕ → ℕ
 decimal_after before [] = before
 decimal_after before (c ∷ rest) = decimal_after (before * 10 + (c - 48)) rest
 
--- the word is this number, written in one to nine digits
+-- the word is this number, written in one digit at least and at most nine
 pub record IsNumber (word : List ℕ) (n : ℕ) : Type 0 where
   pub some : 1 ≤ length word
-  pub few : length word ≤ 9
+  pub few : length word ≤ MOST_DIGITS
   pub digits : IsTrue (list_all is_ascii_digit word)
   pub value : n ≡ decimal_after 0 word

@@ -1,5 +1,8 @@
 use csn_desc::Label;
 
+/// The most digits that a number is written in.
+pub const MOST_DIGITS: usize = 9;
+
 /// How often a part stands, or how many bits a field has.
 #[derive(Drop)]
 pub enum Exponent {

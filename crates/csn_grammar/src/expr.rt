@@ -1,13 +1,15 @@
 ghost use Rattle.std.specs.Prelude.{◌≡◌, ◌<◌, ◌≤◌, [], ◌∷◌, ◌++◌, length, slice_get, Some, OnOk};
+ghost use Rattle.csn_lexer.specs.declared.token.TheConstants.{MOST_TEXT};
 
 use crate::exponent::Exponent;
 use csn_bits::NoMemory;
 use csn_desc::{Label, Run};
+use csn_lexer::MOST_TEXT;
 use std::alloc::Global;
 use std::marker::Model;
 
-/// More than a list of the grammar has members: each has a byte of the text for its own.
-pub(crate) const MOST_MEMBERS: usize = 262_144;
+/// The most braces and labelled parts that stand inside one another.
+pub const MOST_OPEN: usize = 64;
 
 /// A piece of the text: the place of its first byte and the place behind its last one, in bytes from
 /// 0.
@@ -99,6 +101,7 @@ impl Model for Expr {
 
 impl Model for Exprs {
     ghost use Rattle.std.specs.Prelude.{List, ◌≤◌, length};
+    ghost use Rattle.csn_lexer.specs.declared.token.TheConstants.{MOST_TEXT};
     ghost use Rattle.csn_grammar.specs.ExprV.{ExprV};
     ghost use Rattle.csn_grammar.specs.ExprCode.{exprs_code, list_size, most_le-list_size};
     ghost use Rattle.std.proofs.Common.{arith};
@@ -109,7 +112,7 @@ impl Model for Exprs {
 
     ghost view = { λ r. r.exprs.items };
 
-    ghost invariant = { λ r. length r.exprs.items ≤ 262144 };
+    ghost invariant = { λ r. length r.exprs.items ≤ MOST_TEXT };
 
     ghost size = { list_size };
 
@@ -134,6 +137,7 @@ impl Model for Branch {
 
 impl Model for Branches {
     ghost use Rattle.std.specs.Prelude.{List, ◌≤◌, length};
+    ghost use Rattle.csn_lexer.specs.declared.token.TheConstants.{MOST_TEXT};
     ghost use Rattle.csn_grammar.specs.ExprV.{BranchV};
     ghost use Rattle.csn_grammar.specs.ExprCode.{branches_code, branch_list_size, most_le-branch_list_size};
     ghost use Rattle.std.proofs.Common.{arith};
@@ -144,7 +148,7 @@ impl Model for Branches {
 
     ghost view = { λ r. r.branches.items };
 
-    ghost invariant = { λ r. length r.branches.items ≤ 262144 };
+    ghost invariant = { λ r. length r.branches.items ≤ MOST_TEXT };
 
     ghost size = { branch_list_size };
 
@@ -161,12 +165,11 @@ impl Exprs {
         }
     }
 
-    /// Adds an expression at the end. There is none for each byte of a text, so that there is room
-    /// for it.
+    /// Adds an expression at the end. A text has at least a byte for each, so that there is room.
     pub(crate) fn push(&mut self, expr: Expr) -> Result<(), NoMemory>
         ensures ok { OnOk result (self.new ≡ self.old ++ expr ∷ []) }
     {
-        if self.exprs.len() >= MOST_MEMBERS {
+        if self.exprs.len() >= MOST_TEXT as usize {
             return Err(NoMemory);
         }
         self.exprs.push(expr)?;
@@ -176,7 +179,7 @@ impl Exprs {
     /// How many expressions there are.
     pub fn len(&self) -> u32
         ensures len { result ≡ length self.now }
-        ensures bound { result ≤ 262144 }
+        ensures bound { result ≤ MOST_TEXT }
     {
         self.exprs.len() as u32
     }
@@ -204,7 +207,7 @@ impl Branches {
     pub(crate) fn push(&mut self, branch: Branch) -> Result<(), NoMemory>
         ensures ok { OnOk result (self.new ≡ self.old ++ branch ∷ []) }
     {
-        if self.branches.len() >= MOST_MEMBERS {
+        if self.branches.len() >= MOST_TEXT as usize {
             return Err(NoMemory);
         }
         self.branches.push(branch)?;
@@ -214,7 +217,7 @@ impl Branches {
     /// How many alternatives there are.
     pub fn len(&self) -> u32
         ensures len { result ≡ length self.now }
-        ensures bound { result ≤ 262144 }
+        ensures bound { result ≤ MOST_TEXT }
     {
         self.branches.len() as u32
     }

@@ -1,7 +1,6 @@
 //! Laws over the definitions, each the contract of a function that does nothing.
 
-ghost use Rattle.csn_grammar.specs.Laws.{PrefixesAreFollowed, BlockPrefixesAreFollowed, MeaningsAreFollowed, StringsAreFollowed, MeaningsAreBits, FollowedAreBits, VoidMeansNothing, VoidFollowsNothing, AlternativesAreKeptOnce, EmptyBitsAreFollowed, EmptyBlocksAreFollowed, BlocksHaveOnePlace};
-ghost use Rattle.csn_grammar.specs.Place.{HasRulesAtMostOnce};
+ghost use Rattle.csn_grammar.specs.Laws.{PrefixesAreFollowed, BlockPrefixesAreFollowed, MeaningsAreFollowed, StringsAreFollowed, MeaningsAreBits, FollowedAreBits, VoidMeansNothing, VoidFollowsNothing, AlternativesAreKeptOnce, EmptyBitsAreFollowed, EmptyBlocksAreFollowed, BlocksHaveOnePlace, TextsHaveOneListOfRules, TextsAreDecided, RulesHaveNoFault, TextsHaveOnePlace, RulesOfTextsAreShaped, LabelsOfTextsAreLabels};
 
 /// The first few of bits that an expression follows are followed by it, and so are those of a block.
 pub fn prefixes_are_followed()
@@ -45,8 +44,24 @@ pub fn blocks_have_one_place()
 {}
 
 /// A text has at most one list of rules.
-pub fn one_list_of_rules(text: &[u8])
-    ensures { HasRulesAtMostOnce text.now }
+pub fn one_list_of_rules()
+    ensures { TextsHaveOneListOfRules }
 {
-    csn_lexer::laws::one_list_of_tokens(text);
+    csn_lexer::laws::one_list_of_tokens();
 }
+
+/// A text has rules or a place where it is wrong, not both, and one place.
+pub fn texts_are_decided()
+    ensures decided { TextsAreDecided }
+    ensures apart { RulesHaveNoFault }
+    ensures place { TextsHaveOnePlace }
+{
+    csn_lexer::laws::one_thing_is_next();
+}
+
+/// The rules of a text have what nodes need: no empty word, two items or alternatives at least, and one
+/// component at least; and their labels are words with one space between.
+pub fn rules_of_texts_are_shaped()
+    ensures shaped { RulesOfTextsAreShaped }
+    ensures labelled { LabelsOfTextsAreLabels }
+{}

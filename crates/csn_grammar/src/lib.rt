@@ -12,8 +12,8 @@ mod reader;
 mod rules;
 
 pub use built_in::BuiltIn;
-pub use exponent::Exponent;
-pub use expr::{Branch, Branches, Expr, Exprs, Form, Span};
+pub use exponent::{Exponent, MOST_DIGITS};
+pub use expr::{Branch, Branches, Expr, Exprs, Form, MOST_OPEN, Span};
 pub use fault::GrammarFault;
 pub use read::read_rules;
 pub use rules::{Rule, Rules};

@@ -1,10 +1,12 @@
 //! The reading of a whole text.
 
-ghost use Rattle.std.specs.Prelude.{◌≡◌, ◌≤◌, length, slice_range, IfOk, IfErr, IsTrue, ◌↔◌};
+ghost use Rattle.std.specs.Prelude.{◌≡◌, ◌≤◌, length, slice_range, IfSome, IfOk, IfErr, IsTrue, ◌↔◌};
+ghost use Rattle.csn_lexer.specs.declared.token.TheConstants.{MOST_TEXT};
 ghost use Rattle.csn_lexer.specs.Tokens.{IsLongest};
 ghost use Rattle.csn_grammar.specs.Answers.{HasNoRules, OnSyntax};
 ghost use Rattle.csn_grammar.specs.reader.Gives.{GivesAt};
 ghost use Rattle.csn_grammar.specs.Place.{HasRules, IsSyntaxPlace};
+ghost use Rattle.csn_grammar.specs.Shaped.{AreShaped};
 ghost use Rattle.csn_grammar.specs.reader.RuleSteps.{finished, reader_step};
 
 use crate::fault::GrammarFault;
@@ -15,7 +17,7 @@ use std::alloc::Global;
 
 // Takes one token of the text.
 fn take(alloc: Global, reader: Reader, token: Token, text: &[u8]) -> Result<Reader, GrammarFault>
-    requires limit { length text.now ≤ 262144 }
+    requires limit { length text.now ≤ MOST_TEXT }
     requires token { IsLongest text.now token }
     ensures { GivesAt token.start result
         (reader_step reader.rules reader.state token.kind token.start token.end
@@ -37,13 +39,14 @@ fn is_between(state: &State) -> bool
 
 // The rules, where a text may end.
 fn finish(reader: Reader, end: u32) -> Result<Rules, GrammarFault>
+    requires shaped { IfSome (finished reader.rules reader.state) AreShaped }
     ensures { GivesAt end result (finished reader.rules reader.state) }
 {
     let Reader { rules, state } = reader;
     let between = is_between(&state);
     drop(state);
-    if between && rules.len() > 0 {
-        Ok(rules)
+    if between && !rules.is_empty() {
+        Ok(rules.whole())
     } else {
         Err(GrammarFault::Syntax { place: end })
     }
@@ -53,11 +56,13 @@ fn finish(reader: Reader, end: u32) -> Result<Rules, GrammarFault>
 /// first byte of the first token that cannot follow what stands before it, that of a byte that begins
 /// no token, or the length of the text where it ends too early. Places are in bytes from 0.
 pub fn read_rules(alloc: Global, text: &[u8]) -> Result<Rules, GrammarFault>
-    requires { length text.now ≤ 262144 }
+    requires { length text.now ≤ MOST_TEXT }
     ensures rules { IfOk result (λ rules. HasRules text.now rules) }
+    ensures shaped { IfOk result AreShaped }
     ensures none { IfErr result (λ fault. OnSyntax fault (λ place. HasNoRules text.now)) }
     ensures place { IfErr result (λ fault. OnSyntax fault (IsSyntaxPlace text.now)) }
 {
+    csn_lexer::laws::one_thing_is_next();
     let mut lexer = Lexer::new(text);
     let mut reader = Reader::new(alloc);
     'tokens: loop {

@@ -3,6 +3,7 @@ use Rattle.std.proofs.Common.{◌≡◌, ℕ, ◌+◌, ◌<◌, ◌≤◌, ◌�
 use Rattle.std.proofs.lemmas.Bool.{cases_lt}
 use Rattle.std.proofs.lemmas.List.{drop_more}
 use Rattle.std.proofs.lemmas.Option.{get_or_from_slice_get}
+use Rattle.csn_lexer.specs.declared.gap.TheConstants.{LINE_FEED}
 use Rattle.csn_lexer.specs.Gap.{BeginsComment, IsComment, IsGap}
 use Rattle.csn_lexer.specs.Gap.IsGap.{none, separator, comment}
 
@@ -21,14 +22,14 @@ comment_byte text at inside begins =
 
 -- a comment that begins here ends at the end of its line
 pub comment_gap : (text : List ℕ) (at end : ℕ) → at < length text → BeginsComment text at
-    → at ≤ end → end ≤ length text → ((k : ℕ) → at ≤ k → k < end → slice_index text k ≢ 10)
-    → (end ≡ length text) ⊎ (slice_get text end ≡ Some 10)
+    → at ≤ end → end ≤ length text → ((k : ℕ) → at ≤ k → k < end → slice_index text k ≢ LINE_FEED)
+    → (end ≡ length text) ⊎ (slice_get text end ≡ Some LINE_FEED)
     → IsComment text at end
 comment_gap text at end inside begins from within line ends = record {
   begins = begins;
   forward = elim ends [
     | inl whole ↦ omega arith
-    | inr feed ↦ let byte = comment_byte text at inside begins in let feed_byte = get_or_from_slice_get text end 10 0 feed in
+    | inr feed ↦ let byte = comment_byte text at inside begins in let feed_byte = get_or_from_slice_get text end LINE_FEED 0 feed in
         elim (cases_lt at end) [
           | inl h ↦ h
           | inr past ↦ let same : end ≡ at = omega arith in absurd (omega (arith, byte, feed_byte, ap (λ n. get_or text n 0) same))

@@ -4,3 +4,4 @@ pub mod OneKind
 pub mod Longest
 pub mod Gaps
 pub mod OneReading
+pub mod NextStands

@@ -9,7 +9,7 @@ use Rattle.csn_lexer.specs.declared.token.LexFault.{LexFault}
 use Rattle.csn_lexer.specs.Spelling.{IsSpelled}
 use Rattle.csn_lexer.specs.Gap.{is_separator, BeginsComment, IsComment, IsGap}
 use Rattle.csn_lexer.specs.Gap.IsGap.{none, separator, comment}
-use Rattle.csn_lexer.specs.Tokens.{IsLongest, BeginsNothing, IsNext, AreTokens, stop_of, IsReadInOneWay}
+use Rattle.csn_lexer.specs.Tokens.{IsLongest, BeginsNothing, IsNext, AreTokens, stop_of, TextsAreReadInOneWay}
 use Rattle.csn_lexer.specs.Tokens.AreTokens.{nothing, token}
 use Rattle.csn_lexer.proofs.Pieces.{slice_range_more}
 use Rattle.csn_lexer.proofs.OneKind.{kind_of, kind_is, one_kind}
@@ -158,7 +158,7 @@ same_stop None (Some g) e = absurd (cc)
 same_stop (Some f) None e = absurd (cc)
 same_stop (Some f) (Some g) e = cc
 
-pub one_reading : (text : List ℕ) → IsReadInOneWay text
+pub one_reading : TextsAreReadInOneWay
 one_reading text ts us f g a b =
     let lists = one_list a.tokens b.tokens f g a.stop b.stop in (
       lists.0,

@@ -1,10 +1,11 @@
 -- What stands between tokens. Comments from `--` on are those of 3GPP TS 24.007 Annex B; which bytes
 -- separate tokens is this project's choice.
 use Rattle.std.specs.Prelude.{◌≡◌, ℕ, ◌+◌, ◌<◌, ◌≤◌, ◌≢◌, Bool, ◌||◌, ◌==◌, ◌⊎◌, List, length, codes, IsTrue, Some, slice_get, slice_index, slice_range}
+use Rattle.csn_lexer.specs.declared.gap.TheConstants.{LINE_FEED}
 
 -- a space, tab, line feed or carriage return
 abbrev pub is_separator : ℕ → Bool
-is_separator c = (((c == 32) || (c == 9)) || (c == 10)) || (c == 13)
+is_separator c = (((c == 32) || (c == 9)) || (c == LINE_FEED)) || (c == 13)
 
 -- a comment begins at this place
 abbrev pub BeginsComment : List ℕ → ℕ → Type 0
@@ -15,8 +16,8 @@ pub record IsComment (text : List ℕ) (at end : ℕ) : Type 0 where
   pub begins : BeginsComment text at
   pub forward : at < end
   pub within : end ≤ length text
-  pub one_line : (k : ℕ) → at ≤ k → k < end → slice_index text k ≢ 10
-  pub ends : (end ≡ length text) ⊎ (slice_get text end ≡ Some 10)
+  pub one_line : (k : ℕ) → at ≤ k → k < end → slice_index text k ≢ LINE_FEED
+  pub ends : (end ≡ length text) ⊎ (slice_get text end ≡ Some LINE_FEED)
 
 -- from `at` to `to` stand separators and comments alone
 pub data IsGap (text : List ℕ) : ℕ → ℕ → Type 0 where

@@ -1,5 +1,6 @@
 -- What the parts of the lexer promise of single signs.
 use Rattle.std.specs.Prelude.{◌≢◌, ℕ, List, [], ◌∷◌, IsFalse}
+use Rattle.csn_lexer.specs.declared.symbol.TheConstants.{COLON, STAR, SLASH}
 use Rattle.csn_lexer.specs.declared.token.TokenKind.{TokenKind}
 use Rattle.csn_lexer.specs.Spelling.{IsSpelled}
 use Rattle.csn_lexer.specs.Word.{begins_word}
@@ -12,5 +13,5 @@ pub record StandsAlone (kind : TokenKind) (c : ℕ) : Type 0 where
 -- no token begins with the byte, unless it begins a word or is `:`, `*` or `/`
 abbrev pub BeginsNoSign : ℕ → Type 0
 BeginsNoSign c =
-    c ≢ 58 → c ≢ 42 → c ≢ 47 → IsFalse (begins_word c)
+    c ≢ COLON → c ≢ STAR → c ≢ SLASH → IsFalse (begins_word c)
     → (k : TokenKind) (rest : List ℕ) → ¬ IsSpelled k (c ∷ rest)

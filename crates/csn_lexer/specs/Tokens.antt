@@ -51,7 +51,18 @@ pub record AreAllTokens (text : List ℕ) (ts : List Token) (fault : Option LexF
   pub stop : IsNext text to (stop_of fault)
 
 -- no text is read in two ways
-abbrev pub IsReadInOneWay : List ℕ → Type 0
-IsReadInOneWay text =
-    (ts us : List Token) (f g : Option LexFault)
+abbrev pub TextsAreReadInOneWay : Type 0
+TextsAreReadInOneWay =
+    (text : List ℕ) (ts us : List Token) (f g : Option LexFault)
     → AreAllTokens text ts f → AreAllTokens text us g → (ts ≡ us) × (f ≡ g)
+
+-- from no place of a text two things stand next
+abbrev pub OneIsNext : Type 0
+OneIsNext =
+    (text : List ℕ) (at : ℕ) (next other : Result (Option Token) LexFault)
+    → IsNext text at next → IsNext text at other → next ≡ other
+
+-- from each place of a text something stands next
+abbrev pub SomethingIsNext : Type 0
+SomethingIsNext =
+    (text : List ℕ) (at : ℕ) → at ≤ length text → (next : Result (Option Token) LexFault) × IsNext text at next

@@ -1,12 +1,16 @@
 //! Separators and comments, which stand between tokens.
 
 ghost use Rattle.std.specs.Prelude.{◌≡◌, ℕ, ◌+◌, ◌<◌, ◌≤◌, ◌≢◌, ◌⊎◌, ◌↔◌, length, slice_get, slice_index, slice_range, IfNone, IfSome, IsTrue, IsFalse};
+ghost use Rattle.csn_lexer.specs.declared.gap.TheConstants.{LINE_FEED};
 ghost use Rattle.csn_lexer.specs.Gap.{is_separator, BeginsComment, IsComment, IsGap};
+
+// The end of a line.
+const LINE_FEED: u8 = b'\n';
 
 fn is_separator(byte: u8) -> bool
     ensures { result ≡ is_separator byte }
 {
-    matches!(byte, b' ' | b'\t' | b'\n' | b'\r')
+    matches!(byte, b' ' | b'\t' | LINE_FEED | b'\r')
 }
 
 fn begins_comment(text: &[u8], at: usize) -> bool
@@ -21,11 +25,11 @@ fn line_end(text: &[u8], at: usize) -> usize
     requires { at ≤ length text.now }
     ensures from { at ≤ result }
     ensures within { result ≤ length text.now }
-    ensures line { (k : ℕ) → at ≤ k → k < result → slice_index text.now k ≢ 10 }
-    ensures ends { (result ≡ length text.now) ⊎ (slice_get text.now result ≡ Some 10) }
+    ensures line { (k : ℕ) → at ≤ k → k < result → slice_index text.now k ≢ LINE_FEED }
+    ensures ends { (result ≡ length text.now) ⊎ (slice_get text.now result ≡ Some LINE_FEED) }
 {
     for end in at..text.len() {
-        if text[end] == b'\n' {
+        if text[end] == LINE_FEED {
             return end;
         }
     }

@@ -1,6 +1,7 @@
 //! The reader of tokens.
 
 ghost use Rattle.std.specs.Prelude.{◌≡◌, ℕ, ◌≤◌, ◌<◌, length};
+ghost use Rattle.csn_lexer.specs.declared.token.TheConstants.{MOST_TEXT};
 ghost use Rattle.csn_lexer.specs.Tokens.{IsNext};
 ghost use Rattle.csn_lexer.specs.Answer.{OnToken, OnNoToken};
 
@@ -20,18 +21,19 @@ pub struct Lexer<'a> {
 impl<'a> Model for Lexer<'a> {
     ghost use Rattle.std.specs.Prelude.{◌≤◌, length};
     ghost use Rattle.csn_lexer.specs.Cursor.{Cursor};
+    ghost use Rattle.csn_lexer.specs.declared.token.TheConstants.{MOST_TEXT};
 
     ghost Value = { Cursor };
 
     ghost view = { λ l. record { text = l.text.now; place = l.place } };
 
-    ghost invariant = { λ l. (length l.text.now ≤ 262144) × (l.place ≤ length l.text.now) };
+    ghost invariant = { λ l. (length l.text.now ≤ MOST_TEXT) × (l.place ≤ length l.text.now) };
 }
 
 impl<'a> Lexer<'a> {
     /// A lexer in front of the text's first byte.
     pub fn new(text: &'a [u8]) -> Lexer<'a>
-        requires { length text.now ≤ 262144 }
+        requires { length text.now ≤ MOST_TEXT }
         ensures { result ≡ record { text = text.now; place = 0 } }
     {
         Lexer { text, place: 0 }
@@ -77,7 +79,7 @@ mod tests {
         tokens: &[(TokenKind, u32, u32)],
         end: Result<Option<Token>, LexFault>,
     )
-        requires { length text.now ≤ 262144 }
+        requires { length text.now ≤ MOST_TEXT }
     {
         let mut lexer = Lexer::new(text);
         for (kind, start, end) in tokens {

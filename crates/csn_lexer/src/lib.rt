@@ -9,5 +9,5 @@ mod token;
 mod words;
 
 pub use lexer::Lexer;
-pub use token::{LexFault, Token, TokenKind};
+pub use token::{LexFault, MOST_TEXT, Token, TokenKind};
 pub use words::is_word;

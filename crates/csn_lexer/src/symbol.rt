@@ -1,6 +1,8 @@
 //! The signs of the notation, and which token begins at a place.
 
 ghost use Rattle.std.specs.Prelude.{◌≡◌, ℕ, ◌+◌, ◌<◌, ◌≤◌, ◌↔◌, length, slice_get, slice_index, IfSome, IfNone, IsTrue};
+ghost use Rattle.csn_lexer.specs.declared.symbol.TheConstants.{COLON, STAR, SLASH};
+ghost use Rattle.csn_lexer.specs.declared.token.TheConstants.{MOST_TEXT};
 ghost use Rattle.csn_lexer.specs.declared.token.TokenKind.{TokenKind};
 ghost use Rattle.csn_lexer.specs.Spelling.{IsSpelled};
 ghost use Rattle.csn_lexer.specs.Symbol.{BeginsNoSign, StandsAlone};
@@ -9,6 +11,13 @@ ghost use Rattle.csn_lexer.specs.Word.{begins_word};
 
 use crate::token::{Token, TokenKind};
 use crate::words::{begins_word, word_end};
+
+// The bytes with which two signs, or a sign and a word, can begin.
+const COLON: u8 = b':';
+
+const STAR: u8 = b'*';
+
+const SLASH: u8 = b'/';
 
 // The kind of the token that this byte is, where no longer token begins with it.
 fn lone_symbol(byte: u8) -> Option<TokenKind>
@@ -40,7 +49,7 @@ fn is_at(text: &[u8], at: usize, byte: u8) -> bool
 
 fn token_of(kind: TokenKind, start: usize, end: usize) -> Token
     requires order { start ≤ end }
-    requires limit { end ≤ 262144 }
+    requires limit { end ≤ MOST_TEXT }
     ensures { result ≡ record { kind = kind; start = start; end = end } }
 {
     Token {
@@ -52,13 +61,13 @@ fn token_of(kind: TokenKind, start: usize, end: usize) -> Token
 
 // The `:` or `::=` at `at`.
 fn colon_at(text: &[u8], at: usize) -> Token
-    requires limit { length text.now ≤ 262144 }
+    requires limit { length text.now ≤ MOST_TEXT }
     requires inside { at < length text.now }
-    requires sign { slice_index text.now at ≡ 58 }
+    requires sign { slice_index text.now at ≡ COLON }
     ensures start { result.start ≡ at }
     ensures longest { IsLongest text.now result }
 {
-    if is_at(text, at + 1, b':') && is_at(text, at + 2, b'=') {
+    if is_at(text, at + 1, COLON) && is_at(text, at + 2, b'=') {
         token_of(TokenKind::Define, at, at + 3)
     } else {
         token_of(TokenKind::Colon, at, at + 1)
@@ -67,13 +76,13 @@ fn colon_at(text: &[u8], at: usize) -> Token
 
 // The `*` or `**` at `at`.
 fn star_at(text: &[u8], at: usize) -> Token
-    requires limit { length text.now ≤ 262144 }
+    requires limit { length text.now ≤ MOST_TEXT }
     requires inside { at < length text.now }
-    requires sign { slice_index text.now at ≡ 42 }
+    requires sign { slice_index text.now at ≡ STAR }
     ensures start { result.start ≡ at }
     ensures longest { IsLongest text.now result }
 {
-    if is_at(text, at + 1, b'*') {
+    if is_at(text, at + 1, STAR) {
         token_of(TokenKind::StarStar, at, at + 2)
     } else {
         token_of(TokenKind::Star, at, at + 1)
@@ -82,13 +91,13 @@ fn star_at(text: &[u8], at: usize) -> Token
 
 // The `//` at `at`, where there is one.
 fn slashes_at(text: &[u8], at: usize) -> Option<Token>
-    requires limit { length text.now ≤ 262144 }
+    requires limit { length text.now ≤ MOST_TEXT }
     requires inside { at < length text.now }
-    requires sign { slice_index text.now at ≡ 47 }
+    requires sign { slice_index text.now at ≡ SLASH }
     ensures none { IfNone result (BeginsNoToken text.now at) }
     ensures some { IfSome result (λ t. (t.start ≡ at) × IsLongest text.now t) }
 {
-    if is_at(text, at + 1, b'/') {
+    if is_at(text, at + 1, SLASH) {
         Some(token_of(TokenKind::SlashSlash, at, at + 2))
     } else {
         None
@@ -97,7 +106,7 @@ fn slashes_at(text: &[u8], at: usize) -> Option<Token>
 
 // The word at `at`.
 fn word_at(text: &[u8], at: usize) -> Token
-    requires limit { length text.now ≤ 262144 }
+    requires limit { length text.now ≤ MOST_TEXT }
     requires inside { at < length text.now }
     requires begins { IsTrue (begins_word (slice_index text.now at)) }
     ensures start { result.start ≡ at }
@@ -108,7 +117,7 @@ fn word_at(text: &[u8], at: usize) -> Token
 
 // The single sign at `at` of this kind.
 fn lone_symbol_at(text: &[u8], at: usize, kind: TokenKind) -> Token
-    requires limit { length text.now ≤ 262144 }
+    requires limit { length text.now ≤ MOST_TEXT }
     requires inside { at < length text.now }
     requires alone { StandsAlone kind (slice_index text.now at) }
     ensures start { result.start ≡ at }
@@ -119,15 +128,15 @@ fn lone_symbol_at(text: &[u8], at: usize, kind: TokenKind) -> Token
 
 /// The longest token that stands at `at`, if one does.
 pub fn token_at(text: &[u8], at: usize) -> Option<Token>
-    requires limit { length text.now ≤ 262144 }
+    requires limit { length text.now ≤ MOST_TEXT }
     requires inside { at < length text.now }
     ensures none { IfNone result (BeginsNoToken text.now at) }
     ensures some { IfSome result (λ t. (t.start ≡ at) × IsLongest text.now t) }
 {
     match text[at] {
-        b':' => Some(colon_at(text, at)),
-        b'*' => Some(star_at(text, at)),
-        b'/' => slashes_at(text, at),
+        COLON => Some(colon_at(text, at)),
+        STAR => Some(star_at(text, at)),
+        SLASH => slashes_at(text, at),
         byte => match lone_symbol(byte) {
             Some(kind) => Some(lone_symbol_at(text, at, kind)),
             None if begins_word(byte) => Some(word_at(text, at)),

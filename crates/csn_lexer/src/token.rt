@@ -1,5 +1,8 @@
 //! Tokens and the one fault that a text can have as a row of them.
 
+/// The most bytes that a text may have.
+pub const MOST_TEXT: u32 = 262_144;
+
 /// The kind of a token.
 #[derive(Clone, Copy, Debug, PartialEq, Eq)]
 pub enum TokenKind {

@@ -5,6 +5,7 @@ use Rattle.std.specs.Prelude.{ℕ, Bool, true, false, List, [], ◌∷◌, ◌++
 use Rattle.std.specs.Option.{option_map}
 use Rattle.csn_lexer.specs.declared.token.TokenKind.{TokenKind}
 use Rattle.csn_lexer.specs.declared.token.TokenKind.TheVariants as kind
+use Rattle.csn_grammar.specs.declared.expr.TheConstants.{MOST_OPEN}
 use Rattle.csn_grammar.specs.declared.exponent.Exponent.TheVariants as exponent
 use Rattle.csn_grammar.specs.declared.reader.progress.Progress.TheVariants as progress
 use Rattle.csn_grammar.specs.declared.reader.progress.ExponentNext.{ExponentNext}
@@ -46,7 +47,7 @@ without_items level = record level { items = []; joint = Alone }
 
 unfoldable pub open_frame : List Frame → Level → ℕ → Opening → Option Next
 open_frame frames level s opening =
-    if nat_lt (length frames) 64
+    if nat_lt (length frames) MOST_OPEN
     then goes (record { start = s; opening = opening; level = level } ∷ frames) fresh Side
     else None
 

@@ -8,23 +8,24 @@ use Rattle.std.specs.Option.{option_map}
 use Rattle.csn_desc.specs.declared.symbol.Symbol.{Symbol}
 use Rattle.csn_desc.specs.declared.symbol.Symbol.TheVariants.{Zero, One, Low, High}
 use Rattle.csn_grammar.specs.ExprV.{FormV, lits, null, bit, octet}
-use Rattle.csn_grammar.specs.Writing.{decimal_after}
+use Rattle.csn_grammar.specs.declared.exponent.TheConstants.{MOST_DIGITS}
+use Rattle.csn_grammar.specs.Writing.{letter_of, decimal_after}
 
 abbrev pub is_text : List ℕ → List ℕ → Bool
 is_text word text = pointwise nat_eq word text
 
 abbrev pub number_of : List ℕ → Option ℕ
 number_of word =
-    if (nat_le 1 (length word) && nat_le (length word) 9) && list_all is_ascii_digit word
+    if (nat_le 1 (length word) && nat_le (length word) MOST_DIGITS) && list_all is_ascii_digit word
     then Some (decimal_after 0 word)
     else None
 
 abbrev pub symbol_of : ℕ → Option Symbol
 symbol_of c =
-    if c == 48 then Some Zero
-    else (if c == 49 then Some One
-    else (if c == 76 then Some Low
-    else (if c == 72 then Some High
+    if c == letter_of Zero then Some Zero
+    else (if c == letter_of One then Some One
+    else (if c == letter_of Low then Some Low
+    else (if c == letter_of High then Some High
     else None)))
 
 -- the symbols of a word that is a literal

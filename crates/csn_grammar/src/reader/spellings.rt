@@ -3,11 +3,14 @@
 ghost use Rattle.std.specs.Prelude.{◌≡◌, ◌≤◌, length, codes, IsTrue};
 ghost use Rattle.std.specs.List.{list_all};
 ghost use Rattle.std.specs.Char.{is_ascii_digit};
+ghost use Rattle.csn_lexer.specs.declared.token.TheConstants.{MOST_TEXT};
+ghost use Rattle.csn_grammar.specs.declared.exponent.TheConstants.{MOST_DIGITS};
 ghost use Rattle.csn_grammar.specs.Writing.{decimal_after};
 ghost use Rattle.csn_grammar.specs.reader.GivesForm.{GivesForm};
 ghost use Rattle.csn_grammar.specs.reader.Gives.{Gives};
 ghost use Rattle.csn_grammar.specs.reader.Spellings.{is_text, number_of, symbol_of, run_of, word_form};
 
+use crate::exponent::MOST_DIGITS;
 use crate::expr::Form;
 use crate::reader::stop::Stop;
 use csn_desc::{Run, Symbol};
@@ -15,7 +18,7 @@ use std::alloc::Global;
 
 // The number that these digits write.
 fn decimal(digits: &[u8]) -> u32
-    requires few { length digits.now ≤ 9 }
+    requires few { length digits.now ≤ MOST_DIGITS }
     requires digits { IsTrue (list_all is_ascii_digit digits.now) }
     ensures { result ≡ decimal_after 0 digits.now }
 {
@@ -32,11 +35,11 @@ fn are_digits(word: &[u8]) -> bool
     word.iter().all(|byte| byte.is_ascii_digit())
 }
 
-/// The number that one to nine digits write.
+/// The number that the digits write, where they are one at least and few enough.
 pub fn number_of(word: &[u8]) -> Option<u32>
     ensures { result ≡ number_of word.now }
 {
-    if word.len() >= 1 && word.len() <= 9 && are_digits(word) {
+    if word.len() >= 1 && word.len() <= MOST_DIGITS && are_digits(word) {
         Some(decimal(word))
     } else {
         None
@@ -64,7 +67,7 @@ fn symbol_of(byte: u8) -> Option<Symbol>
 
 // The symbols of a word that is a literal.
 fn run_of(alloc: Global, word: &[u8]) -> Result<Run, Stop>
-    requires { length word.now ≤ 262144 }
+    requires { length word.now ≤ MOST_TEXT }
     ensures { Gives result (run_of word.now) }
 {
     let mut run = Run::new(alloc);
@@ -79,7 +82,7 @@ fn run_of(alloc: Global, word: &[u8]) -> Result<Run, Stop>
 
 /// The side that a word is alone.
 pub fn word_form(alloc: Global, word: &[u8]) -> Result<Form, Stop>
-    requires { length word.now ≤ 262144 }
+    requires { length word.now ≤ MOST_TEXT }
     ensures { GivesForm result (word_form word.now) }
 {
     if word == b"null".as_slice() {

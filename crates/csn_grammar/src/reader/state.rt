@@ -1,6 +1,7 @@
 //! Where the reader stands in a text.
 
 ghost use Rattle.std.specs.Prelude.{◌≡◌, ◌≤◌, [], length};
+ghost use Rattle.csn_lexer.specs.declared.token.TheConstants.{MOST_TEXT};
 ghost use Rattle.csn_grammar.specs.reader.Gives.{Gives, IsWordToken};
 ghost use Rattle.csn_grammar.specs.reader.BodySteps.{body_step};
 ghost use Rattle.csn_grammar.specs.reader.RuleSteps.{after_body, name_step, named_step, reader_step};
@@ -10,7 +11,7 @@ use crate::reader::body::{Body, Mode, Next};
 use crate::reader::steps::{body_of, body_step};
 use crate::reader::stop::Stop;
 use crate::reader::words::Words;
-use crate::rules::{Rule, Rules};
+use crate::rules::{Rule, RulesRead};
 use csn_desc::Label;
 use csn_lexer::{Token, TokenKind};
 use std::alloc::Global;
@@ -33,7 +34,7 @@ pub enum State {
 /// The rules that are whole, and where the reader stands.
 #[derive(Drop)]
 pub struct Reader {
-    pub rules: Rules,
+    pub rules: RulesRead,
     pub state: State,
 }
 
@@ -43,7 +44,7 @@ impl Reader {
         ensures { result ≡ record { rules = []; state = State.Between } }
     {
         Reader {
-            rules: Rules::new(alloc),
+            rules: RulesRead::new(alloc),
             state: State::Between,
         }
     }
@@ -51,7 +52,7 @@ impl Reader {
 
 fn name_step(
     alloc: Global,
-    rules: Rules,
+    rules: RulesRead,
     start: u32,
     words: Words,
     kind: TokenKind,
@@ -76,7 +77,7 @@ fn name_step(
 
 fn in_body(
     alloc: Global,
-    mut rules: Rules,
+    mut rules: RulesRead,
     start: u32,
     name: Label,
     body: Body,
@@ -84,7 +85,7 @@ fn in_body(
     text: &[u8],
 ) -> Result<Reader, Stop>
     requires word { IsWordToken token.kind text.now }
-    requires short { length text.now ≤ 262144 }
+    requires short { length text.now ≤ MOST_TEXT }
     ensures { Gives result
         (after_body rules start name token.end
         (body_step body.frames body.level body.mode token.kind token.start token.end text.now)) }
@@ -111,7 +112,7 @@ fn in_body(
 /// Takes one token.
 pub fn reader_step(alloc: Global, reader: Reader, token: Token, text: &[u8]) -> Result<Reader, Stop>
     requires word { IsWordToken token.kind text.now }
-    requires short { length text.now ≤ 262144 }
+    requires short { length text.now ≤ MOST_TEXT }
     ensures { Gives result
         (reader_step reader.rules reader.state token.kind token.start token.end text.now) }
 {

@@ -1,6 +1,7 @@
 //! The steps through the body of a rule, one token each.
 
 ghost use Rattle.std.specs.Prelude.{◌≡◌, ◌≤◌, [], length};
+ghost use Rattle.csn_lexer.specs.declared.token.TheConstants.{MOST_TEXT};
 ghost use Rattle.csn_grammar.specs.reader.Gives.{Gives, IsWordToken};
 ghost use Rattle.csn_grammar.specs.reader.BodySteps.{fresh, body_step};
 
@@ -39,7 +40,7 @@ pub fn body_of(alloc: Global) -> Body
 #[tactic(auto, unfolding(crate::specs::reader::BodySteps::body_step))]
 pub fn body_step(alloc: Global, body: Body, token: Token, text: &[u8]) -> Result<Next, Stop>
     requires word { IsWordToken token.kind text.now }
-    requires short { length text.now ≤ 262144 }
+    requires short { length text.now ≤ MOST_TEXT }
     ensures { Gives result
         (body_step body.frames body.level body.mode token.kind token.start token.end text.now) }
 {

@@ -1,6 +1,7 @@
 //! Behind a base, where an exponent or `//` may come.
 
 ghost use Rattle.std.specs.Prelude.{◌≡◌, ◌≤◌, length};
+ghost use Rattle.csn_lexer.specs.declared.token.TheConstants.{MOST_TEXT};
 ghost use Rattle.csn_lexer.specs.declared.token.TokenKind.{TokenKind};
 ghost use Rattle.csn_grammar.specs.reader.Gives.{Gives, IsWordToken};
 ghost use Rattle.csn_grammar.specs.reader.Building.{cut_group};
@@ -30,7 +31,7 @@ fn after_slashes(
     token: Token,
     text: &[u8],
 ) -> Result<Next, Stop>
-    requires text { length text.now ≤ 262144 }
+    requires text { length text.now ≤ MOST_TEXT }
     requires slashes { token.kind ≡ TokenKind.SlashSlash }
     ensures { Gives result
         (after_slashes frames level (cut_group base token.end) base token.start token.end text.now) }
@@ -62,7 +63,7 @@ pub fn after_base(
     token: Token,
     text: &[u8],
 ) -> Result<Next, Stop>
-    requires { length text.now ≤ 262144 }
+    requires { length text.now ≤ MOST_TEXT }
     ensures { Gives result (after_base frames level base token.kind token.start token.end text.now) }
 {
     let progress = match token.kind {

@@ -1,6 +1,7 @@
 //! Behind a side, where `&` or `=` may come.
 
 ghost use Rattle.std.specs.Prelude.{◌≤◌, length};
+ghost use Rattle.csn_lexer.specs.declared.token.TheConstants.{MOST_TEXT};
 ghost use Rattle.csn_grammar.specs.reader.Gives.{Gives};
 ghost use Rattle.csn_grammar.specs.reader.BodySteps.{after_window, after_side};
 
@@ -23,7 +24,7 @@ fn after_window(
     token: Token,
     text: &[u8],
 ) -> Result<Next, Stop>
-    requires { length text.now ≤ 262144 }
+    requires { length text.now ≤ MOST_TEXT }
     ensures { Gives result (after_window frames level window token.kind token.start token.end text.now) }
 {
     match token.kind {
@@ -45,7 +46,7 @@ pub fn after_side(
     token: Token,
     text: &[u8],
 ) -> Result<Next, Stop>
-    requires { length text.now ≤ 262144 }
+    requires { length text.now ≤ MOST_TEXT }
     ensures { Gives result (after_side frames level side token.kind token.start token.end text.now) }
 {
     let Level {

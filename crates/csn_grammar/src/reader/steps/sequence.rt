@@ -1,6 +1,7 @@
 //! Behind an item that is whole.
 
 ghost use Rattle.std.specs.Prelude.{◌≤◌, length};
+ghost use Rattle.csn_lexer.specs.declared.token.TheConstants.{MOST_TEXT};
 ghost use Rattle.csn_grammar.specs.reader.Gives.{Gives};
 ghost use Rattle.csn_grammar.specs.reader.BodySteps.{with_item, begin_side, after_item};
 
@@ -23,7 +24,7 @@ fn next_item(
     token: Token,
     text: &[u8],
 ) -> Result<Next, Stop>
-    requires { length text.now ≤ 262144 }
+    requires { length text.now ≤ MOST_TEXT }
     ensures { Gives result (begin_side frames (with_item level item) token.kind token.start token.end text.now) }
 {
     level.items.push(item)?;
@@ -41,7 +42,7 @@ pub fn after_item(
     token: Token,
     text: &[u8],
 ) -> Result<Next, Stop>
-    requires { length text.now ≤ 262144 }
+    requires { length text.now ≤ MOST_TEXT }
     ensures { Gives result (after_item frames level item token.kind token.start token.end text.now) }
 {
     match token.kind {

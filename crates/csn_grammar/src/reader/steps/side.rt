@@ -1,11 +1,12 @@
 //! The beginning of a side.
 
 ghost use Rattle.std.specs.Prelude.{◌≡◌, ◌≤◌, length};
+ghost use Rattle.csn_lexer.specs.declared.token.TheConstants.{MOST_TEXT};
 ghost use Rattle.csn_grammar.specs.reader.Gives.{Gives};
 ghost use Rattle.csn_grammar.specs.FormView.{form_view};
 ghost use Rattle.csn_grammar.specs.reader.BodySteps.{open_frame, word_mode, begin_side};
 
-use crate::expr::{Expr, Form, Span};
+use crate::expr::{Expr, Form, MOST_OPEN, Span};
 use crate::reader::body::{Frame, Frames, Level, Mode, Next, Opening};
 use crate::reader::spellings::word_form;
 use crate::reader::steps::level::{fresh, goes};
@@ -13,7 +14,7 @@ use crate::reader::stop::Stop;
 use csn_lexer::{Token, TokenKind};
 use std::alloc::Global;
 
-/// Opens braces or a labelled part, where fewer than 64 are open.
+/// Opens braces or a labelled part, where there is room for one more inside those that are open.
 #[tactic(auto, unfolding(crate::specs::reader::BodySteps::open_frame))]
 pub fn open_frame(
     alloc: Global,
@@ -24,7 +25,7 @@ pub fn open_frame(
 ) -> Result<Next, Stop>
     ensures { Gives result (open_frame frames level start opening) }
 {
-    if frames.len() >= 64 {
+    if frames.len() >= MOST_OPEN {
         return Err(Stop::Refused);
     }
     let frames = frames.push(Frame {
@@ -54,7 +55,7 @@ pub fn begin_side(
     token: Token,
     text: &[u8],
 ) -> Result<Next, Stop>
-    requires { length text.now ≤ 262144 }
+    requires { length text.now ≤ MOST_TEXT }
     ensures { Gives result (begin_side frames level token.kind token.start token.end text.now) }
 {
     match token.kind {

@@ -2,4 +2,4 @@ use Rattle.csn_lexer.proofs.OneReading.{one_reading}
 use Rattle.csn_lexer.proofs.laws.one_list_of_tokens.Goals as goal
 
 pub returns : goal.returns
-returns c = one_reading c.args.text.now
+returns c = one_reading
