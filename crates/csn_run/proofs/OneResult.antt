@@ -4,7 +4,7 @@ use Rattle.std.proofs.lemmas.List.{append-nil}
 use Rattle.std.specs.List.{AllZip, list_any}
 use Rattle.std.specs.Fmt.{decimal}
 use Rattle.csn_lexer.specs.declared.token.Token.{Token}
-use Rattle.csn_lexer.proofs.OneReading.{one_reading}
+use Rattle.csn_lexer.proofs.OneReading.{one_reading, one_next}
 use Rattle.csn_desc.specs.declared.reading.Reading.{Reading}
 use Rattle.csn_desc.specs.declared.reading.Reading.TheVariants.{Received, Sent}
 use Rattle.csn_grammar.specs.RulesV.{RulesV}
@@ -12,7 +12,7 @@ use Rattle.csn_grammar.specs.TokenV.{tokens_in}
 use Rattle.csn_grammar.specs.Grammar.{AreRules}
 use Rattle.csn_grammar.specs.Place.{HasRules}
 use Rattle.csn_grammar.proofs.CompleteRules.{one_list_of_rules}
-use Rattle.csn_grammar.proofs.Reading.{no_fault}
+use Rattle.csn_grammar.proofs.OnePlace.{no_fault}
 use Rattle.csn_run.specs.declared.ended.Ended.{Ended}
 use Rattle.csn_run.specs.declared.lines.TheConstants.{MOST_INPUT}
 use Rattle.csn_run.specs.declared.top.TheConstants.{MOST_DESCRIPTION}
@@ -112,15 +112,15 @@ one_none name text w v e f (no_rules place fits at is end) (long_text long is' e
 one_none name text w v e f (no_rules place fits at is end) (no_rules place' fits' at' is' end') =
     let same : place ≡ place' = one_place text place place' at at' in
     (is ∙ ap (λ p. codes "syntax " ++ (decimal p ++ 10 ∷ [])) same ∙ sym is', end ∙ sym end')
-one_none name text w v e f (no_rules place fits at is end) (not_built rules fits' has not is' end') = absurd (no_fault has at)
+one_none name text w v e f (no_rules place fits at is end) (not_built rules fits' has not is' end') = absurd (no_fault one_next has at)
 one_none name text w v e f (not_built rules fits has not is end) (long_text long is' end') = absurd (omega arith)
-one_none name text w v e f (not_built rules fits has not is end) (no_rules place fits' at is' end') = absurd (no_fault has at)
+one_none name text w v e f (not_built rules fits has not is end) (no_rules place fits' at is' end') = absurd (no_fault one_next has at)
 one_none name text w v e f (not_built rules fits has not is end) (not_built rules' fits' has' not' is' end') = (is ∙ sym is', end ∙ sym end')
 
 -- no line is come to, or the lines are answered by the rules
 none_or_lines : (name text w : List ℕ) (e : Ended) → ShowsNone name text w e → (rules : RulesV) → length text ≤ MOST_DESCRIPTION → HasRules text rules → IsSimple rules name → ⊥
 none_or_lines name text w e (long_text long is end) rules fits has simple = omega arith
-none_or_lines name text w e (no_rules place fits' at is end) rules fits has simple = no_fault has at
+none_or_lines name text w e (no_rules place fits' at is end) rules fits has simple = no_fault one_next has at
 none_or_lines name text w e (not_built rules' fits' has' not is end) rules fits has simple =
     not (subst (λ (r : RulesV). IsSimple r name) (one_rules text rules rules' has has') simple)
 
