@@ -4,7 +4,7 @@ ghost use Rattle.csn_bits.specs.Line.{BlockLine, written};
 ghost use Rattle.csn_bits.specs.Octets.{IsBits, bits_of_octets, octets_of};
 
 use crate::fault::{BitsFault, NoMemory};
-use crate::feed::{HexEnd, HexFeed, HexStep, MOST_OCTETS};
+use crate::feed::{HexEnd, HexFeed, HexStep, MOST_LINE, MOST_OCTETS};
 use std::alloc::Global;
 use std::marker::Model;
 
@@ -109,7 +109,7 @@ impl Bits {
     /// digits in either case. The line is without its line feed. Of several faults the first in the
     /// order of [`BitsFault`] is told.
     pub fn from_hex_line(alloc: Global, line: &[u8]) -> Result<Bits, BitsFault>
-        requires { length line.now ≤ 16777216 }
+        requires { length line.now ≤ MOST_LINE }
         ensures ok { IfOk result (λ b. BlockLine line.now b) }
         ensures refused { IfErr result (λ e. (e ≡ BitsFault.NoMemory) ⊎ IsLineFault line.now e) }
     {

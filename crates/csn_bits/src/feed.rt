@@ -4,6 +4,9 @@ ghost use Rattle.std.specs.Option.{ForSome};
 use crate::digit::{counted_bits, digit_value};
 use crate::fault::LineWhy;
 
+/// The most bytes of a line.
+pub const MOST_LINE: u32 = 16_777_216;
+
 /// The most octets of a block.
 pub(crate) const MOST_OCTETS: u32 = 65_536;
 
@@ -83,7 +86,7 @@ impl HexFeed {
     /// Takes the next byte of the line. The octet of the last pair of digits is held back, since
     /// only the end of the line says which of its bits belong to the block.
     pub fn byte(&mut self, byte: u8) -> HexStep
-        requires { seen_of self.old < 16777216 }
+        requires { seen_of self.old < MOST_LINE }
         ensures fed { (line : List ℕ) → Fed self.old line → Fed self.new (line ++ byte ∷ []) }
         ensures given { (line : List ℕ) → Fed self.old line → Gives line byte result }
         ensures seen { seen_of self.new ≡ seen_of self.old + 1 }

@@ -9,7 +9,7 @@ ghost use Rattle.csn_desc.specs.Formed.{HasParts, IsUnit, width_of, labelled_par
 ghost use Rattle.csn_desc.specs.Building.{node_of, with_part, part_begun, has_shown, is_shown};
 
 use crate::desc::MOST_NODES;
-use crate::node::{Count, Head, Node};
+use crate::node::{Count, Head, MOST_VALUE_BITS, Node};
 use crate::parts::Parts;
 use csn_bits::NoMemory;
 use std::alloc::Global;
@@ -157,15 +157,15 @@ fn width_of(node: Option<&Node>) -> Option<u64>
     }
 }
 
-/// Whether the node is a labelled field of 1 to 16 bits.
+/// Whether the node is a labelled field that a count may stand on.
 pub(crate) fn is_narrow(nodes: &[Node], field: u16) -> bool
-    ensures { IsTrue result ↔ IsSomeAnd (value_width nodes.now field) (λ width. (1 ≤ width) × (width ≤ 16)) }
+    ensures { IsTrue result ↔ IsSomeAnd (value_width nodes.now field) (λ width. (1 ≤ width) × (width ≤ MOST_VALUE_BITS)) }
 {
     let Some(part) = labelled_part(node_at(nodes, field)) else {
         return false;
     };
     match width_of(node_at(nodes, part)) {
-        Some(width) => 1 <= width && width <= 16,
+        Some(width) => 1 <= width && width <= MOST_VALUE_BITS,
         None => false,
     }
 }

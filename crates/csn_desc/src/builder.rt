@@ -7,7 +7,7 @@ use crate::begun::{
     begun_node, has_its_parts, is_narrow, is_shown, is_unit, push_part, takes_another,
 };
 use crate::desc::{Desc, MOST_NODES};
-use crate::node::{Count, Head, Node};
+use crate::node::{Count, Head, MOST_ADDED, MOST_COUNT, Node};
 use crate::parts::Parts;
 use crate::reading::Reading;
 use crate::symbol::Symbol;
@@ -130,7 +130,7 @@ impl DescBuilder {
     }
 
     /// Whether there is a root, and nothing is entered. It takes no memory.
-    pub fn whole(&self) -> bool
+    pub fn is_whole(&self) -> bool
         ensures { IsTrue result ↔ IsWhole self.now }
     {
         !self.nodes.is_empty() && self.around.is_empty()
@@ -180,9 +180,9 @@ impl DescBuilder {
         ensures { IsTrue result ↔ IsNextCount self.now count.now }
     {
         match count {
-            Count::Fixed(n) => 1 <= *n && *n <= 65_536,
+            Count::Fixed(n) => 1 <= *n && *n <= MOST_COUNT,
             Count::Counted { m, field, c } => {
-                if *m == 0 || *c > 65_535 {
+                if *m == 0 || *c > MOST_ADDED {
                     return false;
                 }
                 if !self.shows(*field) {

@@ -22,7 +22,7 @@ pub use builder::{DescBuilder, DescFault, MOST_DEPTH};
 pub use desc::{Desc, MOST_NODES};
 pub use label::{Label, LabelFault, is_label};
 pub use moves::Move;
-pub use node::{Count, Head, Node};
+pub use node::{Count, Head, MOST_ADDED, MOST_COUNT, MOST_VALUE_BITS, Node};
 pub use parts::Parts;
 pub use reading::Reading;
 pub use run::{MOST_SYMBOLS, Run};

@@ -3,6 +3,15 @@ use crate::parts::Parts;
 use crate::run::Run;
 use crate::symbol::Symbol;
 
+/// The most that a constant count is.
+pub const MOST_COUNT: u32 = 65_536;
+
+/// The most that is added to the number of a labelled field.
+pub const MOST_ADDED: u32 = 65_535;
+
+/// The most bits of a labelled field that a count stands on.
+pub const MOST_VALUE_BITS: u64 = 16;
+
 /// How many times a part stands, or how many units of bits a field has.
 #[derive(Clone, Copy, Debug, PartialEq, Eq, Hash)]
 pub enum Count {

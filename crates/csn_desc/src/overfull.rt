@@ -141,7 +141,7 @@ fn part_at(node: &Node, at: u16) -> u16
 /// How many counted fields stand before what is behind the part, or 64 where there are more.
 fn amount_behind(nodes: &[Node], counted: &[bool], part: u16, shows: bool, seen: u8) -> u8
     requires { part < length counted.now }
-    ensures { result ≡ (if shows && (is_named nodes.now part && (get_or counted.now part false && nat_lt seen 64)) then seen + 1 else seen) }
+    ensures { result ≡ (if shows && (is_named nodes.now part && (get_or counted.now part false && nat_lt seen MOST_VALS)) then seen + 1 else seen) }
 {
     if shows && adds_one(nodes, counted, part, seen) {
         seen + 1
@@ -153,7 +153,7 @@ fn amount_behind(nodes: &[Node], counted: &[bool], part: u16, shows: bool, seen:
 /// Whether the part is a counted field, and one more than 64 is not told.
 fn adds_one(nodes: &[Node], counted: &[bool], part: u16, before: u8) -> bool
     requires { part < length counted.now }
-    ensures { result ≡ (is_named nodes.now part && (get_or counted.now part false && nat_lt before 64)) }
+    ensures { result ≡ (is_named nodes.now part && (get_or counted.now part false && nat_lt before MOST_VALS)) }
 {
     is_labelled(node_at(nodes, part)) && counted[part as usize] && before < MOST_VALS
 }
@@ -161,7 +161,7 @@ fn adds_one(nodes: &[Node], counted: &[bool], part: u16, before: u8) -> bool
 /// Whether the node is a counted field that sees 64 counted fields.
 fn is_crowded(counted: &[bool], i: u16, before: u8) -> bool
     requires { i < length counted.now }
-    ensures { IsTrue result ↔ ((64 ≤ before) × IsTrue (get_or counted.now i false)) }
+    ensures { IsTrue result ↔ ((MOST_VALS ≤ before) × IsTrue (get_or counted.now i false)) }
 {
     before >= MOST_VALS && counted[i as usize]
 }

@@ -102,7 +102,7 @@ fn put_labelled(alloc: Global, builder: &mut DescBuilder) -> Result<bool, &'stat
 #[test]
 fn a_builder_makes_what_was_entered(rt: HostRuntime) -> Result<(), Fail> {
     let mut builder = DescBuilder::new(rt.alloc(), Reading::Sent);
-    assert!(rt; !builder.whole());
+    assert!(rt; !builder.is_whole());
     assert!(rt; !end(&mut builder));
     assert_eq!(rt; put(&mut builder, Head::Seq), Some(Ok(0)));
     assert_eq!(rt; put(&mut builder, counted(1)), None);
@@ -112,7 +112,7 @@ fn a_builder_makes_what_was_entered(rt: HostRuntime) -> Result<(), Fail> {
     assert_eq!(rt; put(&mut builder, Head::Null), None);
     assert!(rt; end(&mut builder));
     assert!(rt; end(&mut builder));
-    if !builder.whole() {
+    if !builder.is_whole() {
         return Err("not whole".into());
     }
     let desc = builder.finish().map_err(|_| "no description")?;
@@ -159,7 +159,7 @@ fn no_more_than_16384_nodes_are_entered(rt: HostRuntime) -> Result<(), Fail> {
         Some(Err(DescFault::TooManyNodes))
     );
     assert!(rt; end(&mut builder));
-    if !builder.whole() {
+    if !builder.is_whole() {
         return Err("not whole".into());
     }
     let desc = builder.finish().map_err(|_| "no description")?;
@@ -194,7 +194,7 @@ fn a_counted_field_has_fewer_than_64_before_it(rt: HostRuntime) -> Result<(), Fa
             assert!(rt; end(&mut builder));
         }
         assert!(rt; end(&mut builder));
-        if !builder.whole() {
+        if !builder.is_whole() {
             return Err("not whole".into());
         }
         let fault = builder.finish().err();

@@ -28,7 +28,7 @@ fn leaf(builder: &mut DescBuilder, head: Head) -> Result<(), Fail> {
 }
 
 fn finished(builder: DescBuilder) -> Result<Desc, Fail> {
-    if !builder.whole() {
+    if !builder.is_whole() {
         return Err("not whole".into());
     }
     match builder.finish() {

@@ -93,7 +93,7 @@ fn built(alloc: Global, steps: &[Step]) -> Result<Desc, Fail> {
     for step in steps {
         take(alloc, &mut builder, *step)?;
     }
-    if !builder.whole() {
+    if !builder.is_whole() {
         return Err(Fail::from("a part is missing"));
     }
     Ok(builder.finish().map_err(|_| "no description")?)

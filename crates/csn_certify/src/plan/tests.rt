@@ -63,7 +63,7 @@ fn row(
 }
 
 fn plan_of(alloc: Global, builder: DescBuilder, built: bool) -> Result<Plan, Fail> {
-    if !built || !builder.whole() {
+    if !built || !builder.is_whole() {
         return Err("not built".into());
     }
     let desc = builder.finish().map_err(|_| "no description")?;
