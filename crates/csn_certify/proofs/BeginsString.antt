@@ -14,7 +14,8 @@ use Rattle.csn_desc.specs.Values.{Values, value_of, count_of, with_value}
 use Rattle.csn_desc.specs.Means.{NMeans, NodeMeans, PartsMean, TimesMean, ManyMean, LeadMean, means_at, means_lits, means_spare, means_pad, means_null, means_field, means_rest, means_seq, means_choice, means_times, means_many, means_cut, means_trunc, means_named, parts_end, parts_next, times_end, times_next, many_end, many_next, lead_last, lead_next}
 use Rattle.csn_desc.specs.Follows.{NFollow, NodeFollows, PartsFollow, TimesFollow, ManyFollow, follows_at, follows_whole, follows_lits, follows_spare, follows_pad, follows_field, follows_seq, follows_choice, follows_times, follows_many, follows_trunc, follows_window, follows_named, parts_here, parts_later, times_here, times_later, many_here, many_later}
 use Rattle.csn_desc.specs.Formed.{IsCount, shows_earlier, Formed, PartsFormed, formed, formed_end, formed_next, HaveValues, IsDescription}
-use Rattle.csn_desc.proofs.Empties.{nothing_seen, is_spare}
+use Rattle.csn_desc.proofs.BitFacts.{spelled_is_spare}
+use Rattle.csn_desc.proofs.Empties.{nothing_seen}
 use Rattle.csn_desc.proofs.ValuesKept.{values_kept}
 use Rattle.csn_look.proofs.NearFacts.{held_along}
 use Rattle.csn_look.proofs.KeyFollowed.{choice_formed}
@@ -132,8 +133,8 @@ module _ (d : DescV) (no_window : HasNoWindow d) where
   mutual
     has_string : {seen : List ℕ} {round i : ℕ} (o : ℕ) (v : Values) → HaveValues v seen → Formed d.nodes seen round i → AString d i o v
     has_string o v values (formed (Lits run) at few head have room held) = at_node d (spelled run o) at (means_lits refl)
-    has_string o v values (formed (Spare s) at few head have room held) = at_node d (spelled (s ∷ []) o) at (means_spare refl (is_spare d.reading s o))
-    has_string o v values (formed Pad at few head have room held) = at_node d (spelled (Low ∷ []) o) at (means_pad (omega arith) (is_spare d.reading Low o))
+    has_string o v values (formed (Spare s) at few head have room held) = at_node d (spelled (s ∷ []) o) at (means_spare refl (spelled_is_spare d.reading s o))
+    has_string o v values (formed Pad at few head have room held) = at_node d (spelled (Low ∷ []) o) at (means_pad (omega arith) (spelled_is_spare d.reading Low o))
     has_string o v values (formed Null at few head have room held) = at_node d [] at (means_null refl)
     has_string {seen = seen} o v values (formed (Field unit count) at few head have room held) =
         let c = number d.nodes seen v count values head.1 in

@@ -37,3 +37,8 @@ length-spelled (s ∷ run) place = ap suc (length-spelled run (suc place))
 pub IsBits-spare : (r : Reading) (s : Symbol) (place : ℕ) (b : List ℕ) → IsSpare r s place b → IsBits b
 IsBits-spare Received s place b p = p
 IsBits-spare Sent s place b p = IsBits-along p (IsBits-spelled (replicate (length b) s) place)
+
+-- the one bit that every reading takes
+pub spelled_is_spare : (r : Reading) (s : Symbol) (o : ℕ) → IsSpare r s o (spelled (s ∷ []) o)
+spelled_is_spare Received s o = IsBits-spelled (s ∷ []) o
+spelled_is_spare Sent s o = refl

@@ -20,7 +20,7 @@ use Rattle.csn_desc.specs.Values.{Values, count_of, with_value}
 use Rattle.csn_desc.specs.Means.{NMeans, NodeMeans, PartsMean, TimesMean, ManyMean, LeadMean, means_at, means_lits, means_spare, means_pad, means_null, means_field, means_rest, means_seq, means_choice, means_times, means_many, means_cut, means_trunc, means_window, means_named, parts_end, parts_next, times_end, times_next, many_end, many_next, lead_last, lead_next}
 use Rattle.csn_desc.specs.Follows.{NFollow, NodeFollows, PartsFollow, TimesFollow, ManyFollow, follows_at, follows_whole, follows_lits, follows_spare, follows_pad, follows_field, follows_seq, follows_choice, follows_times, follows_many, follows_trunc, follows_window, follows_named, parts_here, parts_later, times_here, times_later, many_here, many_later}
 use Rattle.csn_desc.specs.Formed.{Spans, PartsSpan, spans, span_end, span_next}
-use Rattle.csn_desc.proofs.BitFacts.{IsBits-front, IsBits-along}
+use Rattle.csn_desc.proofs.BitFacts.{IsBits-front, IsBits-along, spelled_is_spare}
 use Rattle.csn_desc.proofs.Nodewise.{meaning_at, follow_at}
 
 abbrev pub Decided : Type 0 → Type 0
@@ -444,8 +444,7 @@ module _ (d : DescV) where
 
   -- some bit that a spare part has
   one_spare : (r : Reading) (s : Symbol) (o : ℕ) → (x : ℕ) × IsSpare r s o (x ∷ [])
-  one_spare Received s o = (0, (omega arith, tt))
-  one_spare Sent s o = (symbol_bit s o, refl)
+  one_spare r s o = (symbol_bit s o, spelled_is_spare r s o)
 
   spelled_front : (s : Symbol) (b rest : List ℕ) (o : ℕ) → b ++ rest ≡ spelled (replicate (length (b ++ rest)) s) o → b ≡ spelled (replicate (length b) s) o
   spelled_front s [] rest o e = refl

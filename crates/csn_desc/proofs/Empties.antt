@@ -3,9 +3,6 @@ use Rattle.std.proofs.Common.{◌≡◌, ℕ, zero, suc, ◌+◌, ◌*◌, List,
 use Rattle.std.specs.Prelude.{replicate, IsSome}
 use Rattle.std.proofs.lemmas.List.{length-replicate}
 use Rattle.csn_bits.proofs.Packing.{IsBits-zeros}
-use Rattle.csn_desc.specs.declared.reading.Reading.{Reading}
-use Rattle.csn_desc.specs.declared.reading.Reading.TheVariants.{Received, Sent}
-use Rattle.csn_desc.specs.declared.symbol.Symbol.{Symbol}
 use Rattle.csn_desc.specs.declared.symbol.Symbol.TheVariants.{Low}
 use Rattle.csn_desc.specs.declared.node.Count.{Count}
 use Rattle.csn_desc.specs.declared.node.Count.TheVariants.{Fixed, Counted}
@@ -13,17 +10,12 @@ use Rattle.csn_desc.specs.declared.node.Node.{Node}
 use Rattle.csn_desc.specs.declared.node.Node.TheVariants.{Lits, Spare, Pad, Null, Field, Rest, Seq, Choice, Times, Many, Trunc, Window, Named}
 use Rattle.csn_desc.specs.TreeV.{empty, bits, row, none}
 use Rattle.csn_desc.specs.Nodes.{DescV}
-use Rattle.csn_desc.specs.Spelled.{spelled, IsSpare}
+use Rattle.csn_desc.specs.Spelled.{spelled}
 use Rattle.csn_desc.specs.Values.{Values, value_of, count_of}
 use Rattle.csn_desc.specs.Means.{means_lits, means_spare, means_pad, means_null, means_field, means_rest, means_times, means_many, means_cut, times_end, many_end}
 use Rattle.csn_desc.specs.Follows.{NFollow, NodeFollows, follows_at, follows_whole, follows_lits, follows_spare, follows_pad, follows_field, follows_seq, follows_choice, follows_times, follows_window, follows_named, parts_here, times_here}
 use Rattle.csn_desc.specs.Formed.{IsCount, Formed, formed, formed_next, HaveValues}
-use Rattle.csn_desc.proofs.BitFacts.{IsBits-spelled}
-
--- the one bit that every reading takes
-pub is_spare : (r : Reading) (s : Symbol) (o : ℕ) → IsSpare r s o (spelled (s ∷ []) o)
-is_spare Received s o = IsBits-spelled (s ∷ []) o
-is_spare Sent s o = refl
+use Rattle.csn_desc.proofs.BitFacts.{spelled_is_spare}
 
 -- a count that stands on a field with a value is a number
 pub has_count : (nodes : List Node) (seen : List ℕ) (v : Values) (count : Count) → HaveValues v seen → IsCount nodes seen count → (n : ℕ) × (count_of v count ≡ Some n)
@@ -43,9 +35,9 @@ module _ (d : DescV) (v : Values) where
   empty_followed o values (formed (Lits run) at few head parts room inside) =
       follows_at (Lits run) at (follows_lits (spelled run o) (spelled run o) refl (means_lits refl))
   empty_followed o values (formed (Spare s) at few head parts room inside) =
-      follows_at (Spare s) at (follows_spare (spelled (s ∷ []) o) (spelled (s ∷ []) o) refl (means_spare refl (is_spare d.reading s o)))
+      follows_at (Spare s) at (follows_spare (spelled (s ∷ []) o) (spelled (s ∷ []) o) refl (means_spare refl (spelled_is_spare d.reading s o)))
   empty_followed o values (formed Pad at few head parts room inside) =
-      follows_at Pad at (follows_pad (spelled (Low ∷ []) o) (spelled (Low ∷ []) o) refl (means_pad (omega arith) (is_spare d.reading Low o)))
+      follows_at Pad at (follows_pad (spelled (Low ∷ []) o) (spelled (Low ∷ []) o) refl (means_pad (omega arith) (spelled_is_spare d.reading Low o)))
   empty_followed o values (formed Null at few head parts room inside) = follows_at Null at (follows_whole empty (means_null refl))
   empty_followed {seen = seen} o values (formed (Field unit count) at few head parts room inside) =
       let c = has_count d.nodes seen v count values head.1 in

@@ -9,7 +9,7 @@ use Rattle.csn_desc.specs.declared.symbol.Symbol.{Symbol}
 use Rattle.csn_desc.specs.declared.symbol.Symbol.TheVariants.{Zero, Low}
 use Rattle.csn_desc.specs.TreeV.{empty, bits, row, none}
 use Rattle.csn_desc.specs.Spelled.{spelled, IsSpare}
-use Rattle.csn_desc.proofs.BitFacts.{IsBits-spelled}
+use Rattle.csn_desc.proofs.BitFacts.{spelled_is_spare}
 use Rattle.csn_grammar.specs.declared.exponent.Exponent.{Exponent}
 use Rattle.csn_grammar.specs.declared.exponent.Exponent.TheVariants.{Any, Number, Linear}
 use Rattle.csn_grammar.specs.declared.rules.Rule.{Rule}
@@ -24,11 +24,6 @@ use Rattle.csn_grammar.specs.Formed.{IsCount, Formed, ItemsFormed, RuleFormed, H
 use Rattle.csn_grammar.proofs.VoidFacts.{same_window, same_rule, none_kept, tail_void, spare_bit_full, spare_low_full, padding_full, no_string_full}
 use Rattle.csn_grammar.proofs.Prefixes.{field_leaf, spare_bit_name, spare_low_name, padding_name, ItemsBegun, begun}
 use Rattle.csn_bits.proofs.Packing.{IsBits-zeros}
-
--- the one bit that every reading takes
-is_spare : (r : Reading) (s : Symbol) (o : ℕ) → IsSpare r s o (spelled (s ∷ []) o)
-is_spare Received s o = IsBits-spelled (s ∷ []) o
-is_spare Sent s o = refl
 
 -- an exponent on labels that have values is a number
 has_count : (seen : List (List ℕ)) (env : Env) (k : Exponent) → HaveValues env seen → IsCount seen k
@@ -112,11 +107,11 @@ module _ (rules : RulesV) (r : Reading) where
         let c = has_count seen env k values count in field_empty s e x k env o unit c.0 is c.1
     empty_followed o env values (formed_rest is) = follows_whole (bits []) (means_rest is tt)
     empty_followed o env values (formed_spare_bit {n = n} is) =
-        let one = spelled (Zero ∷ []) o in follows_leaf one one (spare_bit_name n is) refl (means_spare_bit is refl (is_spare r Zero o))
+        let one = spelled (Zero ∷ []) o in follows_leaf one one (spare_bit_name n is) refl (means_spare_bit is refl (spelled_is_spare r Zero o))
     empty_followed o env values (formed_spare_low {n = n} is) =
-        let one = spelled (Low ∷ []) o in follows_leaf one one (spare_low_name n is) refl (means_spare_low is refl (is_spare r Low o))
+        let one = spelled (Low ∷ []) o in follows_leaf one one (spare_low_name n is) refl (means_spare_low is refl (spelled_is_spare r Low o))
     empty_followed o env values (formed_padding {n = n} is) =
-        let one = spelled (Low ∷ []) o in follows_leaf one one (padding_name n is) refl (means_padding is (omega arith) (is_spare r Low o))
+        let one = spelled (Low ∷ []) o in follows_leaf one one (padding_name n is) refl (means_padding is (omega arith) (spelled_is_spare r Low o))
     empty_followed o env values (formed_seq h) =
         elim (empty_items_begun o env values h) [ inl f ↦ follows_seq (items_formed_full h) f | inr whole ↦ follows_whole (row whole.0) (means_seq whole.1) ]
     empty_followed o env values (formed_choice {x = x} xs kept (each_next first others)) =

@@ -15,7 +15,7 @@ use Rattle.csn_desc.specs.Values.{Values, count_of}
 use Rattle.csn_desc.specs.Follows.{NFollow, NodeFollows, PartsFollow, TimesFollow, follows_at, follows_whole, follows_lits, follows_spare, follows_pad, follows_field, follows_seq, follows_choice, follows_times, follows_many, follows_trunc, follows_window, follows_named, parts_here, parts_later, times_here, times_later}
 use Rattle.csn_desc.specs.Formed.{shows_earlier, Formed, PartsFormed, formed, formed_end, formed_next}
 use Rattle.csn_desc.proofs.Splits.{splits, inside, behind}
-use Rattle.csn_desc.proofs.Empties.{is_spare}
+use Rattle.csn_desc.proofs.BitFacts.{spelled_is_spare}
 use Rattle.csn_look.specs.Keys.{Cut, kept, cut, InKeys, NodeKeys, PartsKeys, TimesKeys, keys_at, keys_lits, keys_spare, keys_field, keys_pad, keys_null, keys_rest, keys_many, keys_trunc, keys_window, keys_counted_field, keys_counted_times, keys_seq, keys_times, keys_choice, keys_named, parts_none, parts_cut, parts_whole, times_none, times_cut, times_whole}
 use Rattle.csn_look.specs.Beginnings.{Begun, Near, near_begun, near_within}
 use Rattle.csn_look.proofs.KeyFacts.{keys, node_keys, as_key, unread, octet_word, marked_key, whole_word, cut_first, both_words}
@@ -78,9 +78,9 @@ module _ (d : DescV) (most : ℕ) where
     pub has_key : {seen : List ℕ} {round i : ℕ} → Formed d.nodes seen round i → (o : ℕ) → Found (InKeys d most i o)
     has_key (formed (Lits run) at few head have room held) o = found_of {most = most} (spelled run o) true (λ x mark c. keys_at (Lits run) at (keys_lits c))
     has_key (formed (Spare s) at few head have room held) o =
-        found_of {most = most} (spelled (s ∷ []) o) true (λ x mark c. keys_at (Spare s) at (keys_spare (spelled (s ∷ []) o) refl (is_spare d.reading s o) c))
+        found_of {most = most} (spelled (s ∷ []) o) true (λ x mark c. keys_at (Spare s) at (keys_spare (spelled (s ∷ []) o) refl (spelled_is_spare d.reading s o) c))
     has_key (formed Pad at few head have room held) o =
-        found_of {most = most} (spelled (Low ∷ []) o) false (λ x mark c. keys_at Pad at (keys_pad (spelled (Low ∷ []) o) refl (is_spare d.reading Low o) c))
+        found_of {most = most} (spelled (Low ∷ []) o) false (λ x mark c. keys_at Pad at (keys_pad (spelled (Low ∷ []) o) refl (spelled_is_spare d.reading Low o) c))
     has_key (formed Null at few head have room held) o = nothing_read true (keys_at Null at (keys_null refl refl))
     has_key (formed (Field unit count) at few head have room held) o = found_as (λ x mark key. keys_at (Field unit count) at key) (field_found unit count o)
     has_key (formed Rest at few head have room held) o = nothing_read false (keys_at Rest at (keys_rest refl refl))
