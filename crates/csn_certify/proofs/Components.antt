@@ -7,7 +7,7 @@ use Rattle.csn_desc.specs.Nodes.{DescV}
 use Rattle.csn_desc.specs.Values.{Values, with_value}
 use Rattle.csn_desc.specs.Means.{NMeans, NodeMeans, LeadMean, means_cut, means_trunc, lead_last, lead_next}
 use Rattle.csn_desc.specs.Follows.{NodeFollows, PartsFollow, follows_whole, follows_trunc, parts_here, parts_later}
-use Rattle.csn_desc.proofs.Prefixes.{string_followed}
+use Rattle.csn_desc.specs.Laws.{StringsAreFollowed}
 use Rattle.csn_look.specs.Ends.{InEnds, PartsEnd, LeadEnd, ends_at, ends_trunc, parts_end, parts_next, lead_end}
 use Rattle.csn_look.specs.Ends as end
 use Rattle.csn_look.specs.Reached.{Reached, InFollow, MayStandBehind}
@@ -34,9 +34,9 @@ module _ (d : DescV) (most : ℕ) (certified : Certified d most) where
 
 -- ---- components
 
-module _ (d : DescV) where
+module _ (strings : StringsAreFollowed) (d : DescV) where
   lead_followed : {parts : List ℕ} {o : ℕ} {v : Values} {b : List ℕ} {ts : Trees} → LeadMean d parts o v b ts → PartsFollow d parts o v b
-  lead_followed (lead_last some h) = parts_here (string_followed d h)
+  lead_followed {o = o} {v = v} {b = b} (lead_last {i = i} {t = t} some h) = parts_here (strings d i o v b t h)
   lead_followed (lead_next b1 b2 cut h others) = parts_later b1 b2 cut h (lead_followed others)
 
   pub components_followed : {parts : List ℕ} {o : ℕ} {v : Values} {b : List ℕ} → (b ≡ [] → ⊥) → NodeFollows d (Trunc parts) o v b → PartsFollow d parts o v b
@@ -44,6 +44,7 @@ module _ (d : DescV) where
   components_followed some (follows_whole t (means_trunc h)) = lead_followed h
   components_followed some (follows_trunc h) = h
 
+module _ (d : DescV) where
   lead_some : {parts : List ℕ} {o : ℕ} {v : Values} {b : List ℕ} {ts : Trees} → LeadMean d parts o v b ts → 0 < length b
   lead_some (lead_last some h) = some
   lead_some (lead_next b1 b2 cut h others) = let size = ap length cut in omega (arith, lead_some others, length-append b1 b2)

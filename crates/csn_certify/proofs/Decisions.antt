@@ -1,6 +1,6 @@
 -- What no conflict says of bits that have a tree: nothing stands behind what must be last, a free repetition goes
 -- on or ends by the next bit, and bits of a choice are those of one alternative.
-use Rattle.std.proofs.Common.{◌≡◌, ◌≢◌, ℕ, ◌%◌, ◌<◌, ◌⊎◌, inl, inr, List, [], ◌∷◌, ◌++◌, length, refl, sym, ◌∙◌, ap, subst, arith, Some, slice_get}
+use Rattle.std.proofs.Common.{◌≡◌, ◌≢◌, ℕ, ◌+◌, ◌%◌, ◌<◌, ◌⊎◌, inl, inr, List, [], ◌∷◌, ◌++◌, length, refl, sym, ◌∙◌, ap, subst, arith, Some, slice_get}
 use Rattle.csn_desc.specs.declared.node.Node.{Node}
 use Rattle.csn_desc.specs.declared.node.Node.TheVariants.{Null, Choice, Many}
 use Rattle.csn_desc.specs.TreeV.{TreeV, Trees}
@@ -10,14 +10,9 @@ use Rattle.csn_desc.specs.Means.{NMeans, NodeMeans, ManyMean, means_at, means_nu
 use Rattle.csn_desc.specs.Formed.{FitWidths}
 use Rattle.csn_desc.proofs.Nodewise.{meaning_at}
 use Rattle.csn_look.specs.Reached.{Reached, InFollow}
-use Rattle.csn_look.proofs.ShapeFacts.{Shaped}
-use Rattle.csn_look.proofs.NullableFacts.{nullable}
-use Rattle.csn_look.proofs.EndsFacts.{ends}
-use Rattle.csn_look.proofs.StartFacts.{starts, many_start}
-use Rattle.csn_look.proofs.KeyFacts.{keys}
-use Rattle.csn_look.proofs.FollowFacts.{Stands}
 use Rattle.csn_certify.specs.declared.conflict.Conflict.TheVariants.{TwoEmpty, NotFirm, Overlap, EmptyClash, LoopClash, NotLast}
 use Rattle.csn_certify.specs.Conflicts.{IsNull, IsLast, two_empty, choice_not_firm, overlap, empty_clash, loop_clash, not_last, Certified}
+use Rattle.csn_certify.proofs.Here.{Here, Stands, nullable, ends, starts, many_start, keys}
 use Rattle.csn_certify.proofs.Pieces.{null_or, next_bit, begun_both}
 
 module _ (d : DescV) where
@@ -36,35 +31,35 @@ module _ (d : DescV) where
 
 -- ---- what certified says of meanings
 
-module _ (d : DescV) (most : ℕ) (shaped : Shaped d) (certified : Certified d most) where
+module _ (d : DescV) (most : ℕ) (here : Here d) (certified : Certified d most) where
   -- no bit stands behind a node that must be last
   pub nothing_behind : {i o : ℕ} {v : Values} {b : List ℕ} {t : TreeV} (n : Node) (x : List ℕ) → slice_get d.nodes i ≡ Some n → IsLast n → Reached d i (o % 8) → FitWidths d v → NMeans d i o v b t → Stands d i o b x → x ≡ []
   nothing_behind n [] at last reached widths h s = refl
-  nothing_behind {i} {o} n (a ∷ x) at last reached widths h s =
-      absurd (certified (NotLast i (s.place % 8)) (not_last n (o % 8) at last reached (ends d shaped s.place s.is_place widths h) (s.follows a x refl)))
+  nothing_behind {i} {o} {b = b} n (a ∷ x) at last reached widths h s =
+      absurd (certified (NotLast i ((o + length b) % 8)) (not_last n (o % 8) at last reached (ends d here widths h) (s.behind a x refl)))
 
   -- behind no bits
   pub stands_here : {k o : ℕ} {b x : List ℕ} (a : ℕ) (r : List ℕ) → b ≡ [] → x ≡ a ∷ r → Stands d k o b x → InFollow d k (o % 8) (Some a)
-  stands_here {k} {o} a r nothing is s =
+  stands_here {k} {o} {b} a r nothing is s =
       let size = ap length nothing in
-      let place : s.place ≡ o = omega (arith, s.is_place) in
+      let place : o + length b ≡ o = omega arith in
       let P : ℕ → Type 0 = λ p. InFollow d k (p % 8) (Some a) in
-      subst P place (s.follows a r is)
+      subst P place (s.behind a r is)
 
   -- where a free repetition may end, its part does not begin with what stands there
   pub no_loop : {k i o : ℕ} {v : Values} {b c : List ℕ} {us : Trees} (x y : List ℕ) → slice_get d.nodes k ≡ Some (Many i) → Reached d i (o % 8) → FitWidths d v → b ≡ [] → 0 < length c → ManyMean d i o v c us → b ++ x ≡ c ++ y → Stands d k o b x → ⊥
   no_loop {k} {o = o} {b = b} {c = c} x y at reached widths nothing some h e s =
       let a = next_bit b c x y nothing some e in
-      let start = many_start d shaped a.bit a.rest a.is widths h in
+      let start = many_start d here k a.bit a.rest at a.is widths h in
       certified (LoopClash k (o % 8) a.bit) (loop_clash at reached start (stands_here a.bit a.tail nothing a.next s))
 
   -- beside an alternative that takes no bits, another one has no bits that stand behind the choice
   pub no_empty : {k i j p q o : ℕ} {v : Values} {parts b c : List ℕ} {u : TreeV} (x y : List ℕ) → slice_get d.nodes k ≡ Some (Choice parts) → slice_get parts i ≡ Some p → slice_get parts j ≡ Some q → j ≢ i → IsNull d p → (IsNull d q → ⊥) → Reached d k (o % 8) → FitWidths d v → b ≡ [] → NMeans d q o v c u → b ++ x ≡ c ++ y → Stands d k o b x → ⊥
   no_empty {k} {j = j} {c = []} x y at at_i at_j other null real reached widths nothing h e s =
-      certified (NotFirm k j) (choice_not_firm at at_j real (inl (nullable d shaped h refl)))
+      certified (NotFirm k j) (choice_not_firm at at_j real (inl (nullable d here h refl)))
   no_empty {k} {o = o} {b = b} {c = a ∷ c} x y at at_i at_j other null real reached widths nothing h e s =
       let n = next_bit b (a ∷ c) x y nothing (omega arith) e in
-      let start = starts d shaped n.bit n.rest n.is widths h in
+      let start = starts d here n.bit n.rest n.is widths h in
       certified (EmptyClash k (o % 8) n.bit) (empty_clash at reached at_i null at_j other start (stands_here n.bit n.tail nothing n.next s))
 
   -- two alternatives do not both have bits that go on alike
@@ -78,8 +73,8 @@ module _ (d : DescV) (most : ℕ) (shaped : Shaped d) (certified : Certified d m
         | inr real_i ↦ elim (is_null d h2) [
           | inl null_j ↦ no_empty y x at at_j at_i (λ same. absurd (omega arith)) null_j real_i reached widths (null_bits d null_j h2) h1 (sym e) s2
           | inr real_j ↦
-              let left = keys d most h1 in
-              let right = keys d most h2 in
+              let left = keys d here most h1 in
+              let right = keys d here most h2 in
               certified (Overlap k (o % 8) i j left.word right.word)
               (overlap left.mark right.mark at reached less at_i at_j real_i real_j left.key right.key (begun_both left.word left.rest right.word right.rest x y left.begins right.begins e))
         ]

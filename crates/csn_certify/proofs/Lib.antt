@@ -8,6 +8,7 @@ pub mod KeyOrder
 pub mod TablesMeet
 pub mod OverlapSearch
 pub mod ShorterWords
+pub mod Here
 pub mod Pieces
 pub mod Decisions
 pub mod OneTree

@@ -10,15 +10,13 @@ use Rattle.csn_desc.specs.Values.{Values, with_value}
 use Rattle.csn_desc.specs.Means.{NMeans, NodeMeans, PartsMean, TimesMean, ManyMean, LeadMean, means_at, means_lits, means_spare, means_pad, means_null, means_field, means_rest, means_seq, means_choice, means_times, means_many, means_cut, means_trunc, means_window, means_named, parts_end, parts_next, times_end, times_next, many_end, many_next, lead_last, lead_next}
 use Rattle.csn_desc.specs.Formed.{IsDescription, FitWidths}
 use Rattle.csn_desc.proofs.Nodewise.{meaning_at}
-use Rattle.csn_desc.proofs.ValuesKept.{no_values_fit, fits_kept}
 use Rattle.csn_look.specs.Ends.{InEnds, PartsEnd, ManyEnd}
 use Rattle.csn_look.specs.Ends as end
-use Rattle.csn_look.specs.Reached.{Reached, reached_root, Turn}
-use Rattle.csn_look.proofs.ShapeFacts.{Shaped, shaped, place-split}
-use Rattle.csn_look.proofs.EndsFacts.{ends}
-use Rattle.csn_look.proofs.FollowFacts.{Stands, cuts, end_stands, choice_stands, named_stands, seq_stands, lead_stands, last_stands, times_stands, many_stands}
-use Rattle.csn_look.proofs.ReachFacts.{turn_first, turn_next, turn_reached, parts_end_more, many_end_more, seq_reached, lead_reached, choice_reached, window_reached, named_reached, many_reached}
+use Rattle.csn_look.specs.Reached.{Reached, reached_root, Turn, MayStandBehind}
+use Rattle.csn_look.proofs.ReachFacts.{turn_first, turn_next, turn_reached, parts_end_more, many_end_more, seq_reached, lead_reached, window_reached, named_reached, many_reached}
 use Rattle.csn_certify.specs.Conflicts.{Certified}
+use Rattle.csn_certify.specs.Known.{Known}
+use Rattle.csn_certify.proofs.Here.{Here, here_of, Stands, end_stands, fits_kept, ends, choice_reached, choice_stands, named_stands, seq_stands, lead_stands, last_stands, times_stands, many_stands}
 use Rattle.csn_certify.proofs.Pieces.{order, equal_numbers, first_less, second_less, same_length, same_ends, cut_first, cut_rest}
 use Rattle.csn_certify.proofs.Decisions.{nothing_behind, no_loop, no_two}
 
@@ -35,8 +33,11 @@ joined b1 b2 c1 c2 left right first others =
 module _ (d : DescV) where
   -- the later parts end where the node does
   pub behind_first : {k o : ℕ} {b x : List ℕ} (b1 b2 : List ℕ) → b ≡ b1 ++ b2 → Stands d k o b x → Stands d k (o + length b1) b2 x
-  behind_first {o = o} b1 b2 cut s =
-      record { place = s.place; is_place = place-split o b1 b2 s.place s.is_place cut; follows = s.follows }
+  behind_first {k} {o} {b} {x} b1 b2 cut s =
+      let size = ap length cut in
+      let place : o + length b ≡ o + length b1 + length b2 = omega (arith, size, length-append b1 b2) in
+      let P : ℕ → Type 0 = λ p. MayStandBehind d k (p % 8) x in
+      record { behind = subst P place s.behind }
 
   stands_along : {k o : ℕ} {x : List ℕ} (b c : List ℕ) → b ≡ c → Stands d k o b x → Stands d k o c x
   stands_along {k} {o} {x} b c same s = let P : List ℕ → Type 0 = λ l. Stands d k o l x in subst P same s
@@ -67,7 +68,7 @@ module _ (d : DescV) where
   lead_some (lead_last some h) = some
   lead_some (lead_next b1 b2 cut h others) = let size = ap length cut in omega (arith, lead_some others, length-append b1 b2)
 
-module _ (d : DescV) (most : ℕ) (shaped : Shaped d) (certified : Certified d most) where
+module _ (d : DescV) (most : ℕ) (here : Here d) (certified : Certified d most) where
   -- ---- one tree
 
   alternative : {b c : List ℕ} {t u : TreeV} (j k : ℕ) → j ≡ k → Same b c t u → Same b c (alt j t) (alt k u)
@@ -83,8 +84,8 @@ module _ (d : DescV) (most : ℕ) (shaped : Shaped d) (certified : Certified d m
     one_node {b = b} (means_spare left h1) at {c = c} x y reached widths (means_spare right h2) e s1 s2 =
         let agree = same_length b c x y (left ∙ sym right) e in record { words = agree; trees = ap bits agree }
     one_node {b = b} (means_pad some1 h1) at {c = c} x y reached widths (means_pad some2 h2) e s1 s2 =
-        let left = nothing_behind d most shaped certified Pad x at tt reached widths (means_at Pad at (means_pad some1 h1)) s1 in
-        let right = nothing_behind d most shaped certified Pad y at tt reached widths (means_at Pad at (means_pad some2 h2)) s2 in
+        let left = nothing_behind d most here certified Pad x at tt reached widths (means_at Pad at (means_pad some1 h1)) s1 in
+        let right = nothing_behind d most here certified Pad y at tt reached widths (means_at Pad at (means_pad some2 h2)) s2 in
         let agree = same_ends b c x y left right e in
         record { words = agree; trees = ap bits agree }
     one_node (means_null left) at x y reached widths (means_null right) e s1 s2 = record { words = left ∙ sym right; trees = refl }
@@ -93,8 +94,8 @@ module _ (d : DescV) (most : ℕ) (shaped : Shaped d) (certified : Certified d m
         let agree = same_length b c x y (wide1 ∙ ap (λ k. unit * k) count ∙ sym wide2) e in
         record { words = agree; trees = ap bits agree }
     one_node {b = b} (means_rest h1) at {c = c} x y reached widths (means_rest h2) e s1 s2 =
-        let left = nothing_behind d most shaped certified Rest x at tt reached widths (means_at Rest at (means_rest h1)) s1 in
-        let right = nothing_behind d most shaped certified Rest y at tt reached widths (means_at Rest at (means_rest h2)) s2 in
+        let left = nothing_behind d most here certified Rest x at tt reached widths (means_at Rest at (means_rest h1)) s1 in
+        let right = nothing_behind d most here certified Rest y at tt reached widths (means_at Rest at (means_rest h2)) s2 in
         let agree = same_ends b c x y left right e in
         record { words = agree; trees = ap bits agree }
     one_node (means_seq h1) at x y reached widths (means_seq h2) e s1 s2 =
@@ -104,10 +105,9 @@ module _ (d : DescV) (most : ℕ) (shaped : Shaped d) (certified : Certified d m
         elim (order j k) [
           | equal_numbers same ↦
               let part : p ≡ q = cc in
-              let cut = cuts parts j p at1 in
-              alternative j k same (one_tree h1 x y (choice_reached d at cut reached) widths (meaning_along d part h2) e (choice_stands d at cut s1) (choice_stands d at cut s2))
-          | first_less less ↦ absurd (no_two d most shaped certified x y at less at1 at2 reached widths h1 h2 e s1 s2)
-          | second_less less ↦ absurd (no_two d most shaped certified y x at less at2 at1 reached widths h2 h1 (sym e) s2 s1)
+              alternative j k same (one_tree h1 x y (choice_reached d here j at at1 reached) widths (meaning_along d part h2) e (choice_stands d here j at at1 s1) (choice_stands d here j at at1 s2))
+          | first_less less ↦ absurd (no_two d most here certified x y at less at1 at2 reached widths h1 h2 e s1 s2)
+          | second_less less ↦ absurd (no_two d most here certified y x at less at2 at1 reached widths h2 h1 (sym e) s2 s1)
         ]
     one_node {o = o} {v = v} (means_times {count = count} {i = p} n counts1 h1) at {c = c} x y reached widths (means_times {ts = us} m counts2 h2) e s1 s2 =
         let same_times : n ≡ m = cc in
@@ -119,16 +119,16 @@ module _ (d : DescV) (most : ℕ) (shaped : Shaped d) (certified : Certified d m
         record { words = same.words; trees = ap row same.trees }
     one_node (means_cut left) at x y reached widths (means_cut right) e s1 s2 = record { words = left ∙ sym right; trees = refl }
     one_node {b = b} (means_cut {parts = parts} left) at {c = c} x y reached widths (means_trunc h2) e s1 s2 =
-        let agree = same_ends b c x y (nothing_behind d most shaped certified (Trunc parts) x at tt reached widths (means_at (Trunc parts) at (means_cut left)) s1) (nothing_behind d most shaped certified (Trunc parts) y at tt reached widths (means_at (Trunc parts) at (means_trunc h2)) s2) e in
+        let agree = same_ends b c x y (nothing_behind d most here certified (Trunc parts) x at tt reached widths (means_at (Trunc parts) at (means_cut left)) s1) (nothing_behind d most here certified (Trunc parts) y at tt reached widths (means_at (Trunc parts) at (means_trunc h2)) s2) e in
         let size = ap length (sym left ∙ agree) in
         absurd (omega (arith, lead_some d h2))
     one_node {b = b} (means_trunc {parts = parts} h1) at {c = c} x y reached widths (means_cut right) e s1 s2 =
-        let agree = same_ends b c x y (nothing_behind d most shaped certified (Trunc parts) x at tt reached widths (means_at (Trunc parts) at (means_trunc h1)) s1) (nothing_behind d most shaped certified (Trunc parts) y at tt reached widths (means_at (Trunc parts) at (means_cut right)) s2) e in
+        let agree = same_ends b c x y (nothing_behind d most here certified (Trunc parts) x at tt reached widths (means_at (Trunc parts) at (means_trunc h1)) s1) (nothing_behind d most here certified (Trunc parts) y at tt reached widths (means_at (Trunc parts) at (means_cut right)) s2) e in
         let size = ap length (agree ∙ right) in
         absurd (omega (arith, lead_some d h1))
     one_node {i = i} {o = o} {b = b} (means_trunc {parts = parts} h1) at {c = c} x y reached widths (means_trunc h2) e s1 s2 =
-        let left = nothing_behind d most shaped certified (Trunc parts) x at tt reached widths (means_at (Trunc parts) at (means_trunc h1)) s1 in
-        let right = nothing_behind d most shaped certified (Trunc parts) y at tt reached widths (means_at (Trunc parts) at (means_trunc h2)) s2 in
+        let left = nothing_behind d most here certified (Trunc parts) x at tt reached widths (means_at (Trunc parts) at (means_trunc h1)) s1 in
+        let right = nothing_behind d most here certified (Trunc parts) y at tt reached widths (means_at (Trunc parts) at (means_trunc h2)) s2 in
         let agree = same_ends b c x y left right e in
         let P : List ℕ → Type 0 = λ l. Stands d i o b l in
         let same = one_lead h1 at [] refl reached (end.parts_end refl) widths h2 agree (subst P left s1) in
@@ -138,7 +138,7 @@ module _ (d : DescV) (most : ℕ) (shaped : Shaped d) (certified : Certified d m
         let agree = same_length b c x y (wide1 ∙ ap (λ k. unit * k) count ∙ sym wide2) e in
         one_tree h1 [] [] (window_reached d at reached) widths h2 (ap (λ l. l ++ []) agree) (end_stands d p o b) (end_stands d p o c)
     one_node (means_named {label = label} h1) at x y reached widths (means_named h2) e s1 s2 =
-        let same = one_tree h1 x y (named_reached d at reached) widths h2 e (named_stands d at s1) (named_stands d at s2) in
+        let same = one_tree h1 x y (named_reached d at reached) widths h2 e (named_stands d here at s1) (named_stands d here at s2) in
         record { words = same.words; trees = ap (named label) same.trees }
 
     -- the later parts of a sequence
@@ -148,8 +148,8 @@ module _ (d : DescV) (most : ℕ) (shaped : Shaped d) (certified : Certified d m
         let t1 = behind_first d b1 b2 left s1 in
         let t2 = behind_first d c1 c2 right s2 in
         let whole = cut_first b1 b2 x c1 c2 y left right e in
-        let first = one_tree h1 (b2 ++ x) (c2 ++ y) (seq_reached d after at is reached ended) widths h2 whole (seq_stands d shaped before b1 at is (fits_kept d widths h1) others1 t1) (seq_stands d shaped before c1 at is (fits_kept d widths h2) others2 t2) in
-        let rest = one_parts others1 at (before ++ i ∷ []) (is ∙ sym (append_assoc before (i ∷ []) after)) reached (parts_end_more d ended (ends d shaped (o + length b1) refl widths h1)) (fits_kept d widths h1) x y (parts_moved d i after o v b1 c1 first.words others2) (cut_rest b1 b2 x c1 c2 y first.words whole) t1 (stands_moved d o b1 c1 first.words t2) in
+        let first = one_tree h1 (b2 ++ x) (c2 ++ y) (seq_reached d after at is reached ended) widths h2 whole (seq_stands d here before b1 at is (fits_kept d here widths h1) others1 t1) (seq_stands d here before c1 at is (fits_kept d here widths h2) others2 t2) in
+        let rest = one_parts others1 at (before ++ i ∷ []) (is ∙ sym (append_assoc before (i ∷ []) after)) reached (parts_end_more d ended (ends d here widths h1)) (fits_kept d here widths h1) x y (parts_moved d i after o v b1 c1 first.words others2) (cut_rest b1 b2 x c1 c2 y first.words whole) t1 (stands_moved d o b1 c1 first.words t2) in
         joined b1 b2 c1 c2 left right first rest
 
     -- the turns that are left of a repetition by number
@@ -161,9 +161,9 @@ module _ (d : DescV) (most : ℕ) (shaped : Shaped d) (certified : Certified d m
         let t1 = behind_first d b1 b2 left s1 in
         let t2 = behind_first d c1 c2 right s2 in
         let whole = cut_first b1 b2 x c1 c2 y left right e in
-        let first = one_tree h1 (b2 ++ x) (c2 ++ y) (turn_reached d at reached over1 turn) widths h2 whole (times_stands d shaped b1 at widths others1 t1) (times_stands d shaped c1 at widths others2 t2) in
+        let first = one_tree h1 (b2 ++ x) (c2 ++ y) (turn_reached d at reached over1 turn) widths h2 whole (times_stands d here b1 at widths others1 t1) (times_stands d here c1 at widths others2 t2) in
         let count : m ≡ l = omega arith in
-        let rest = one_times others1 at reached (turn_next d over1 turn (ends d shaped (o + length b1) refl widths h1)) widths x y (times_moved d o b1 c1 count first.words others2) (cut_rest b1 b2 x c1 c2 y first.words whole) t1 (stands_moved d o b1 c1 first.words t2) in
+        let rest = one_times others1 at reached (turn_next d over1 turn (ends d here widths h1)) widths x y (times_moved d o b1 c1 count first.words others2) (cut_rest b1 b2 x c1 c2 y first.words whole) t1 (stands_moved d o b1 c1 first.words t2) in
         joined b1 b2 c1 c2 left right first rest
 
     -- the turns that are left of a free repetition
@@ -171,48 +171,48 @@ module _ (d : DescV) (most : ℕ) (shaped : Shaped d) (certified : Certified d m
     one_many (many_end left) at reached ended widths x y (many_end right) e s1 s2 = record { words = left ∙ sym right; trees = refl }
     one_many (many_end left) at reached ended widths x y (many_next c1 c2 right some h2 others2) e s1 s2 =
         let size = ap length right in
-        absurd (no_loop d most shaped certified x y at (many_reached d at reached ended) widths left (omega (arith, length-append c1 c2)) (many_next c1 c2 right some h2 others2) e s1)
+        absurd (no_loop d most here certified x y at (many_reached d at reached ended) widths left (omega (arith, length-append c1 c2)) (many_next c1 c2 right some h2 others2) e s1)
     one_many (many_next b1 b2 left some h1 others1) at reached ended widths x y (many_end right) e s1 s2 =
         let size = ap length left in
-        absurd (no_loop d most shaped certified y x at (many_reached d at reached ended) widths right (omega (arith, length-append b1 b2)) (many_next b1 b2 left some h1 others1) (sym e) s2)
+        absurd (no_loop d most here certified y x at (many_reached d at reached ended) widths right (omega (arith, length-append b1 b2)) (many_next b1 b2 left some h1 others1) (sym e) s2)
     one_many {o = o} (many_next b1 b2 left some1 h1 others1) at reached ended widths x y (many_next c1 c2 right some2 h2 others2) e s1 s2 =
         let t1 = behind_first d b1 b2 left s1 in
         let t2 = behind_first d c1 c2 right s2 in
         let whole = cut_first b1 b2 x c1 c2 y left right e in
-        let first = one_tree h1 (b2 ++ x) (c2 ++ y) (many_reached d at reached ended) widths h2 whole (many_stands d shaped b1 at widths others1 t1) (many_stands d shaped c1 at widths others2 t2) in
-        let rest = one_many others1 at reached (many_end_more d ended (ends d shaped (o + length b1) refl widths h1)) widths x y (many_moved d o b1 c1 first.words others2) (cut_rest b1 b2 x c1 c2 y first.words whole) t1 (stands_moved d o b1 c1 first.words t2) in
+        let first = one_tree h1 (b2 ++ x) (c2 ++ y) (many_reached d at reached ended) widths h2 whole (many_stands d here b1 at widths others1 t1) (many_stands d here c1 at widths others2 t2) in
+        let rest = one_many others1 at reached (many_end_more d ended (ends d here widths h1)) widths x y (many_moved d o b1 c1 first.words others2) (cut_rest b1 b2 x c1 c2 y first.words whole) t1 (stands_moved d o b1 c1 first.words t2) in
         joined b1 b2 c1 c2 left right first rest
 
     -- the later parts of a truncation, behind which nothing stands
     pub one_lead : {k from o : ℕ} {parts after : List ℕ} {v : Values} {b : List ℕ} {ts : Trees} → LeadMean d after o v b ts → slice_get d.nodes k ≡ Some (Trunc parts) → (before : List ℕ) → parts ≡ before ++ after → Reached d k from → PartsEnd d before from (o % 8) → FitWidths d v → {c : List ℕ} {us : Trees} → LeadMean d after o v c us → b ≡ c → Stands d k o b [] → ts ≡ us
     one_lead {b = b} (lead_last {parts = after} some1 h1) at before is reached ended widths {c = c} (lead_last some2 h2) agree s =
-        let here = last_stands d shaped before after at is s in
-        let first = one_tree h1 [] [] (lead_reached d after at is reached ended) widths h2 (ap (λ l. l ++ []) agree) here (last_stands d shaped before after at is (stands_along d b c agree s)) in
+        let last = last_stands d here before after at is s in
+        let first = one_tree h1 [] [] (lead_reached d after at is reached ended) widths h2 (ap (λ l. l ++ []) agree) last (last_stands d here before after at is (stands_along d b c agree s)) in
         ap (λ t. more t none) first.trees
     one_lead {b = b} (lead_last {parts = after} some1 h1) at before is reached ended widths {c = c} (lead_next c1 c2 right h2 others2) agree s =
         let t2 = behind_first d c1 c2 right (stands_along d b c agree s) in
         let whole : b ++ [] ≡ c1 ++ (c2 ++ []) = cut_first b [] [] c1 c2 [] (sym (append-nil b)) right (ap (λ l. l ++ []) agree) in
-        let first = one_tree h1 [] (c2 ++ []) (lead_reached d after at is reached ended) widths h2 whole (last_stands d shaped before after at is s) (lead_stands d shaped before c1 at is (fits_kept d widths h2) others2 t2) in
+        let first = one_tree h1 [] (c2 ++ []) (lead_reached d after at is reached ended) widths h2 whole (last_stands d here before after at is s) (lead_stands d here before c1 at is (fits_kept d here widths h2) others2 t2) in
         let size = ap length (sym first.words ∙ agree ∙ right) in
         absurd (omega (arith, lead_some d others2, length-append c1 c2))
     one_lead {b = b} (lead_next {parts = after} b1 b2 left h1 others1) at before is reached ended widths {c = c} (lead_last some2 h2) agree s =
         let t1 = behind_first d b1 b2 left s in
         let whole : b1 ++ (b2 ++ []) ≡ c ++ [] = cut_first b1 b2 [] c [] [] left (sym (append-nil c)) (ap (λ l. l ++ []) agree) in
-        let first = one_tree h1 (b2 ++ []) [] (lead_reached d after at is reached ended) widths h2 whole (lead_stands d shaped before b1 at is (fits_kept d widths h1) others1 t1) (last_stands d shaped before after at is (stands_along d b c agree s)) in
+        let first = one_tree h1 (b2 ++ []) [] (lead_reached d after at is reached ended) widths h2 whole (lead_stands d here before b1 at is (fits_kept d here widths h1) others1 t1) (last_stands d here before after at is (stands_along d b c agree s)) in
         let size = ap length (first.words ∙ sym agree ∙ left) in
         absurd (omega (arith, lead_some d others1, length-append b1 b2))
     one_lead {o = o} {v = v} {b = b} (lead_next {i = i} {parts = after} b1 b2 left h1 others1) at before is reached ended widths {c = c} (lead_next c1 c2 right h2 others2) agree s =
         let t1 = behind_first d b1 b2 left s in
         let t2 = behind_first d c1 c2 right (stands_along d b c agree s) in
         let whole = cut_first b1 b2 [] c1 c2 [] left right (ap (λ l. l ++ []) agree) in
-        let first = one_tree h1 (b2 ++ []) (c2 ++ []) (lead_reached d after at is reached ended) widths h2 whole (lead_stands d shaped before b1 at is (fits_kept d widths h1) others1 t1) (lead_stands d shaped before c1 at is (fits_kept d widths h2) others2 t2) in
+        let first = one_tree h1 (b2 ++ []) (c2 ++ []) (lead_reached d after at is reached ended) widths h2 whole (lead_stands d here before b1 at is (fits_kept d here widths h1) others1 t1) (lead_stands d here before c1 at is (fits_kept d here widths h2) others2 t2) in
         let same_rest = same_ends b2 c2 [] [] refl refl (cut_rest b1 b2 [] c1 c2 [] first.words whole) in
-        let rest = one_lead others1 at (before ++ i ∷ []) (is ∙ sym (append_assoc before (i ∷ []) after)) reached (parts_end_more d ended (ends d shaped (o + length b1) refl widths h1)) (fits_kept d widths h1) (lead_moved d i after o v b1 c1 first.words others2) same_rest t1 in
+        let rest = one_lead others1 at (before ++ i ∷ []) (is ∙ sym (append_assoc before (i ∷ []) after)) reached (parts_end_more d ended (ends d here widths h1)) (fits_kept d here widths h1) (lead_moved d i after o v b1 c1 first.words others2) same_rest t1 in
         let tree = first.trees in
         cc
 
 -- at the root, where nothing stands behind
-pub one_block : (d : DescV) (most : ℕ) → IsDescription d → Certified d most → {b : List ℕ} {t u : TreeV} → NMeans d 0 0 [] b t → NMeans d 0 0 [] b u → t ≡ u
-one_block d most is certified {b = b} h1 h2 =
-    let same = one_tree d most (shaped d is) certified h1 [] [] (reached_root refl refl) (no_values_fit d) h2 refl (end_stands d 0 0 b) (end_stands d 0 0 b) in
+pub one_block : Known → (d : DescV) (most : ℕ) → IsDescription d → Certified d most → {b : List ℕ} {t u : TreeV} → NMeans d 0 0 [] b t → NMeans d 0 0 [] b u → t ≡ u
+one_block known d most is certified {b = b} h1 h2 =
+    let same = one_tree d most (here_of known is) certified h1 [] [] (reached_root refl refl) (known.no_values d).1 h2 refl (end_stands d 0 0 b) (end_stands d 0 0 b) in
     same.trees

@@ -15,18 +15,12 @@ use Rattle.csn_desc.proofs.Placed.{node_placed}
 use Rattle.csn_look.specs.Starts.{InStart}
 use Rattle.csn_look.specs.Keys.{InKeys}
 use Rattle.csn_look.specs.Reached.{Reached, InFollow}
-use Rattle.csn_look.proofs.ShapeFacts.{Shaped}
-use Rattle.csn_look.proofs.NullableFacts.{nullable}
-use Rattle.csn_look.proofs.StartFacts.{starts, follows, many_start}
-use Rattle.csn_look.proofs.KeyFacts.{keys}
-use Rattle.csn_look.proofs.KeyMeant.{key_start}
 use Rattle.csn_look.specs.Beginnings.{Near, near_begun, near_within}
-use Rattle.csn_look.proofs.NearFacts.{near_keys, has_key}
 use Rattle.csn_look.proofs.KeyFollowed.{choice_formed}
-use Rattle.csn_look.proofs.FollowFacts.{Stands}
 use Rattle.csn_certify.specs.declared.conflict.Conflict.TheVariants.{TwoEmpty, NotFirm, Overlap, EmptyClash, LoopClash}
 use Rattle.csn_certify.specs.Conflicts.{IsNull, IsBegunBy, two_empty, choice_not_firm, overlap, empty_clash, loop_clash, Certified}
 use Rattle.csn_certify.specs.Picks.{BeginsWithKey, BeginsKey, StandsBehind, behind_bit, behind_end, TakesNone}
+use Rattle.csn_certify.proofs.Here.{Here, Stands, nullable, starts, follows, many_start, keys, near_keys, has_key, key_start}
 use Rattle.csn_certify.proofs.Pieces.{order, equal_numbers, first_less, second_less, null_or, begun_both}
 use Rattle.csn_certify.proofs.Decisions.{null_bits, stands_here}
 
@@ -99,7 +93,7 @@ module _ (d : DescV) where
             | inr differs ↦ inr (λ null. let same : n ≡ Null = cc in differs same)
           ]
 
-module _ (d : DescV) (most : ℕ) (shaped_is : Shaped d) (certified : Certified d most) (k o : ℕ) (parts : List ℕ) (at : slice_get d.nodes k ≡ Some (Choice parts)) where
+module _ (d : DescV) (most : ℕ) (here : Here d) (certified : Certified d most) (k o : ℕ) (parts : List ℕ) (at : slice_get d.nodes k ≡ Some (Choice parts)) where
   -- keys of two alternatives are apart
   pub apart : {m j p q : ℕ} {w z : List ℕ} {mark_w mark_z : Bool} → Reached d k (o % 8) → m ≢ j → slice_get parts m ≡ Some q → slice_get parts j ≡ Some p → (IsNull d q → ⊥) → (IsNull d p → ⊥) → InKeys d most q (o % 8) w mark_w → InKeys d most p (o % 8) z mark_z → IsBegunBy w z ⊎ IsBegunBy z w → ⊥
   apart {m} {j} {w = w} {z = z} {mark_w = mark_w} {mark_z = mark_z} reached differs at_m at_j real_m real_j key_w key_z either =
@@ -137,10 +131,10 @@ module _ (d : DescV) (most : ℕ) (shaped_is : Shaped d) (certified : Certified 
       by_word : (w : List ℕ) → h.word ≡ w → ⊥
       by_word [] is = some_key j h.is_part h.takes_bits h.key is
       by_word (a ∷ r) is =
-          let starts_so = key_start d most shaped_is o (o % 8) a r refl is h.key in
+          let starts_so = key_start d here most o a r is h.key in
           let ahead : x ≡ a ∷ (r ++ (h.begins.0 ++ more)) =
           ap (λ l. l ++ x) (sym nothing) ∙ e ∙ ap (λ l. l ++ more) h.begins.1 ∙ append_assoc h.word h.begins.0 more ∙ ap (λ l. l ++ (h.begins.0 ++ more)) is in
-          no_clash a reached (λ same. differs (sym same)) at_m h.is_part null starts_so (stands_here d most shaped_is certified a (r ++ (h.begins.0 ++ more)) nothing ahead s)
+          no_clash a reached (λ same. differs (sym same)) at_m h.is_part null starts_so (stands_here d most here certified a (r ++ (h.begins.0 ++ more)) nothing ahead s)
 
   -- bits that have a tree at an alternative, where a key of the alternative j is held: it is that one
   pub key_decides : {q j : ℕ} {v : Values} {held b : List ℕ} {t : TreeV} (m : ℕ) (x more : List ℕ) → Reached d k (o % 8) → BeginsWithKey d most parts (o % 8) held j → slice_get parts m ≡ Some q → NMeans d q o v b t → b ++ x ≡ held ++ more → Stands d k o b x → m ≡ j
@@ -149,20 +143,20 @@ module _ (d : DescV) (most : ℕ) (shaped_is : Shaped d) (certified : Certified 
       elim (part_null d q) [
         | inl null ↦ not_null more reached differs at_m null h (null_bits d null meaning) e s
         | inr real ↦
-            let k = keys d most meaning in
+            let k = keys d here most meaning in
             let both = begun_both k.word k.rest h.word h.begins.0 x more k.begins h.begins.1 e in
             apart reached differs at_m h.is_part real h.takes_bits k.key h.key both
       ])
 
   -- and so of bits that an alternative follows
-  pub key_decides_followed : {q j round : ℕ} {v : Values} {seen held : List ℕ} (m : ℕ) (more : List ℕ) → Reached d k (o % 8) → BeginsWithKey d most parts (o % 8) held j → slice_get parts m ≡ Some q → Formed d.nodes seen round q → NFollow d q o v (held ++ more) → m ≡ j
-  key_decides_followed {q = q} {j = j} {held = held} m more reached h at_m is_formed followed =
+  pub key_decides_followed : {q j : ℕ} {v : Values} {held : List ℕ} (m : ℕ) (more : List ℕ) → Reached d k (o % 8) → BeginsWithKey d most parts (o % 8) held j → slice_get parts m ≡ Some q → NFollow d q o v (held ++ more) → m ≡ j
+  key_decides_followed {q = q} {j = j} {held = held} m more reached h at_m followed =
       same_number m j (λ differs.
       elim (part_null d q) [
         | inl null ↦
             let nothing = no_front h.word h.begins.0 (sym h.begins.1 ∙ no_front held more (null_followed d null followed)) in
             some_key j h.is_part h.takes_bits h.key nothing
-        | inr real ↦ by_near differs real (near_keys d most is_formed followed)
+        | inr real ↦ by_near differs real (near_keys d here most followed)
       ])
     where
       by_near : m ≢ j → (IsNull d q → ⊥) → Near (InKeys d most q (o % 8)) (held ++ more) → ⊥
@@ -193,13 +187,13 @@ module _ (d : DescV) (most : ℕ) (shaped_is : Shaped d) (certified : Certified 
       ])
     where
       by_bits : m ≢ i → (IsNull d q → ⊥) → (l : List ℕ) → b ≡ l → ⊥
-      by_bits differs real [] is = certified (NotFirm k m) (choice_not_firm at at_m real (inl (nullable d shaped_is meaning is)))
+      by_bits differs real [] is = certified (NotFirm k m) (choice_not_firm at at_m real (inl (nullable d here meaning is)))
       by_bits differs real (a ∷ l) is =
-          begins_behind a (l ++ x) more reached differs h.is_part at_m h.is_null (starts d shaped_is a l is widths meaning) over h.behind (ap (λ l. l ++ x) (sym is) ∙ e)
+          begins_behind a (l ++ x) more reached differs h.is_part at_m h.is_null (starts d here a l is widths meaning) over h.behind (ap (λ l. l ++ x) (sym is) ∙ e)
 
   follows_behind : {i m p q : ℕ} {v : Values} {held : List ℕ} {ended : Bool} (more : List ℕ) → Reached d k (o % 8) → FitWidths d v → m ≢ i → slice_get parts i ≡ Some p → slice_get parts m ≡ Some q → IsNull d p → 0 < length held → StandsBehind d most k (o % 8) held ended → NFollow d q o v (held ++ more) → ⊥
   follows_behind more reached widths differs at_i at_m null some (behind_bit {bit = bit} {rest = rest} follow) followed =
-      no_clash bit reached differs at_i at_m null (follows d shaped_is bit (rest ++ more) refl widths followed) follow
+      no_clash bit reached differs at_i at_m null (follows d here bit (rest ++ more) refl widths followed) follow
   follows_behind more reached widths differs at_i at_m null some (behind_end is) followed = absurd (omega arith)
 
   -- of bits that an alternative follows, where some are held
@@ -217,7 +211,7 @@ module _ (d : DescV) (most : ℕ) (shaped_is : Shaped d) (certified : Certified 
   begins_some : {q : ℕ} (m : ℕ) → ChoiceFormed d parts → slice_get parts m ≡ Some q → IsNull d q → BeginsKey d most parts (o % 8) []
   begins_some m formed_parts at_m null =
       let other = another parts m formed_parts.two in
-      let key = has_key d most (choice_formed d most other.j other.part formed_parts.held other.at) (o % 8) in
+      let key = has_key d here most (o % 8) (choice_formed d most other.j other.part formed_parts.held other.at) in
       elim (part_null d other.part) [
         | inl both ↦ absurd (one_null other.differs at_m other.at null both)
         | inr real ↦ record {
@@ -288,7 +282,7 @@ module _ (d : DescV) (most : ℕ) (shaped_is : Shaped d) (certified : Certified 
       elim (part_null d q) [
         | inl null ↦ of_null null held refl
         | inr real ↦
-            let key = keys d most meaning in
+            let key = keys d here most meaning in
             let whole = sym (append_assoc key.word key.rest x) ∙ ap (λ l. l ++ x) (sym key.begins) ∙ e in
             begun_left m (key.rest ++ x) more ended at_m real key.key whole over no_key no_more
       ]
@@ -307,18 +301,18 @@ module _ (d : DescV) (most : ℕ) (shaped_is : Shaped d) (certified : Certified 
           let nothing = null_bits d null meaning in
           let ahead : x ≡ a ∷ (l ++ more) = ap (λ l. l ++ x) (sym nothing) ∙ e ∙ ap (λ l. l ++ more) is in
           let P : List ℕ → Type 0 = λ l. StandsBehind d most k (o % 8) l ended in
-          let follow = stands_here d most shaped_is certified a (l ++ more) nothing ahead s in
+          let follow = stands_here d most here certified a (l ++ more) nothing ahead s in
           no_none m (record { part = q; is_part = at_m; is_null = null; behind = subst P (sym is) (behind_bit follow) })
 
   -- and none are followed, where the block goes on
-  pub refused_follows : {q round : ℕ} {v : Values} {seen held : List ℕ} (m : ℕ) (more : List ℕ) → ChoiceFormed d parts → ((j : ℕ) → ¬ BeginsWithKey d most parts (o % 8) held j) → ¬ BeginsKey d most parts (o % 8) held → slice_get parts m ≡ Some q → Formed d.nodes seen round q → NFollow d q o v (held ++ more) → ⊥
-  refused_follows {q} {held = held} m more formed_parts no_key no_more at_m is_formed followed =
+  pub refused_follows : {q : ℕ} {v : Values} {held : List ℕ} (m : ℕ) (more : List ℕ) → ChoiceFormed d parts → ((j : ℕ) → ¬ BeginsWithKey d most parts (o % 8) held j) → ¬ BeginsKey d most parts (o % 8) held → slice_get parts m ≡ Some q → NFollow d q o v (held ++ more) → ⊥
+  refused_follows {q} {held = held} m more formed_parts no_key no_more at_m followed =
       elim (part_null d q) [
         | inl null ↦
             let nothing = no_front held more (null_followed d null followed) in
             let P : List ℕ → Type 0 = λ l. BeginsKey d most parts (o % 8) l in
             no_more (subst P (sym nothing) (begins_some m formed_parts at_m null))
-        | inr real ↦ by_near real (near_keys d most is_formed followed)
+        | inr real ↦ by_near real (near_keys d here most followed)
       ]
     where
       by_near : (IsNull d q → ⊥) → Near (InKeys d most q (o % 8)) (held ++ more) → ⊥
@@ -327,17 +321,17 @@ module _ (d : DescV) (most : ℕ) (shaped_is : Shaped d) (certified : Certified 
       by_near real (near_within {word = word} rest key is) =
           key_left m (more ++ rest) at_m real key (is ∙ append_assoc held more rest) no_key no_more
 
-module _ (d : DescV) (most : ℕ) (shaped_is : Shaped d) (certified : Certified d most) where
+module _ (d : DescV) (most : ℕ) (here : Here d) (certified : Certified d most) where
   -- ---- free repetitions
 
   -- where the next bit begins the part, a repetition does not end
   pub goes_on : {k i o : ℕ} {b x : List ℕ} (a : ℕ) (r : List ℕ) → slice_get d.nodes k ≡ Some (Many i) → Reached d i (o % 8) → InStart d i (o % 8) a → b ++ x ≡ a ∷ r → Stands d k o b x → 0 < length b
   goes_on {k} {o = o} {b = []} a r at reached start e s =
-      absurd (certified (LoopClash k (o % 8) a) (loop_clash at reached start (stands_here d most shaped_is certified a r refl e s)))
+      absurd (certified (LoopClash k (o % 8) a) (loop_clash at reached start (stands_here d most here certified a r refl e s)))
   goes_on {b = z ∷ b} a r at reached start e s = omega arith
 
-module _ (d : DescV) (shaped_is : Shaped d) where
+module _ (d : DescV) (here : Here d) where
   -- where it does not, a repetition has no bits
-  pub stops : {i o : ℕ} {v : Values} {b : List ℕ} {ts : Trees} (x : List ℕ) (a : ℕ) (r : List ℕ) → FitWidths d v → ¬ InStart d i (o % 8) a → ManyMean d i o v b ts → b ++ x ≡ a ∷ r → b ≡ []
-  stops {b = []} x a r widths never h e = refl
-  stops {b = z ∷ b} x a r widths never h e = let same : z ∷ b ≡ a ∷ b = cc in absurd (never (many_start d shaped_is a b same widths h))
+  pub stops : {i o : ℕ} {v : Values} {b : List ℕ} {ts : Trees} (k : ℕ) (x : List ℕ) (a : ℕ) (r : List ℕ) → slice_get d.nodes k ≡ Some (Many i) → FitWidths d v → ¬ InStart d i (o % 8) a → ManyMean d i o v b ts → b ++ x ≡ a ∷ r → b ≡ []
+  stops {b = []} k x a r at widths never h e = refl
+  stops {b = z ∷ b} k x a r at widths never h e = let same : z ∷ b ≡ a ∷ b = cc in absurd (never (many_start d here k a b at same widths h))

@@ -2,48 +2,42 @@
 -- left.
 use Rattle.std.proofs.Common.{◌≡◌, ℕ, ◌%◌, ◌<◌, inl, Bool, true, List, [], ◌∷◌, ◌++◌, length, refl, sym, ◌∙◌, subst, append-nil, Some, slice_get}
 use Rattle.csn_desc.specs.declared.node.Count.{Count}
-use Rattle.csn_desc.specs.declared.node.Node.{Node}
 use Rattle.csn_desc.specs.declared.node.Node.TheVariants.{Times, Many}
 use Rattle.csn_desc.specs.TreeV.{TreeV, Trees}
 use Rattle.csn_desc.specs.Nodes.{DescV}
 use Rattle.csn_desc.specs.Values.{Values}
 use Rattle.csn_desc.specs.Means.{NMeans, ManyMean, means_many, many_end, many_next}
 use Rattle.csn_desc.specs.Follows.{NFollow, NodeFollows, ManyFollow, follows_at, follows_whole, follows_many, many_here, many_later}
-use Rattle.csn_desc.specs.Formed.{FitWidths, IsDescription}
+use Rattle.csn_desc.specs.Formed.{FitWidths}
+use Rattle.csn_desc.specs.Laws.{StringsAreFollowed}
 use Rattle.csn_desc.proofs.Nodewise.{follow_at}
-use Rattle.csn_desc.proofs.Prefixes.{string_followed}
-use Rattle.csn_look.specs.Nullable.{Nullable}
-use Rattle.csn_look.specs.Starts.{InStart, NodeStarts, starts_at, starts_many}
-use Rattle.csn_look.specs.Laws.{NoBitsAreOfNullable, FollowedBitsStart}
+use Rattle.csn_look.specs.Starts.{InStart}
 use Rattle.csn_certify.specs.declared.conflict.Conflict.TheVariants.{NotFirm}
 use Rattle.csn_certify.specs.declared.pick.Pick.TheVariants.{Leave}
 use Rattle.csn_certify.specs.Conflicts.{many_not_firm, times_not_firm, Certified}
 use Rattle.csn_certify.specs.Picks.{Picks, pick_leave, pick_ended}
+use Rattle.csn_certify.proofs.Here.{Here, many_starts, nullable, follows}
 use Rattle.csn_certify.proofs.Pieces.{some_bit}
 
 -- ---- each has a bit
 
-module _ (nullable : NoBitsAreOfNullable) (d : DescV) (most : ℕ) (is : IsDescription d) (certified : Certified d most) where
-  empty_turn : {part o : ℕ} {v : Values} {b : List ℕ} {t : TreeV} → NMeans d part o v b t → b ≡ [] → Nullable d part
-  empty_turn {part} {o} {v} {t = t} h nothing =
-      let P : List ℕ → Type 0 = λ l. NMeans d part o v l t in nullable d part o v t is (subst P nothing h)
-
+module _ (d : DescV) (most : ℕ) (here : Here d) (certified : Certified d most) where
   pub free_turn : {part o : ℕ} {v : Values} {b : List ℕ} {t : TreeV} (node : ℕ) → slice_get d.nodes node ≡ Some (Many part) → NMeans d part o v b t → 0 < length b
   free_turn {b = b} node at h =
-      some_bit b (λ nothing. certified (NotFirm node 0) (many_not_firm at refl (inl (empty_turn h nothing))))
+      some_bit b (λ nothing. certified (NotFirm node 0) (many_not_firm at refl (inl (nullable d here h nothing))))
 
   pub counted_turn : {part o : ℕ} {count : Count} {v : Values} {b : List ℕ} {t : TreeV} (node : ℕ) → slice_get d.nodes node ≡ Some (Times count part) → NMeans d part o v b t → 0 < length b
   counted_turn {b = b} node at h =
-      some_bit b (λ nothing. certified (NotFirm node 0) (times_not_firm at refl (empty_turn h nothing)))
+      some_bit b (λ nothing. certified (NotFirm node 0) (times_not_firm at refl (nullable d here h nothing)))
 
 -- ---- turns that are followed
 
-module _ (d : DescV) where
+module _ (strings : StringsAreFollowed) (d : DescV) where
   many_followed : {i o : ℕ} {v : Values} {b : List ℕ} {ts : Trees} → (b ≡ [] → ⊥) → ManyMean d i o v b ts → ManyFollow d i o v b
   many_followed some (many_end nothing) = absurd (some nothing)
-  many_followed {i} {o} {v} some (many_next b1 [] cut more h others) =
+  many_followed {i} {o} {v} some (many_next {t = t} b1 [] cut more h others) =
       let P : List ℕ → Type 0 = λ l. NFollow d i o v l in
-      many_here (subst P (sym (append-nil b1) ∙ sym cut) (string_followed d h))
+      many_here (subst P (sym (append-nil b1) ∙ sym cut) (strings d i o v b1 t h))
   many_followed some (many_next b1 (x ∷ b2) cut more h others) =
       many_later b1 (x ∷ b2) cut more h (many_followed (λ none. absurd (cc)) others)
 
@@ -54,22 +48,12 @@ module _ (d : DescV) where
       of_node some (follows_whole t (means_many h)) = many_followed some h
       of_node some (follows_many h) = h
 
-  -- a free repetition begins as its part does
-  many_starts : {node part octet a : ℕ} → slice_get d.nodes node ≡ Some (Many part) → InStart d node octet a → InStart d part octet a
-  many_starts {part = part} {octet = octet} {a = a} at (starts_at n is h) =
-      let same : n ≡ Many part = cc in
-      let P : Node → Type 0 = λ m. NodeStarts d m octet a in
-      of_many (subst P same h)
-    where
-      of_many : NodeStarts d (Many part) octet a → InStart d part octet a
-      of_many (starts_many s) = s
-
-module _ (follows : FollowedBitsStart) (d : DescV) (is : IsDescription d) where
+module _ (d : DescV) (here : Here d) where
   pub left_follows_none : {most node part o : ℕ} {v : Values} {held : List ℕ} {ended : Bool} (later : List ℕ) → slice_get d.nodes node ≡ Some (Many part) → FitWidths d v → (ended ≡ true → later ≡ []) → (held ++ later ≡ [] → ⊥) → Picks d most node (o % 8) held ended Leave → NFollow d node o v (held ++ later) → ⊥
-  left_follows_none {node = node} {part = part} {o = o} {v = v} later at widths over some (pick_leave {bit = bit} {rest = rest} those there never) h =
+  left_follows_none {part = part} {o = o} later at widths over some (pick_leave {bit = bit} {rest = rest} those there never) h =
       let that : part ≡ those = cc in
       let P : ℕ → Type 0 = λ i. InStart d i (o % 8) bit in
-      never (subst P that (many_starts d at (follows d node o bit v (rest ++ later) is widths h)))
+      never (subst P that (many_starts d at (follows d here bit (rest ++ later) refl widths h)))
   left_follows_none later at widths over some (pick_ended those there ended) h = some (over ended)
 
   pub left_part_follows_none : {most node part o : ℕ} {v : Values} {held : List ℕ} {ended : Bool} (later : List ℕ) → slice_get d.nodes node ≡ Some (Many part) → FitWidths d v → (ended ≡ true → later ≡ []) → (held ++ later ≡ [] → ⊥) → Picks d most node (o % 8) held ended Leave → NFollow d part o v (held ++ later) → ⊥

@@ -10,12 +10,13 @@ use Rattle.csn_desc.specs.Follows.{NFollow, follows_at, follows_whole, follows_c
 use Rattle.csn_desc.specs.Formed.{shows_earlier, Formed, PartsFormed, formed, HaveValues, IsDescription}
 use Rattle.csn_desc.proofs.Nodewise.{meaning_at}
 use Rattle.csn_look.specs.Keys.{InKeys}
-use Rattle.csn_look.specs.Laws.{NoBitsAreOfNullable, BeginningsOfKeysAreFollowed, KeysAreShort}
+use Rattle.csn_look.specs.Laws.{BeginningsOfKeysAreFollowed, KeysAreShort}
 use Rattle.csn_look.proofs.KeyFollowed.{choice_formed}
 use Rattle.csn_certify.specs.declared.conflict.Conflict.TheVariants.{NotFirm}
 use Rattle.csn_certify.specs.declared.pick.Pick.TheVariants.{Wait, Refuse}
 use Rattle.csn_certify.specs.Conflicts.{IsNull, choice_not_firm, Certified}
 use Rattle.csn_certify.specs.Picks.{StandsBehind, behind_bit, behind_end, TakesNone, Picks, pick_wait, pick_refuse, pick_bit}
+use Rattle.csn_certify.proofs.Here.{Here, nullable}
 
 module _ (d : DescV) (most : ℕ) where
   pub waiting_followed : {node round o : ℕ} {seen : List ℕ} {v : Values} {held : List ℕ} {ended : Bool} → BeginningsOfKeysAreFollowed → Formed d.nodes seen round node → HaveValues v seen → Picks d most node (o % 8) held ended Wait → NFollow d node o v held
@@ -49,14 +50,13 @@ module _ (d : DescV) (most : ℕ) where
   refused_choice : {node octet : ℕ} → Picks d most node octet [] true Refuse → (parts : List ℕ) × (slice_get d.nodes node ≡ Some (Choice parts))
   refused_choice (pick_refuse parts at no_key no_none no_more) = (parts, at)
 
-  pub refused_has_bits : {node octet o : ℕ} {v : Values} {b : List ℕ} {t : TreeV} → NoBitsAreOfNullable → IsDescription d → Certified d most → Picks d most node octet [] true Refuse → NMeans d node o v b t → b ≡ [] → ⊥
-  refused_has_bits {node} {octet} nullable is certified pick h nothing =
+  pub refused_has_bits : {node octet o : ℕ} {v : Values} {b : List ℕ} {t : TreeV} → Here d → Certified d most → Picks d most node octet [] true Refuse → NMeans d node o v b t → b ≡ [] → ⊥
+  refused_has_bits {node} {octet} here certified pick h nothing =
       let choice = refused_choice pick in of_choice choice.1 (meaning_at d choice.1 h) nothing
     where
       of_choice : {o : ℕ} {v : Values} {parts b : List ℕ} {t : TreeV} → slice_get d.nodes node ≡ Some (Choice parts) → NodeMeans d (Choice parts) o v b t → b ≡ [] → ⊥
-      of_choice {o} {v} at (means_choice {j = m} {i = q} {t = u} at_m means) empty =
-          let P : List ℕ → Type 0 = λ l. NMeans d q o v l u in
-          certified (NotFirm node m) (choice_not_firm at at_m (refused_real m at pick at_m) (inl (nullable d q o v u is (subst P empty means))))
+      of_choice at (means_choice {j = m} {i = q} at_m means) empty =
+          certified (NotFirm node m) (choice_not_firm at at_m (refused_real m at pick at_m) (inl (nullable d here means empty)))
 
   pub waiting_few : {node octet : ℕ} {held : List ℕ} {ended : Bool} → KeysAreShort → 0 < most → Picks d most node octet held ended Wait → length held < most
   waiting_few {octet = octet} short some (pick_wait parts at no_key no_none goes_on h) = omega (arith, h.not_all, short d most h.part octet h.word h.mark h.key)

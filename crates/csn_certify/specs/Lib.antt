@@ -7,4 +7,5 @@ pub mod Choosing
 pub mod Plans
 pub mod Ahead
 pub mod Laws
+pub mod Known
 pub mod Examples

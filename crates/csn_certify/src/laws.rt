@@ -1,6 +1,21 @@
 //! Laws over the definitions, each the contract of a function that does nothing.
 
+ghost use Rattle.csn_certify.specs.Known.{Known};
 ghost use Rattle.csn_certify.specs.Laws.{FirstConflictIsOne, CertifiedHasNoConflict, LongerWordsCertify, NoContinuation, BlocksHaveOneTree, PicksAreOne, TakesStay, ChoicesTakeTheOne, ChoicesRefuseNone, RepetitionsGoOn, RepetitionsStop, FollowedTakeTheOne, FollowedRefuseNone, FollowedGoOn, FollowedStop, FollowedTurnsStop, FreeTurnsHaveBits, CountedTurnsHaveBits, NoBitFollowsTheLast, NothingIsBehindTheLast, NoBitFollowsComponents, NoBitFollowsTrees, TruncationsGoOn, FollowedTruncationsGoOn, TruncationsEnd, WaitingIsFollowed, WaitingHoldsFew, WaitingEndsInRefusal, RefusedHasNoEmptyTree, FollowedBeginStrings, FollowedInOneWay};
+
+/// What the laws of csn_desc and csn_look say, as the lemmas here take it.
+fn known()
+    ensures { Known }
+{
+    csn_desc::laws::values_are_kept();
+    csn_look::laws::no_bits_are_of_nullable();
+    csn_look::laws::bits_end();
+    csn_look::laws::bits_start();
+    csn_look::laws::bits_begin_with_keys();
+    csn_look::laws::keys_are_of_bits();
+    csn_look::laws::parts_are_reached();
+    csn_look::laws::bits_stand_behind_parts();
+}
 
 /// A description has at most one first conflict, and is not certified where it has one.
 pub fn first_conflict_is_one()
@@ -18,12 +33,17 @@ pub fn longer_words_certify()
 /// begins with these and that one.
 pub fn no_continuation()
     ensures { NoContinuation }
-{}
+{
+    csn_desc::laws::prefixes_are_followed();
+    csn_desc::laws::strings_are_followed();
+}
 
 /// Any bits, of any length, have at most one tree where the description is certified.
 pub fn blocks_have_one_tree()
     ensures { BlocksHaveOneTree }
-{}
+{
+    known();
+}
 
 /// Look-ahead has at most one answer where the description is certified.
 pub fn picks_are_one()
@@ -47,7 +67,9 @@ pub fn picks_are_right()
     ensures refuses { ChoicesRefuseNone }
     ensures goes_on { RepetitionsGoOn }
     ensures stops { RepetitionsStop }
-{}
+{
+    known();
+}
 
 /// And so of what is followed: by no other alternative of a choice than the one that is taken, and by none
 /// where look-ahead refuses while the block goes on; by turns of a free repetition, and not by it where it is
@@ -59,7 +81,8 @@ pub fn picks_follow()
     ensures stops { FollowedStop }
     ensures turns_stop { FollowedTurnsStop }
 {
-    csn_look::laws::bits_start();
+    csn_desc::laws::strings_are_followed();
+    known();
 }
 
 /// Each turn of a repetition of a certified description, free or by number, has a bit.
@@ -67,7 +90,7 @@ pub fn turns_have_bits()
     ensures free { FreeTurnsHaveBits }
     ensures counted { CountedTurnsHaveBits }
 {
-    csn_look::laws::no_bits_are_of_nullable();
+    known();
 }
 
 /// Nothing may stand behind a rest, behind padding and behind a truncation of a certified description: not
@@ -78,14 +101,18 @@ pub fn nothing_is_behind_the_last()
     ensures ahead { NothingIsBehindTheLast }
     ensures components { NoBitFollowsComponents }
     ensures trees { NoBitFollowsTrees }
-{}
+{
+    known();
+}
 
 /// A truncation takes its next component where bits lie ahead, and there alone.
 pub fn truncations_go_on()
     ensures means { TruncationsGoOn }
     ensures follows { FollowedTruncationsGoOn }
     ensures ends { TruncationsEnd }
-{}
+{
+    csn_desc::laws::strings_are_followed();
+}
 
 /// Where look-ahead waits, the held bits are followed, and are fewer than it looks at; the end of the block
 /// behind them is refused. Where it refuses no bits at an end, a choice has no tree without bits.
@@ -97,7 +124,7 @@ pub fn waiting_is_followed()
 {
     csn_look::laws::keys_are_of_bits();
     csn_look::laws::keys_are_words();
-    csn_look::laws::no_bits_are_of_nullable();
+    known();
 }
 
 /// Where a description has no windows, bits that can be followed are the first of a string.
@@ -109,4 +136,6 @@ pub fn followed_begin_strings()
 /// tree there together with a bit that may stand behind it.
 pub fn followed_in_one_way()
     ensures { FollowedInOneWay }
-{}
+{
+    known();
+}

@@ -1,3 +1,4 @@
+use Rattle.csn_certify.proofs.Here.{here_of}
 use Rattle.csn_certify.proofs.Waiting.{waiting_followed, waiting_few, waiting_ends, refused_has_bits}
 use Rattle.csn_certify.proofs.laws.waiting_is_followed.Goals as goal
 
@@ -11,4 +12,4 @@ pub returns-clause-ends : goal.returns-clause-ends
 returns-clause-ends c = λ d most node octet held some pick. waiting_ends d most some pick
 
 pub returns-clause-empty : goal.returns-clause-empty
-returns-clause-empty c = λ d most node octet o v b t is certified pick h nothing. refused_has_bits d most c.no_bits_are_of_nullable.ensures is certified pick h nothing
+returns-clause-empty c = λ d most node octet o v b t is certified pick h nothing. refused_has_bits d most (here_of c.known.ensures is) certified pick h nothing
