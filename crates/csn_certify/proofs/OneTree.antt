@@ -10,7 +10,7 @@ use Rattle.csn_desc.specs.Values.{Values, with_value}
 use Rattle.csn_desc.specs.Means.{NMeans, NodeMeans, PartsMean, TimesMean, ManyMean, LeadMean, means_at, means_lits, means_spare, means_pad, means_null, means_field, means_rest, means_seq, means_choice, means_times, means_many, means_cut, means_trunc, means_window, means_named, parts_end, parts_next, times_end, times_next, many_end, many_next, lead_last, lead_next}
 use Rattle.csn_desc.specs.Formed.{IsDescription, FitWidths}
 use Rattle.csn_desc.proofs.Nodewise.{meaning_at}
-use Rattle.csn_look.specs.Ends.{InEnds, PartsEnd, ManyEnd}
+use Rattle.csn_look.specs.Ends.{PartsEnd, ManyEnd}
 use Rattle.csn_look.specs.Ends as end
 use Rattle.csn_look.specs.Reached.{Reached, reached_root, Turn, MayStandBehind}
 use Rattle.csn_look.proofs.ReachFacts.{turn_first, turn_next, turn_reached, parts_end_more, many_end_more, seq_reached, lead_reached, window_reached, named_reached, many_reached}

@@ -1,5 +1,5 @@
 -- Where look-ahead waits, the held bits begin a key, and so are followed.
-use Rattle.std.proofs.Common.{◌≡◌, ℕ, suc, ◌%◌, ◌<◌, ◌≤◌, inl, Bool, true, false, List, [], length, refl, ap, subst, arith, Some, slice_get}
+use Rattle.std.proofs.Common.{◌≡◌, ℕ, suc, ◌%◌, ◌<◌, inl, Bool, true, false, List, [], length, refl, subst, arith, Some, slice_get}
 use Rattle.csn_desc.specs.declared.node.Node.{Node}
 use Rattle.csn_desc.specs.declared.node.Node.TheVariants.{Choice, Many}
 use Rattle.csn_desc.specs.TreeV.{TreeV, row, none}
@@ -7,7 +7,7 @@ use Rattle.csn_desc.specs.Nodes.{DescV, parts_of}
 use Rattle.csn_desc.specs.Values.{Values}
 use Rattle.csn_desc.specs.Means.{NMeans, NodeMeans, means_choice, means_many, many_end}
 use Rattle.csn_desc.specs.Follows.{NFollow, follows_at, follows_whole, follows_choice}
-use Rattle.csn_desc.specs.Formed.{shows_earlier, Formed, PartsFormed, formed, HaveValues, IsDescription}
+use Rattle.csn_desc.specs.Formed.{shows_earlier, Formed, PartsFormed, formed, HaveValues}
 use Rattle.csn_desc.proofs.Nodewise.{meaning_at}
 use Rattle.csn_look.specs.Keys.{InKeys}
 use Rattle.csn_look.specs.Laws.{BeginningsOfKeysAreFollowed, KeysAreShort}
