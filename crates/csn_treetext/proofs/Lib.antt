@@ -13,3 +13,4 @@ pub mod Runs
 pub mod Complete
 pub mod Alive
 pub mod Places
+pub mod TextDecided

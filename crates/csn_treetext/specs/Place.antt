@@ -1,5 +1,5 @@
 -- Texts of trees, and the place where bytes are none.
-use Rattle.std.specs.Prelude.{◌≡◌, ℕ, ◌≤◌, List, ◌++◌, length, take}
+use Rattle.std.specs.Prelude.{◌≡◌, ℕ, ◌≤◌, ◌⊎◌, List, ◌++◌, length, take}
 use Rattle.csn_desc.specs.TreeV.{TreeV}
 use Rattle.csn_treetext.specs.declared.version.Version.{Version}
 use Rattle.csn_treetext.specs.declared.version.Version.TheVariants.{First, Second}
@@ -33,6 +33,10 @@ pub record IsFaultPlace (version : Version) (text : List ℕ) (place : ℕ) : Ty
   pub within : place ≤ length text
   pub begins : BeginsText version (take place text)
   pub greatest : (p : ℕ) → p ≤ length text → BeginsText version (take p text) → p ≤ place
+
+-- the bytes are the text of a tree, or have a place where they are wrong
+abbrev pub Decided : Version → List ℕ → Type 0
+Decided version text = ((t : TreeV) × IsTextOf version t text) ⊎ ((place : ℕ) × IsFaultPlace version text place)
 
 -- what a fault says of the bytes; want of memory says nothing of them
 abbrev pub IsFaultOf : Version → List ℕ → TextFault → Type 0
