@@ -20,15 +20,23 @@ abbrev pub first_some : {X : Type 0} → Option X → Option X → Option X
 first_some (Some x) other = Some x
 first_some None other = other
 
+-- the token is a number
+abbrev pub number_at : TokenKind → List ℕ → Option ℕ
+number_at kind.Word w = number_of w
+number_at _ w = None
+
 -- the word `val`, with this before it
 abbrev pub val_step : Terms → List ℕ → Option ExponentNext
 val_step t w = if is_text w (codes "val") then Some (Goes (Val t)) else None
 
+abbrev pub before_step : Terms → TokenKind → List ℕ → Option ExponentNext
+before_step t kind.Word w = val_step t w
+before_step t _ w = None
+
 abbrev pub count_step : TokenKind → List ℕ → Option ExponentNext
-count_step kind.Word w =
-    first_some (option_map (λ n. Goes (Number n)) (number_of w))
-    (val_step (record { factor = None; summand = None; bracket = true }) w)
-count_step _ w = None
+count_step k w =
+    first_some (option_map (λ n. Goes (Number n)) (number_at k w))
+    (before_step (record { factor = None; summand = None; bracket = true }) k w)
 
 abbrev pub bracket_step : TokenKind → List ℕ → Option ExponentNext
 bracket_step kind.Star w = Some (Goes (Whole exponent.Any))
@@ -37,10 +45,9 @@ bracket_step k w = count_step k w
 
 abbrev pub star_step : TokenKind → List ℕ → Option ExponentNext
 star_step kind.ParenLeft w = Some (Goes StarBracket)
-star_step kind.Word w =
-    first_some (option_map (λ n. Ends (exponent.Number n)) (number_of w))
-    (val_step (record { factor = None; summand = None; bracket = false }) w)
-star_step _ w = None
+star_step k w =
+    first_some (option_map (λ n. Ends (exponent.Number n)) (number_at k w))
+    (before_step (record { factor = None; summand = None; bracket = false }) k w)
 
 abbrev pub number_step : ℕ → TokenKind → Option ExponentNext
 number_step n kind.ParenRight = Some (Ends (exponent.Number n))
@@ -49,18 +56,13 @@ number_step n kind.Plus = Some (Goes (Summand n))
 number_step n _ = None
 
 abbrev pub summand_step : ℕ → TokenKind → List ℕ → Option ExponentNext
-summand_step c kind.Word w =
-    first_some (option_map (λ m. Goes (Factor c m)) (number_of w))
-    (val_step (record { factor = None; summand = Some c; bracket = true }) w)
-summand_step c _ w = None
+summand_step c k w =
+    first_some (option_map (λ m. Goes (Factor c m)) (number_at k w))
+    (before_step (record { factor = None; summand = Some c; bracket = true }) k w)
 
 abbrev pub factor_step : ℕ → ℕ → TokenKind → Option ExponentNext
 factor_step c m kind.Star = Some (Goes (Before (record { factor = Some m; summand = Some c; bracket = true })))
 factor_step c m _ = None
-
-abbrev pub before_step : Terms → TokenKind → List ℕ → Option ExponentNext
-before_step t kind.Word w = val_step t w
-before_step t _ w = None
 
 abbrev pub val_bracket_step : Terms → TokenKind → Option ExponentNext
 val_bracket_step t kind.ParenLeft = Some (Goes (ValBracket t))
@@ -91,14 +93,11 @@ product_step t label kind.Plus = summand_behind t t.summand label
 product_step t label _ = None
 
 abbrev pub factor_behind_step : Option ℕ → List ℕ → TokenKind → List ℕ → Option ExponentNext
-factor_behind_step c label kind.Word w =
-    option_map (λ m. Goes (Product (record { factor = Some m; summand = c; bracket = true }) label)) (number_of w)
-factor_behind_step c label _ w = None
+factor_behind_step c label k w =
+    option_map (λ m. Goes (Product (record { factor = Some m; summand = c; bracket = true }) label)) (number_at k w)
 
 abbrev pub summand_behind_step : ℕ → List ℕ → TokenKind → List ℕ → Option ExponentNext
-summand_behind_step m label kind.Word w =
-    option_map (λ c. Goes (Whole (exponent.Linear m label c))) (number_of w)
-summand_behind_step m label _ w = None
+summand_behind_step m label k w = option_map (λ c. Goes (Whole (exponent.Linear m label c))) (number_at k w)
 
 abbrev pub whole_step : Exponent → TokenKind → Option ExponentNext
 whole_step e kind.ParenRight = Some (Ends e)

@@ -4,7 +4,7 @@ ghost use Rattle.std.specs.Prelude.{◌≡◌, ◌∷◌, ◌++◌};
 ghost use Rattle.csn_lexer.specs.Word.{IsWord};
 ghost use Rattle.csn_lexer.specs.declared.token.TokenKind.{TokenKind};
 ghost use Rattle.csn_grammar.specs.reader.Gives.{Gives, IsWordToken};
-ghost use Rattle.csn_grammar.specs.reader.ExponentSteps.{linear, val_step, count_step, bracket_step, star_step, number_step, summand_step, factor_step, first_word_step, words_step, product_step, factor_behind_step, summand_behind_step, exponent_step};
+ghost use Rattle.csn_grammar.specs.reader.ExponentSteps.{linear, number_at, before_step, count_step, bracket_step, star_step, number_step, summand_step, factor_step, first_word_step, words_step, product_step, factor_behind_step, summand_behind_step, exponent_step};
 
 use crate::exponent::Exponent;
 use crate::reader::progress::{ExponentNext, Progress, Terms};
@@ -26,25 +26,31 @@ fn no_terms(bracket: bool) -> Terms
     }
 }
 
-fn val_step(terms: Terms, word: &[u8]) -> Result<ExponentNext, Stop>
-    ensures { Gives result (val_step terms word.now) }
+// The number that the token is.
+fn number_at(kind: TokenKind, word: &[u8]) -> Option<u32>
+    ensures { result ≡ number_at kind word.now }
 {
-    if is_val(word) {
-        Ok(ExponentNext::Goes(Progress::Val(terms)))
-    } else {
-        Err(Stop::Refused)
+    match kind {
+        TokenKind::Word => number_of(word),
+        _ => None,
+    }
+}
+
+fn before_step(terms: Terms, kind: TokenKind, word: &[u8]) -> Result<ExponentNext, Stop>
+    ensures { Gives result (before_step terms kind word.now) }
+{
+    match kind {
+        TokenKind::Word if is_val(word) => Ok(ExponentNext::Goes(Progress::Val(terms))),
+        _ => Err(Stop::Refused),
     }
 }
 
 fn count_step(kind: TokenKind, word: &[u8]) -> Result<ExponentNext, Stop>
     ensures { Gives result (count_step kind word.now) }
 {
-    match kind {
-        TokenKind::Word => match number_of(word) {
-            Some(number) => Ok(ExponentNext::Goes(Progress::Number(number))),
-            None => val_step(no_terms(true), word),
-        },
-        _ => Err(Stop::Refused),
+    match number_at(kind, word) {
+        Some(number) => Ok(ExponentNext::Goes(Progress::Number(number))),
+        None => before_step(no_terms(true), kind, word),
     }
 }
 
@@ -64,11 +70,10 @@ fn star_step(kind: TokenKind, word: &[u8]) -> Result<ExponentNext, Stop>
 {
     match kind {
         TokenKind::ParenLeft => Ok(ExponentNext::Goes(Progress::StarBracket)),
-        TokenKind::Word => match number_of(word) {
+        _ => match number_at(kind, word) {
             Some(number) => Ok(ExponentNext::Ends(Exponent::Number(number))),
-            None => val_step(no_terms(false), word),
+            None => before_step(no_terms(false), kind, word),
         },
-        _ => Err(Stop::Refused),
     }
 }
 
@@ -90,19 +95,16 @@ fn number_step(number: u32, kind: TokenKind) -> Result<ExponentNext, Stop>
 fn summand_step(summand: u32, kind: TokenKind, word: &[u8]) -> Result<ExponentNext, Stop>
     ensures { Gives result (summand_step summand kind word.now) }
 {
-    match kind {
-        TokenKind::Word => match number_of(word) {
-            Some(factor) => Ok(ExponentNext::Goes(Progress::Factor { summand, factor })),
-            None => val_step(
-                Terms {
-                    factor: None,
-                    summand: Some(summand),
-                    bracket: true,
-                },
-                word,
-            ),
-        },
-        _ => Err(Stop::Refused),
+    match number_at(kind, word) {
+        Some(factor) => Ok(ExponentNext::Goes(Progress::Factor { summand, factor })),
+        None => {
+            let terms = Terms {
+                factor: None,
+                summand: Some(summand),
+                bracket: true,
+            };
+            before_step(terms, kind, word)
+        }
     }
 }
 
@@ -204,19 +206,16 @@ fn factor_behind_step(
 ) -> Result<ExponentNext, Stop>
     ensures { Gives result (factor_behind_step summand label kind word.now) }
 {
-    match kind {
-        TokenKind::Word => match number_of(word) {
-            Some(factor) => Ok(ExponentNext::Goes(Progress::Product {
-                terms: Terms {
-                    factor: Some(factor),
-                    summand,
-                    bracket: true,
-                },
-                label,
-            })),
-            None => Err(Stop::Refused),
-        },
-        _ => Err(Stop::Refused),
+    match number_at(kind, word) {
+        Some(factor) => {
+            let terms = Terms {
+                factor: Some(factor),
+                summand,
+                bracket: true,
+            };
+            Ok(ExponentNext::Goes(Progress::Product { terms, label }))
+        }
+        None => Err(Stop::Refused),
     }
 }
 
@@ -228,16 +227,13 @@ fn summand_behind_step(
 ) -> Result<ExponentNext, Stop>
     ensures { Gives result (summand_behind_step factor label kind word.now) }
 {
-    match kind {
-        TokenKind::Word => match number_of(word) {
-            Some(summand) => Ok(ExponentNext::Goes(Progress::Whole(Exponent::Linear {
-                m: factor,
-                label,
-                c: summand,
-            }))),
-            None => Err(Stop::Refused),
-        },
-        _ => Err(Stop::Refused),
+    match number_at(kind, word) {
+        Some(summand) => Ok(ExponentNext::Goes(Progress::Whole(Exponent::Linear {
+            m: factor,
+            label,
+            c: summand,
+        }))),
+        None => Err(Stop::Refused),
     }
 }
 
@@ -258,10 +254,7 @@ pub fn exponent_step(
         Progress::Number(number) => number_step(number, kind),
         Progress::Summand(summand) => summand_step(summand, kind, word),
         Progress::Factor { summand, factor } => factor_step(summand, factor, kind),
-        Progress::Before(terms) => match kind {
-            TokenKind::Word => val_step(terms, word),
-            _ => Err(Stop::Refused),
-        },
+        Progress::Before(terms) => before_step(terms, kind, word),
         Progress::Val(terms) => match kind {
             TokenKind::ParenLeft => Ok(ExponentNext::Goes(Progress::ValBracket(terms))),
             _ => Err(Stop::Refused),
