@@ -1,5 +1,5 @@
 -- Nodes that are added one after another are those that an expression gives, form by form.
-use Rattle.std.proofs.Common.{◌≡◌, ℕ, suc, ◌+◌, ◌≤◌, ◌<◌, Bool, true, false, List, [], ◌∷◌, ◌++◌, length, codes, refl, sym, ◌∙◌, ap, subst, arith, append_assoc, length-append, Option, Some, None, Result, Ok, Err}
+use Rattle.std.proofs.Common.{◌≡◌, ℕ, suc, ◌+◌, ◌≤◌, ◌<◌, true, false, List, [], ◌∷◌, ◌++◌, length, codes, refl, sym, ◌∙◌, ap, subst, arith, append_assoc, length-append, Option, Some, None, Result, Ok, Err}
 use Rattle.std.specs.Prelude.{OnOk}
 use Rattle.csn_desc.specs.declared.reading.Reading.{Reading}
 use Rattle.csn_desc.specs.declared.reading.Reading.TheVariants.{Received, Sent}
@@ -12,25 +12,19 @@ use Rattle.csn_desc.specs.declared.node.Node.TheVariants.{Lits, Spare, Pad, Null
 use Rattle.csn_grammar.specs.declared.exponent.Exponent.{Exponent}
 use Rattle.csn_grammar.specs.declared.exponent.Exponent.TheVariants.{Any}
 use Rattle.csn_grammar.specs.declared.rules.Rule.{Rule}
-use Rattle.csn_grammar.specs.ExprV.{ExprV, expr, lits, null, bit, octet, name, labelled, group, seq, choice, power, cut, both, sends, ExprsV, BranchV, exprs_of, branches_of}
+use Rattle.csn_grammar.specs.ExprV.{ExprV, expr, FormV, lits, null, bit, octet, name, labelled, group, seq, choice, power, cut, both, sends, ExprsV, BranchV, exprs_of, branches_of}
 use Rattle.csn_grammar.specs.RulesV.{RulesV}
-use Rattle.csn_grammar.specs.Names.{is_built_in, rule_of}
-use Rattle.csn_grammar.specs.Forms.{unit_of, is_bit, WidthV, width_of, WindowV, window_of}
+use Rattle.csn_grammar.specs.Names.{is_built_in, rule_of, name_of}
+use Rattle.csn_grammar.specs.Forms.{unit_of, is_bit, width_of, WindowV, window_of}
 use Rattle.csn_grammar.specs.TailForm.{tail_of}
 use Rattle.csn_grammar.specs.Void.{Kept}
 use Rattle.csn_grammar.proofs.VoidFacts.{no_rule, same_rule, same_window}
+use Rattle.csn_grammar.specs.declared.built_in.BuiltIn.TheVariants.{NoString}
 use Rattle.csn_resolve.specs.Seen.{Frame, Seen}
 use Rattle.csn_resolve.specs.Gives.{Placed, placed, count_at, Gives, ItemsGive, EachGives, RuleGives, gives_lits, gives_null, gives_bit, gives_octet, gives_field, gives_rest, gives_spare_bit, gives_spare_low, gives_padding, gives_seq, gives_choice, gives_only, gives_times, gives_many, gives_cut, gives_window, gives_labelled, gives_name, gives_group, gives_received, gives_sent, rule_plain, rule_tail}
 use Rattle.csn_resolve.specs.Made.{only, GivesFew, ItemsGiveFew, KeptGiveFew, RuleGivesFew, Adds, AddsItems, AddsKept, AddsRule}
-
-clash : {b : Bool} → b ≡ true → b ≡ false → ⊥
-clash p q = cc
-
-no-none : {A : Type 0} {o : Option A} {x : A} → o ≡ Some x → o ≡ None → ⊥
-no-none p q = cc
-
-same-some : {A : Type 0} {o : Option A} {x y : A} → o ≡ Some x → o ≡ Some y → x ≡ y
-same-some p q = cc
+use Rattle.csn_resolve.proofs.Bools.{no_both}
+use Rattle.csn_resolve.proofs.Options.{no_none, same_some}
 
 pub on-ok : {A B E : Type 0} (result : Result (Unit {0}) E) → (A → B) → OnOk result A → OnOk result B
 on-ok (Ok x) f h = f h
@@ -38,7 +32,7 @@ on-ok (Err e) f h = h
 
 -- ---- lists of nodes
 
-one-more : (before middle : List Placed) (p : Placed) → middle ≡ before ++ p ∷ [] → length middle ≡ suc (length before)
+pub one-more : (before middle : List Placed) (p : Placed) → middle ≡ before ++ p ∷ [] → length middle ≡ suc (length before)
 one-more before middle p is =
     let long : length middle ≡ length before + 1 = ap length is ∙ length-append before (p ∷ []) in omega (arith, long)
 
@@ -67,7 +61,7 @@ module _ (rules : RulesV) (r : Reading) where
   gives-at : {x : ExprV} {at bt : ℕ} {seen : Seen ℕ} {nodes : List Placed} → at ≡ bt → Gives rules r x at seen nodes → Gives rules r x bt seen nodes
   gives-at {x} {seen = seen} {nodes = nodes} p h = let P : ℕ → Type 0 = λ z. Gives rules r x z seen nodes in subst P p h
 
-  items-at :
+  pub items-at :
       {xs : ExprsV} {at bt : ℕ} {frame : Frame ℕ} {seen : Seen ℕ} {parts : List ℕ} {nodes : List Placed}
       → at ≡ bt → ItemsGive rules r xs at frame seen parts nodes → ItemsGive rules r xs bt frame seen parts nodes
   items-at {xs} {frame = frame} {seen = seen} {parts = parts} {nodes = nodes} p h =
@@ -220,7 +214,16 @@ module _ (rules : RulesV) (r : Reading) where
       as-nodes before after nodes _ is (q ∙ ap (λ z. placed z s ∷ []) (sym (as_low p)))
   adds-spare {s = s} before after node none as_bit as_low as_pad is nodes (gives_padding p q) =
       as-nodes before after nodes _ is (q ∙ ap (λ z. placed z s ∷ []) (sym (as_pad p)))
-  adds-spare before after node none as_bit as_low as_pad is nodes (gives_name rule at g) = absurd (no-none at none)
+  adds-spare before after node none as_bit as_low as_pad is nodes (gives_name rule at g) = absurd (no_none at none)
+
+  -- a name that gives nodes, and no rule has, is that of a spare part
+  pub spare-named :
+      {s e : ℕ} {n : List ℕ} {at : ℕ} {seen : Seen ℕ} {nodes : List Placed} → rule_of rules n ≡ None
+      → Gives rules r (expr s e (name n)) at seen nodes → (is_built_in n ≡ true) × ¬ (n ≡ name_of NoString)
+  spare-named none (gives_spare_bit p q) = (ap is_built_in p, λ other. cc)
+  spare-named none (gives_spare_low p q) = (ap is_built_in p, λ other. cc)
+  spare-named none (gives_padding p q) = (ap is_built_in p, λ other. cc)
+  spare-named none (gives_name rule at g) = absurd (no_none at none)
 
   -- ---- a node and one part
 
@@ -258,14 +261,14 @@ module _ (rules : RulesV) (r : Reading) where
   adds-rest before after one is nodes (gives_field unit count u c p) = absurd (cc)
   adds-rest before after one is nodes (gives_rest one' p) = as-nodes before after nodes _ is p
   adds-rest before after one is nodes (gives_times count none c g p) = absurd (cc)
-  adds-rest before after one is nodes (gives_many not g p) = absurd (clash one not)
+  adds-rest before after one is nodes (gives_many not g p) = absurd (no_both one not)
 
   pub adds-many :
       {s e : ℕ} {x : ExprV} {seen : Seen ℕ} (before middle after : List Placed) (inner : ℕ) → is_bit x ≡ false
       → inner ≡ length before + 1 → middle ≡ before ++ placed (Many inner) s ∷ []
       → Adds rules r x seen middle after → Adds rules r (expr s e (power x Any)) seen before after
   adds-many before middle after number not at is h nodes (gives_field unit count u c p) = absurd (cc)
-  adds-many before middle after number not at is h nodes (gives_rest one p) = absurd (clash one not)
+  adds-many before middle after number not at is h nodes (gives_rest one p) = absurd (no_both one not)
   adds-many before middle after number not at is h nodes (gives_times count none c g p) = absurd (cc)
   adds-many {s = s} before middle after number not at is h nodes (gives_many {inner = inner} not' g p) =
       let same : suc (length before) ≡ number = omega (arith, at) in
@@ -279,7 +282,7 @@ module _ (rules : RulesV) (r : Reading) where
     where
       by : Gives rules r (expr s e (power x Any)) (length before) seen h.0 → GivesFew rules r x (length middle) seen
       by (gives_field unit count u c q) = absurd (cc)
-      by (gives_rest one q) = absurd (clash one not)
+      by (gives_rest one q) = absurd (no_both one not)
       by (gives_times count none c g q) = absurd (cc)
       by (gives_many {inner = inner} not' g q) = (inner, gives-at (part-at before middle p is) g, few-inside before middle inner h.0 p _ is q h.2)
 
@@ -288,11 +291,11 @@ module _ (rules : RulesV) (r : Reading) where
       → unit_of x ≡ Some unit → count_at seen k ≡ Some count
       → after ≡ before ++ placed (Field unit count) s ∷ [] → Adds rules r (expr s e (power x k)) seen before after
   adds-field {s = s} {k = k} {seen = seen} before after unit count is at now nodes (gives_field unit' count' u c p) =
-      let unit_same : unit' ≡ unit = same-some u is in
-      let count_same : count' ≡ count = same-some c at in
+      let unit_same : unit' ≡ unit = same_some u is in
+      let count_same : count' ≡ count = same_some c at in
       as-nodes before after nodes _ now (p ∙ (ap (λ z. placed (Field z count') s ∷ []) unit_same ∙ ap (λ z. placed (Field unit z) s ∷ []) count_same))
   adds-field before after unit count is at now nodes (gives_rest one p) = absurd (cc)
-  adds-field before after unit count is at now nodes (gives_times count' none c g p) = absurd (no-none is none)
+  adds-field before after unit count is at now nodes (gives_times count' none c g p) = absurd (no_none is none)
   adds-field before after unit count is at now nodes (gives_many not g p) = absurd (cc)
 
   pub adds-times :
@@ -300,11 +303,11 @@ module _ (rules : RulesV) (r : Reading) where
       → unit_of x ≡ None → count_at seen k ≡ Some count → inner ≡ length before + 1
       → middle ≡ before ++ placed (Times count inner) s ∷ []
       → Adds rules r x seen middle after → Adds rules r (expr s e (power x k)) seen before after
-  adds-times before middle after number count no_unit at here is h nodes (gives_field unit' count' u c p) = absurd (no-none u no_unit)
+  adds-times before middle after number count no_unit at here is h nodes (gives_field unit' count' u c p) = absurd (no_none u no_unit)
   adds-times before middle after number count no_unit at here is h nodes (gives_rest one p) = absurd (cc)
   adds-times {s = s} before middle after number count no_unit at here is h nodes (gives_times {inner = inner} count' none c g p) =
       let same : suc (length before) ≡ number = omega (arith, here) in
-      let count_same : count' ≡ count = same-some c at in
+      let count_same : count' ≡ count = same_some c at in
       as-nodes before after nodes _ (behind-one before middle after inner _ is (h inner (gives-at (part-at before middle _ is) g)))
       (p ∙ (ap (λ z. placed (Times count' z) s ∷ inner) same ∙ ap (λ z. placed (Times z number) s ∷ inner) count_same))
   adds-times before middle after number count no_unit at here is h nodes (gives_many not g p) = absurd (cc)
@@ -313,7 +316,7 @@ module _ (rules : RulesV) (r : Reading) where
       {s e : ℕ} {x : ExprV} {k : Exponent} {at : ℕ} {seen : Seen ℕ} {nodes : List Placed} {count : Count} → unit_of x ≡ None
       → count_at seen k ≡ Some count → Gives rules r (expr s e (power x k)) at seen nodes
       → (inner : List Placed) × (p : Placed) × Gives rules r x (suc at) seen inner × (nodes ≡ p ∷ inner)
-  times-inner no_unit at (gives_field unit count u c q) = absurd (no-none u no_unit)
+  times-inner no_unit at (gives_field unit count u c q) = absurd (no_none u no_unit)
   times-inner no_unit at (gives_rest one q) = absurd (cc)
   times-inner no_unit at (gives_times {inner = inner} count none c g q) = (inner, _, g, q)
   times-inner no_unit at (gives_many not g q) = absurd (cc)
@@ -336,12 +339,6 @@ module _ (rules : RulesV) (r : Reading) where
 
   -- ---- windows
 
-  pub left-window : (x y : ExprV) (w : WidthV) → width_of x ≡ Some w → window_of x y ≡ Some (record { width = w; part = y })
-  left-window x y w p = cc
-
-  pub right-window : (x y : ExprV) (w : WidthV) → width_of x ≡ None → width_of y ≡ Some w → window_of x y ≡ Some (record { width = w; part = x })
-  right-window x y w p q = cc
-
   pub adds-window :
       {s e : ℕ} {x y : ExprV} {seen : Seen ℕ} (before middle after : List Placed) (w : WindowV) (inner : ℕ) (count : Count)
       → window_of x y ≡ Some w → count_at seen w.width.count ≡ Some count → inner ≡ length before + 1
@@ -352,7 +349,7 @@ module _ (rules : RulesV) (r : Reading) where
       let Part : WindowV → Type 0 = λ z. Gives rules r z.part (suc (length before)) seen inner in
       let part : Gives rules r w.part (suc (length before)) seen inner = subst Part same g in
       let Counts : WindowV → Type 0 = λ z. count_at seen z.width.count ≡ Some count' in
-      let count_same : count' ≡ count = same-some (subst Counts same c) at in
+      let count_same : count' ≡ count = same_some (subst Counts same c) at in
       let number_same : suc (length before) ≡ number = omega (arith, here) in
       as-nodes before after nodes _ (behind-one before middle after inner _ now (h inner (gives-at (part-at before middle _ now) part)))
       (p ∙ (ap (λ (z : WindowV). placed (Window z.width.unit count' (suc (length before))) s ∷ inner) same
@@ -378,7 +375,7 @@ module _ (rules : RulesV) (r : Reading) where
   pub some-window :
       {s e : ℕ} {x y : ExprV} {at : ℕ} {seen : Seen ℕ} {nodes : List Placed}
       → Gives rules r (expr s e (both x y)) at seen nodes → width_of x ≡ None → width_of y ≡ None → ⊥
-  some-window {x = x} {y = y} (gives_window v count is c g p) none none' = no-none is (no-window x y none none')
+  some-window {x = x} {y = y} (gives_window v count is c g p) none none' = no_none is (no-window x y none none')
     where
       no-window : (x y : ExprV) → width_of x ≡ None → width_of y ≡ None → window_of x y ≡ None
       no-window x y p q = cc
@@ -394,41 +391,41 @@ module _ (rules : RulesV) (r : Reading) where
   filled before middle inside after inner p number n is more put at =
       put before inner p (behind-one before middle inside inner p is more) at
 
-  pub adds-seq :
-      {s e : ℕ} (xs : List ExprV) {seen : Seen ℕ} (before middle inside after : List Placed) {parts : List ℕ} (head : Node) (number : ℕ)
+  -- a node with these items inside it
+  abbrev ItemsInside : (List ℕ → Node) → ExprsV → ℕ → ℕ → Seen ℕ → List Placed → Type 0
+  ItemsInside make xs s at seen nodes =
+      (parts : List ℕ) × (inner : List Placed) × ItemsGive rules r xs (suc at) [] seen parts inner × (nodes ≡ placed (make parts) s ∷ inner)
+
+  -- what gives a node with items inside it
+  abbrev GivesItems : (List ℕ → Node) → FormV → ℕ → ℕ → ExprsV → Type 0
+  GivesItems make f s e xs =
+      (at : ℕ) (seen : Seen ℕ) (nodes : List Placed) → Gives rules r (expr s e f) at seen nodes → ItemsInside make xs s at seen nodes
+
+  pub seq-gives : {s e : ℕ} (xs : ExprsV) → GivesItems Seq (seq xs) s e xs
+  seq-gives xs at seen nodes (gives_seq h p) = (_, _, h, p)
+
+  pub cut-gives : {s e : ℕ} (xs : ExprsV) → GivesItems Trunc (cut xs) s e xs
+  cut-gives xs at seen nodes (gives_cut h p) = (_, _, h, p)
+
+  pub adds-row :
+      {f : FormV} {s e : ℕ} (make : List ℕ → Node) (xs : List ExprV) → GivesItems make f s e (exprs_of xs)
+      → {seen : Seen ℕ} (before middle inside after : List Placed) {parts : List ℕ} (head : Node) (number : ℕ)
       → middle ≡ before ++ placed head s ∷ [] → AddsItems rules r xs seen [] parts middle inside
-      → ((front back : List Placed) (other : Placed) → inside ≡ front ++ other ∷ back → number ≡ length front → after ≡ front ++ placed (Seq parts) other.place ∷ back)
-      → number ≡ length before → Adds rules r (expr s e (seq (exprs_of xs))) seen before after
-  adds-seq {s = s} xs {seen} before middle inside after {parts} head number is h put at nodes (gives_seq {inner = inner} {parts = given} g p) =
-      let added = h given inner (items-at (part-at before middle _ is) g) in
-      as-nodes before after nodes _ (filled before middle inside after inner (placed head s) number (Seq parts) is added.1 put at)
-      (p ∙ ap (λ z. placed (Seq z) s ∷ inner) (sym added.0))
+      → ((front back : List Placed) (other : Placed) → inside ≡ front ++ other ∷ back → number ≡ length front → after ≡ front ++ placed (make parts) other.place ∷ back)
+      → number ≡ length before → Adds rules r (expr s e f) seen before after
+  adds-row {s = s} make xs gives {seen = seen} before middle inside after {parts = parts} head number is h put at nodes g =
+      let there = gives (length before) seen nodes g in
+      let added = h there.0 there.1 (items-at (part-at before middle _ is) there.2) in
+      as-nodes before after nodes _ (filled before middle inside after there.1 (placed head s) number (make parts) is added.1 put at)
+      (there.3 ∙ ap (λ z. placed (make z) s ∷ there.1) (sym added.0))
 
-  pub adds-cut :
-      {s e : ℕ} (xs : List ExprV) {seen : Seen ℕ} (before middle inside after : List Placed) {parts : List ℕ} (head : Node) (number : ℕ)
-      → middle ≡ before ++ placed head s ∷ [] → AddsItems rules r xs seen [] parts middle inside
-      → ((front back : List Placed) (other : Placed) → inside ≡ front ++ other ∷ back → number ≡ length front → after ≡ front ++ placed (Trunc parts) other.place ∷ back)
-      → number ≡ length before → Adds rules r (expr s e (cut (exprs_of xs))) seen before after
-  adds-cut {s = s} xs {seen} before middle inside after {parts} head number is h put at nodes (gives_cut {inner = inner} {parts = given} g p) =
-      let added = h given inner (items-at (part-at before middle _ is) g) in
-      as-nodes before after nodes _ (filled before middle inside after inner (placed head s) number (Trunc parts) is added.1 put at)
-      (p ∙ ap (λ z. placed (Trunc z) s ∷ inner) (sym added.0))
-
-  pub few-seq :
-      {s e : ℕ} (xs : List ExprV) {seen : Seen ℕ} (before middle : List Placed) (p : Placed)
-      → middle ≡ before ++ p ∷ [] → GivesFew rules r (expr s e (seq (exprs_of xs))) (length before) seen → ItemsGiveFew rules r xs (length middle) seen
-  few-seq {s} {e} xs {seen} before middle p is h = by h.1
-    where
-      by : Gives rules r (expr s e (seq (exprs_of xs))) (length before) seen h.0 → ItemsGiveFew rules r xs (length middle) seen
-      by (gives_seq {inner = inner} {parts = parts} g q) = (parts, inner, items-at (part-at before middle p is) g, few-inside before middle inner h.0 p _ is q h.2)
-
-  pub few-cut :
-      {s e : ℕ} (xs : List ExprV) {seen : Seen ℕ} (before middle : List Placed) (p : Placed)
-      → middle ≡ before ++ p ∷ [] → GivesFew rules r (expr s e (cut (exprs_of xs))) (length before) seen → ItemsGiveFew rules r xs (length middle) seen
-  few-cut {s} {e} xs {seen} before middle p is h = by h.1
-    where
-      by : Gives rules r (expr s e (cut (exprs_of xs))) (length before) seen h.0 → ItemsGiveFew rules r xs (length middle) seen
-      by (gives_cut {inner = inner} {parts = parts} g q) = (parts, inner, items-at (part-at before middle p is) g, few-inside before middle inner h.0 p _ is q h.2)
+  pub few-row :
+      {f : FormV} {s e : ℕ} (make : List ℕ → Node) (xs : List ExprV) → GivesItems make f s e (exprs_of xs)
+      → {seen : Seen ℕ} (before middle : List Placed) (p : Placed)
+      → middle ≡ before ++ p ∷ [] → GivesFew rules r (expr s e f) (length before) seen → ItemsGiveFew rules r xs (length middle) seen
+  few-row make xs gives {seen = seen} before middle p is h =
+      let there = gives (length before) seen h.0 h.1 in
+      (there.0, (there.1, items-at (part-at before middle p is) there.2, few-inside before middle there.1 h.0 p _ is there.3 h.2))
 
   -- ---- choices
 
@@ -472,7 +469,7 @@ module _ (rules : RulesV) (r : Reading) where
       → ((front back : List Placed) (other : Placed) → inside ≡ front ++ other ∷ back → number ≡ length front → after ≡ front ++ placed (Choice parts) other.place ∷ back)
       → number ≡ length before → Adds rules r (expr s e (choice (branches_of bs))) seen before after
   adds-choice {s = s} bs {seen = seen} before middle inside after {parts = parts} head number the is h put at nodes (gives_choice {inner = inner} {parts = given} xs kept two g p) =
-      let added = h xs given inner kept (each-at (part-at before middle _ is) g) in
+      let added = h xs kept given inner (each-at (part-at before middle _ is) g) in
       as-nodes before after nodes _ (filled before middle inside after inner (placed head s) number (Choice parts) is added.1 put at)
       (p ∙ ap (λ z. placed (Choice z) s ∷ inner) (sym added.0))
   adds-choice bs before middle inside after head number the is h put at nodes (gives_only {x = y} kept g) = absurd (none-only (the (y ∷ []) kept))
@@ -484,7 +481,7 @@ module _ (rules : RulesV) (r : Reading) where
     where
       by : Gives rules r (expr s e (choice (branches_of bs))) (length before) seen h.0 → KeptGiveFew rules r bs (length middle) seen
       by (gives_choice {inner = inner} {parts = parts} xs kept two g q) =
-          (xs, parts, inner, kept, each-at (part-at before middle p is) g, few-inside before middle inner h.0 p _ is q h.2)
+          (xs, kept, parts, (inner, each-at (part-at before middle p is) g, few-inside before middle inner h.0 p _ is q h.2))
       by (gives_only {x = y} kept g) = absurd (none-only (the (y ∷ []) kept))
 
   -- ---- rules
@@ -493,11 +490,11 @@ module _ (rules : RulesV) (r : Reading) where
       {rule : Rule} {seen : Seen ℕ} (before after : List Placed) → tail_of rule ≡ None
       → Adds rules r rule.body seen before after → AddsRule rules r rule seen before after
   adds-plain before after none h nodes (rule_plain none' g) = h nodes g
-  adds-plain before after none h nodes (rule_tail tail many stop parts turn_parts items turn is i m t s p) = absurd (no-none is none)
+  adds-plain before after none h nodes (rule_tail tail many stop parts turn_parts items turn is i m t s p) = absurd (no_none is none)
 
   pub few-plain : {rule : Rule} {at : ℕ} {seen : Seen ℕ} → tail_of rule ≡ None → RuleGivesFew rules r rule at seen → GivesFew rules r rule.body at seen
   few-plain {rule} {at} {seen} none h = by h.1
     where
       by : RuleGives rules r rule at seen h.0 → GivesFew rules r rule.body at seen
       by (rule_plain none' g) = (h.0, g, h.2)
-      by (rule_tail tail many stop parts turn_parts items turn is i m t s p) = absurd (no-none is none)
+      by (rule_tail tail many stop parts turn_parts items turn is i m t s p) = absurd (no_none is none)

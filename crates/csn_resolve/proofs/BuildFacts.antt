@@ -1,5 +1,5 @@
 -- Items and alternatives whose nodes are added one by one, and rules in tail form.
-use Rattle.std.proofs.Common.{◌≡◌, ℕ, suc, ◌+◌, ◌≤◌, ◌<◌, Bool, true, false, List, [], ◌∷◌, ◌++◌, length, refl, sym, ◌∙◌, ap, subst, arith, append_assoc, append-nil, length-append, Option, Some, None}
+use Rattle.std.proofs.Common.{◌≡◌, ℕ, suc, ◌+◌, ◌≤◌, ◌<◌, Bool, false, List, [], ◌∷◌, ◌++◌, length, refl, sym, ◌∙◌, ap, subst, arith, append_assoc, append-nil, length-append, Some}
 use Rattle.csn_desc.specs.declared.reading.Reading.{Reading}
 use Rattle.csn_desc.specs.declared.node.Node.{Node}
 use Rattle.csn_desc.specs.declared.node.Node.TheVariants.{Lits, Seq, Many}
@@ -14,17 +14,9 @@ use Rattle.csn_resolve.specs.Seen.{Frame, Seen, with_labelled}
 use Rattle.csn_resolve.specs.Gives.{Placed, placed, start_of, ItemsGive, EachGives, RuleGives, items_end, items_next, each_end, each_next, rule_plain, rule_tail}
 use Rattle.csn_resolve.specs.Made.{IsKept, QuietAt, BranchesQuiet, TurnGives, GivesFew, ItemsGiveFew, KeptGiveFew, TailGivesFew, TurnGivesFew, Adds, AddsItems, AddsKept, AddsTail, AddsTurn}
 use Rattle.csn_resolve.proofs.Once.{same_tail}
-use Rattle.csn_resolve.proofs.AddFacts.{some-given}
-
-no-none : {A : Type 0} {o : Option A} {x : A} → o ≡ Some x → o ≡ None → ⊥
-no-none p q = cc
-
-clash : {b : Bool} → b ≡ true → b ≡ false → ⊥
-clash p q = cc
-
-one-more : (before middle : List Placed) (p : Placed) → middle ≡ before ++ p ∷ [] → length middle ≡ suc (length before)
-one-more before middle p is =
-    let long : length middle ≡ length before + 1 = ap length is ∙ length-append before (p ∷ []) in omega (arith, long)
+use Rattle.csn_resolve.proofs.AddFacts.{some-given, one-more, items-at}
+use Rattle.csn_resolve.proofs.Bools.{no_both}
+use Rattle.csn_resolve.proofs.Options.{no_none}
 
 longer : (xs ys zs : List Placed) → xs ≡ ys ++ zs → length xs ≡ length ys + length zs
 longer xs ys zs p = ap length p ∙ length-append ys zs
@@ -50,12 +42,6 @@ module _ (rules : RulesV) (r : Reading) where
   pub items-begin : (xs : List ExprV) {seen : Seen ℕ} {parts : List ℕ} {before : List Placed} → ItemsLeft xs seen parts before xs [] parts before
   items-begin xs = record { all = λ more nodes g. (more, nodes, g, refl, refl) }
 
-  items-behind :
-      {xs : ExprsV} {at bt : ℕ} {frame : Frame ℕ} {seen : Seen ℕ} {parts : List ℕ} {nodes : List Placed}
-      → at ≡ bt → ItemsGive rules r xs at frame seen parts nodes → ItemsGive rules r xs bt frame seen parts nodes
-  items-behind {xs} {frame = frame} {seen = seen} {parts = parts} {nodes = nodes} p h =
-      let P : ℕ → Type 0 = λ z. ItemsGive rules r xs z frame seen parts nodes in subst P p h
-
   one-item :
       {x : ExprV} {xs : ExprsV} {frame : Frame ℕ} {seen : Seen ℕ} (old now : List Placed) {later : List ℕ} {behind : List Placed}
       (parts parts_now parts_next : List ℕ) (before : List Placed) → Adds rules r x (frame ∷ seen) old now
@@ -67,7 +53,7 @@ module _ (rules : RulesV) (r : Reading) where
       let added = adds first g in (
         more,
         rest,
-        items-behind (sym (longer now old first added)) gs,
+        items-at rules r (sym (longer now old first added)) gs,
         next-part parts parts_now parts_next more (length old) (are ∙ ap (λ l. parts_now ++ l) p) next,
         next-nodes before old now first rest behind holds q added,
       )
@@ -102,11 +88,12 @@ module _ (rules : RulesV) (r : Reading) where
       {parts_now : List ℕ} {now : List Placed} → left ≡ x ∷ rest → ItemsGiveFew rules r xs (length before) seen
       → ItemsLeft xs seen parts_before before left frame parts_now now → GivesFew rules r x (length now) (frame ∷ seen)
   items-few xs {before = before} {now = now} are few h =
-      let there = h.all few.0 few.1 few.2 in
-      let same : length (before ++ few.1) ≡ length (now ++ there.1) = ap length there.4 in
-      let one = length-append before few.1 in
+      let given = few.1 in
+      let there = h.all few.0 given.0 given.1 in
+      let same : length (before ++ given.0) ≡ length (now ++ there.1) = ap length there.4 in
+      let one = length-append before given.0 in
       let two = length-append now there.1 in
-      let most = few.3 in
+      let most = given.2 in
       first-few (items-as are there.2) (omega (arith, same, one, two, most))
 
   items-none :
@@ -157,7 +144,7 @@ module _ (rules : RulesV) (r : Reading) where
       → (ys : List ExprV) × (xs ≡ body ∷ ys) × Kept rules r (branches_of rest) ys
   kept-first rest plain full (kept_next {xs = ys} full' kept) = (ys, refl, kept)
   kept-first rest plain full (kept_void v kept) = absurd (full v)
-  kept-first rest plain full (kept_error kept) = absurd (clash refl plain)
+  kept-first rest plain full (kept_error kept) = absurd (no_both refl plain)
 
   pub not-kept :
       {error : Bool} {body : ExprV} (rest : List BranchV) {xs : List ExprV} → ¬ IsKept rules r (record { error = error; body = body })
@@ -225,12 +212,13 @@ module _ (rules : RulesV) (r : Reading) where
       {parts_now : List ℕ} {now : List Placed} → left ≡ b ∷ rest → IsKept rules r b → KeptGiveFew rules r bs (length before) seen
       → KeptLeft bs seen parts_before before left parts_now now → GivesFew rules r b.body (length now) seen
   kept-few bs {before = before} {rest = rest} {now = now} are is few h =
-      let there = h.all few.0 few.1 few.2 few.3 few.4 in
+      let given = few.3 in
+      let there = h.all few.0 few.2 given.0 few.1 given.1 in
       let first = kept-first rest is.plain is.full (kept-as are there.3) in
-      let same : length (before ++ few.2) ≡ length (now ++ there.2) = ap length there.6 in
-      let one = length-append before few.2 in
+      let same : length (before ++ given.0) ≡ length (now ++ there.2) = ap length there.6 in
+      let one = length-append before given.0 in
       let two = length-append now there.2 in
-      let most = few.5 in
+      let most = given.2 in
       first-kept-few (each-as first.1 refl there.4) (omega (arith, same, one, two, most))
 
   pub none-left : {bs : List BranchV} {xs : List ExprV} → bs ≡ [] → Kept rules r (branches_of bs) xs → xs ≡ []
@@ -247,7 +235,7 @@ module _ (rules : RulesV) (r : Reading) where
       (bs : List BranchV) {seen : Seen ℕ} {parts_before : List ℕ} {before : List Placed} {left : List BranchV}
       {parts_now : List ℕ} {now : List Placed} → left ≡ []
       → KeptLeft bs seen parts_before before left parts_now now → AddsKept rules r bs seen parts_before parts_now before now
-  kept-done bs {parts_now = parts_now} {now = now} none h xs parts nodes kept g =
+  kept-done bs {parts_now = parts_now} {now = now} none h xs kept parts nodes g =
       let there = h.all xs parts nodes kept g in
       let ends = each-none (none-left none there.3) there.4 in (
         sym (there.5 ∙ (ap (λ l. parts_now ++ l) ends.0 ∙ append-nil parts_now)),
@@ -288,7 +276,7 @@ module _ (rules : RulesV) (r : Reading) where
   tail-parts :
       {rule : Rule} {tail : TailV} {at place : ℕ} {seen : Seen ℕ} {nodes : List Placed} → tail_of rule ≡ Some tail → start_of rule.body ≡ place
       → RuleGives rules r rule at seen nodes → TailParts tail at seen place nodes
-  tail-parts found begins (rule_plain none g) = absurd (no-none found none)
+  tail-parts found begins (rule_plain none g) = absurd (no_none found none)
   tail-parts {rule} {tail} {at} {place} {seen} {nodes} found begins (rule_tail other many stop parts turn_parts items turn is i m t s p) =
       let same : other ≡ tail = same_tail rule is found in
       let Items : TailV → Type 0 = λ z. ItemsGive rules r z.items (suc at) [] seen parts items in
@@ -341,7 +329,7 @@ module _ (rules : RulesV) (r : Reading) where
       let P : ExprsV → Type 0 = λ z. ItemsGive rules r z (suc (length before)) [] seen h.parts.parts h.parts.items in
       let all = tail-long h.parts in
       let few = h.few in
-      (h.parts.parts, h.parts.items, items-behind (sym long) (subst P are h.parts.items_given), omega (arith, long, all, few))
+      (h.parts.parts, (h.parts.items, items-at rules r (sym long) (subst P are h.parts.items_given), omega (arith, long, all, few)))
 
   -- behind the items
   pub record ItemsIn (tail : TailV) (seen : Seen ℕ) (place : ℕ) (before behind : List Placed) (parts_behind : List ℕ) : Type 0 where
@@ -356,7 +344,7 @@ module _ (rules : RulesV) (r : Reading) where
   items-in {seen = seen} {middle = middle} {behind = behind} before xs p are is adds h =
       let long = one-more before middle p is in
       let P : ExprsV → Type 0 = λ z. ItemsGive rules r z (suc (length before)) [] seen h.parts.parts h.parts.items in
-      let added = adds h.parts.parts h.parts.items (items-behind (sym long) (subst P are h.parts.items_given)) in
+      let added = adds h.parts.parts h.parts.items (items-at rules r (sym long) (subst P are h.parts.items_given)) in
       let more = longer behind middle h.parts.items added.1 in
       record { few = h; parts_are = added.0; long = omega (arith, long, more) }
 
@@ -416,7 +404,7 @@ module _ (rules : RulesV) (r : Reading) where
       let t = tail-parts found begins g in
       let long = one-more before middle (placed head place) is in
       let P : ExprsV → Type 0 = λ z. ItemsGive rules r z (suc (length before)) [] seen t.parts t.items in
-      let added = items t.parts t.items (items-behind (sym long) (subst P are t.items_given)) in
+      let added = items t.parts t.items (items-at rules r (sym long) (subst P are t.items_given)) in
       let behind_long = longer behind middle t.items added.1 in
       let behind_at : suc (length before) + length t.items ≡ length behind = omega (arith, long, behind_long) in
       let turned = turns t.turn (turn-at behind_at t.turn_given) in
@@ -457,7 +445,7 @@ module _ (rules : RulesV) (r : Reading) where
       → ItemsGive rules r (exprs_of xs) (length three) [] seen t.parts t.turn
   turn-item {seen = seen} before three xs are long t =
       let P : ExprsV → Type 0 = λ z. ItemsGive rules r z (length before + 3) [] seen t.parts t.turn in
-      items-behind (sym long) (subst P are t.given)
+      items-at rules r (sym long) (subst P are t.given)
 
   three-long :
       (before three : List Placed) (p q s : Placed) → three ≡ before ++ p ∷ q ∷ s ∷ [] → length three ≡ length before + 3
@@ -471,7 +459,7 @@ module _ (rules : RulesV) (r : Reading) where
       let long = three-long before three p q s (three-more before one two three p q s a b c) in
       let all = turn-long h.1 in
       let few = h.2 in
-      (h.1.parts, h.1.turn, turn-item before three xs are long h.1, omega (arith, long, all, few))
+      (h.1.parts, (h.1.turn, turn-item before three xs are long h.1, omega (arith, long, all, few)))
 
   pub adds-turn :
       {tail : TailV} {seen : Seen ℕ} {one two three inside whole : List Placed} (before : List Placed) {parts : List ℕ}
@@ -506,15 +494,17 @@ module _ (rules : RulesV) (r : Reading) where
       (xs : List ExprV) (parts : List ℕ) (before after : List Placed) {seen : Seen ℕ} {parts_now : List ℕ} → ItemsGiveFew rules r xs (length before) seen
       → AddsItems rules r xs seen parts parts_now before after → length before ≤ length after
   items-longer xs parts before after few adds =
-      let added = adds few.0 few.1 few.2 in
-      let long = longer after before few.1 added.1 in omega (arith, long)
+      let given = few.1 in
+      let added = adds few.0 given.0 given.1 in
+      let long = longer after before given.0 added.1 in omega (arith, long)
 
   pub kept-longer :
       (bs : List BranchV) (parts : List ℕ) (before after : List Placed) {seen : Seen ℕ} {parts_now : List ℕ} → KeptGiveFew rules r bs (length before) seen
       → AddsKept rules r bs seen parts parts_now before after → length before ≤ length after
   kept-longer bs parts before after few adds =
-      let added = adds few.0 few.1 few.2 few.3 few.4 in
-      let long = longer after before few.2 added.1 in omega (arith, long)
+      let given = few.3 in
+      let added = adds few.0 few.1 few.2 given.0 given.1 in
+      let long = longer after before given.0 added.1 in omega (arith, long)
 
   pub tail-longer :
       {tail : TailV} {place : ℕ} {seen : Seen ℕ} {before behind : List Placed} {parts : List ℕ} (after : List Placed)

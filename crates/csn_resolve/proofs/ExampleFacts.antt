@@ -16,7 +16,7 @@ use Rattle.csn_resolve.specs.declared.why.Why.TheVariants.{Undefined, DefinedTwi
 use Rattle.csn_resolve.specs.Steps.{begins, refused}
 use Rattle.csn_resolve.specs.Counts.{count_number}
 use Rattle.csn_resolve.specs.Gives.{placed, Gives, RuleGives, gives_lits, gives_field, gives_seq, gives_choice, gives_only, gives_labelled, gives_group, gives_received, items_end, items_next, each_end, each_next, rule_plain, rule_tail}
-use Rattle.csn_resolve.specs.Walk.{Around, Walk, left_full, left_plain, walk_lits, walk_field, walk_undefined, walk_recursive, walk_group, walk_labelled, walk_seq, walk_choice}
+use Rattle.csn_resolve.specs.Walk.{Around, Walk, is_accepted, left_plain, walk_lits, walk_field, walk_undefined, walk_recursive, walk_group, walk_labelled, walk_seq, walk_choice}
 use Rattle.csn_resolve.specs.Walk as walk
 use Rattle.csn_desc.specs.Overfull.{IsOverfull}
 use Rattle.csn_resolve.specs.Resolved.{asked_rule}
@@ -61,7 +61,7 @@ fields_are_resolved =
                 (walk.items_next (walk_lits refl)
                 (walk.items_next (walk_labelled (walk_field refl (count_number refl) refl) refl)
                 (walk.items_end refl) refl) refl) refl) refl))
-                (left_full (λ v. rule_full fields_rules Received fields_give v) refl) refl;
+                (is_accepted (λ v. rule_full fields_rules Received fields_give v) refl) refl;
             are = refl;
           };
       nodes = _;
@@ -97,7 +97,7 @@ refusals_have_an_order =
           (walk.branches_next (walk_recursive refused_rule refl refl refl) (left_plain refl)
           (walk.branches_end refl) refl) refl) refl) refl)
           (walk.items_end refl) refl) refl) refl))
-          (left_full refused_full refl) refl;
+          (is_accepted refused_full refl) refl;
       are = refl;
     }
 

@@ -20,8 +20,9 @@ use Rattle.csn_resolve.specs.Walk as walk
 use Rattle.csn_resolve.specs.Gives.{Placed, start_of, Gives, ItemsGive, EachGives, RuleGives, gives_lits, gives_null, gives_bit, gives_octet, gives_field, gives_rest, gives_spare_bit, gives_spare_low, gives_padding, gives_seq, gives_choice, gives_only, gives_times, gives_many, gives_cut, gives_window, gives_labelled, gives_name, gives_group, gives_received, gives_sent, items_end, items_next, each_end, each_next, rule_plain, rule_tail}
 use Rattle.csn_resolve.specs.Resolved.{ResolveSteps, asked_unknown, asked_rule, NameGives, AreRefusals, twice_steps}
 use Rattle.csn_resolve.proofs.Once.{same_tail}
-use Rattle.csn_resolve.proofs.Windows.{no_both, only_is, left_window, right_window}
-use Rattle.csn_resolve.proofs.Quiet.{Quiet, first_of, rest_of, quiet_from}
+use Rattle.csn_resolve.proofs.Windows.{only_is, left_window, right_window}
+use Rattle.csn_resolve.proofs.Quiet.{Quiet, first_of, rest_of, quiet_from, rest_empty, tail_quiet}
+use Rattle.csn_resolve.proofs.Bools.{no_both}
 
 -- ---- how many nodes are begun
 
@@ -58,10 +59,6 @@ turn_begins a end =
 first_empty : (xs ys : List Refusal) → xs ++ ys ≡ [] → xs ≡ []
 first_empty [] ys p = refl
 first_empty (x ∷ xs) ys p = absurd (cc)
-
-rest_empty : (xs ys : List Refusal) → xs ++ ys ≡ [] → ys ≡ []
-rest_empty [] ys p = p
-rest_empty (x ∷ xs) ys p = absurd (cc)
 
 not_many : (b : Bool) (refusal : Refusal) → (if b then refusal ∷ [] else []) ≡ [] → b ≡ false
 not_many true refusal p = absurd (cc)
@@ -107,7 +104,14 @@ both_few :
 both_few first rest xs ys p g few less =
     omega (arith, begun_in xs ys p, ap length g, length-append first rest, few, less)
 
--- those of a rule in tail form
+-- the steps of a rule in tail form
+tail_begun :
+    {steps : List Step} (node items turns turn left ends : List Step) → steps ≡ node ++ (items ++ (turns ++ (turn ++ (left ++ ends))))
+    → begun steps ≡ begun node + (begun items + (begun turns + (begun turn + (begun left + begun ends))))
+tail_begun node items turns turn left ends p =
+    omega (arith, begun_in node (items ++ (turns ++ (turn ++ (left ++ ends)))) p, begun_both items (turns ++ (turn ++ (left ++ ends))), begun_both turns (turn ++ (left ++ ends)), begun_both turn (left ++ ends), begun_both left ends)
+
+-- the nodes of one
 tail_count :
     {nodes : List Placed} (root many again word stop : Placed) (items turn : List Placed)
     → nodes ≡ root ∷ (items ++ many ∷ again ∷ word ∷ (turn ++ stop ∷ []))
@@ -254,19 +258,12 @@ module _ (rules : RulesV) (r : Reading) where
         let same : tail' ≡ tail = same_tail rule is' is in
         let P : TailV → Type 0 = λ z. ItemsGive rules r z.items (suc at) [] seen parts items in
         let Q : TailV → Type 0 = λ z. ItemsGive rules r z.items (many + 3) [] seen turn_parts turn in
-        let repeat = turn_begun (inside a) tail.end in
-        let ends = node_at (inside a) tail.end.stop.at in
-        let after = rest_of (node_at a (start_of rule.body)) (steps ++ (repeat ++ (turns ++ (left ++ ends)))) p q in
-        let in_turns = rest_of repeat (turns ++ (left ++ ends)) refl (rest_of steps (repeat ++ (turns ++ (left ++ ends))) refl after) in
-        let first = items_few i (first_of steps (repeat ++ (turns ++ (left ++ ends))) refl after) (subst P same i') in
-        let second = items_few t (first_of turns (left ++ ends) refl in_turns) (subst Q same t') in
+        let quiet = tail_quiet _ steps _ turns left _ p q in
+        let first = items_few i quiet.items_quiet (subst P same i') in
+        let second = items_few t quiet.turn_quiet (subst Q same t') in
         omega (
           arith,
-          begun_in (node_at a (start_of rule.body)) (steps ++ (repeat ++ (turns ++ (left ++ ends)))) p,
-          begun_both steps (repeat ++ (turns ++ (left ++ ends))),
-          begun_both repeat (turns ++ (left ++ ends)),
-          begun_both turns (left ++ ends),
-          begun_both left ends,
+          tail_begun _ steps _ turns left _ p,
           node_begun a (start_of rule.body),
           turn_begins (inside a) tail.end,
           node_begun (inside a) tail.end.stop.at,

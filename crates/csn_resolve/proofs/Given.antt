@@ -1,6 +1,7 @@
 -- What is walked without a refusal, and is not empty of strings, gives nodes.
 use Rattle.std.proofs.Common.{◌≡◌, ℕ, suc, ◌+◌, Bool, true, false, List, [], ◌∷◌, ◌++◌, length, ◌⊎◌, inl, inr, refl, sym, arith, codes, Some}
 use Rattle.std.specs.Cmp.Lexicographic.{same_text}
+use Rattle.std.proofs.lemmas.Bool.{or_cases}
 use Rattle.csn_desc.specs.declared.reading.Reading.{Reading}
 use Rattle.csn_desc.specs.declared.reading.Reading.TheVariants.{Received, Sent}
 use Rattle.csn_desc.specs.declared.node.Node.TheVariants.{Times, Window}
@@ -19,8 +20,7 @@ use Rattle.csn_resolve.specs.Steps.{Step, refused}
 use Rattle.csn_resolve.specs.Walk.{Around, is_among, inside, in_turn, turn_begun, behind, node_at, entering, Walk, ItemsWalk, ComponentsWalk, BranchesWalk, RuleWalk, walk_lits, walk_null, walk_bit, walk_octet, walk_field, walk_rest, walk_built_in, walk_undefined, walk_recursive, walk_name, walk_group, walk_labelled, walk_seq, walk_choice, walk_times, walk_many, walk_cut, walk_window, walk_window_behind, walk_no_window, walk_sends}
 use Rattle.csn_resolve.specs.Walk as walk
 use Rattle.csn_resolve.specs.Resolved.{ResolveSteps, asked_unknown, asked_rule, NameGives, AreRefusals, twice_steps}
-use Rattle.csn_resolve.proofs.Bools.{or_cases}
-use Rattle.csn_resolve.proofs.Quiet.{Quiet, first_of, rest_of, quiet_from, SameFrame, SameSeen, same_with, count_given, part_full, turn_full}
+use Rattle.csn_resolve.proofs.Quiet.{Quiet, first_of, rest_of, quiet_from, SameFrame, SameSeen, same_with, count_given, not_refused}
 use Rattle.csn_resolve.proofs.Windows.{left_window, right_window}
 use Rattle.csn_resolve.proofs.VoidDecided.{void_decided}
 
@@ -166,11 +166,11 @@ module _ (rules : RulesV) (r : Reading) where
         let after = rest_of (node_at a s) (counts ++ (inner ++ left)) p q in
         let behind_counts = rest_of counts (inner ++ left) refl after in
         let count = count_given rules r seen same c (first_of counts (inner ++ left) refl after) in
-        let nodes = given h (first_of inner left refl behind_counts) (part_full rules r l (rest_of inner left refl behind_counts)) (suc at) seen same in
+        let nodes = given h (first_of inner left refl behind_counts) (not_refused l (rest_of inner left refl behind_counts)) (suc at) seen same in
         (placed (Times count.0 (suc at)) s ∷ nodes.0, gives_times count.0 none count.1 nodes.1 refl)
     given {a} (walk_many {s = s} {inner = inner} {left = left} not h l p) q full at seen same =
         let after = rest_of (node_at a s) (inner ++ left) p q in
-        let nodes = given h (first_of inner left refl after) (part_full rules r l (rest_of inner left refl after)) (suc at) seen same in
+        let nodes = given h (first_of inner left refl after) (not_refused l (rest_of inner left refl after)) (suc at) seen same in
         (_, gives_many not nodes.1 refl)
     given {a} (walk_cut {s = s} {inner = inner} h p) q full at seen same =
         let nodes = components_given h (rest_of (node_at a s) inner p q) (suc at) [] seen tt same in
@@ -214,7 +214,7 @@ module _ (rules : RulesV) (r : Reading) where
     components_given (walk.components_end p) q at other seen alike same = (_, _, items_end refl refl)
     components_given {frame = frame} (walk.components_next {x = x} {first = first} {left = left} {rest = rest} h l more p) q at other seen alike same =
         let after = rest_of first (left ++ rest) p q in
-        let nodes = given h (first_of first (left ++ rest) p q) (part_full rules r l (first_of left rest refl after)) at (other ∷ seen) (alike, same) in
+        let nodes = given h (first_of first (left ++ rest) p q) (not_refused l (first_of left rest refl after)) at (other ∷ seen) (alike, same) in
         let later =
         components_given more (rest_of left rest refl after) (at + length nodes.0)
         (with_labelled (label_of r x) at other) seen (same_with (label_of r x) (inner_of r x) at frame other alike) same in
@@ -239,7 +239,7 @@ module _ (rules : RulesV) (r : Reading) where
         let begun = turn_begun (inside a) tail.end in
         let after = rest_of (node_at a (start_of rule.body)) (items ++ (begun ++ (turn ++ (left ++ stop)))) p q in
         let in_turns = rest_of begun (turn ++ (left ++ stop)) refl (rest_of items (begun ++ (turn ++ (left ++ stop))) refl after) in
-        let items_full = turn_full rules r l (first_of left stop refl (rest_of turn (left ++ stop) refl in_turns)) in
+        let items_full = not_refused l (first_of left stop refl (rest_of turn (left ++ stop) refl in_turns)) in
         let first = items_given i (first_of items (begun ++ (turn ++ (left ++ stop))) refl after) items_full (suc at) [] seen tt same in
         let second = items_given t (first_of turn (left ++ stop) refl in_turns) items_full (suc at + length first.1 + 3) [] seen tt same in
         tail_given rule tail at seen first.0 second.0 first.1 second.1 is first.2 second.2
@@ -250,7 +250,7 @@ module _ (rules : RulesV) (r : Reading) where
   name_given (asked_unknown none p) q = absurd (rest_of (twice_steps built_in_names rules) (refused Undefined 0 ∷ []) p q)
   name_given (asked_rule {walk = walk} {left = left} rule is h l p) q =
       let after = rest_of (twice_steps built_in_names rules) (walk ++ left) p q in
-      let full = part_full rules r l (rest_of walk left refl after) in
+      let full = not_refused l (rest_of walk left refl after) in
       let nodes = rule_given h (first_of walk left refl after) full 0 [] tt in
       (nodes.0, record { rule = rule; found = is; gives = nodes.1 })
 

@@ -1,9 +1,14 @@
 -- Nodes that stand one behind the other in a list, from a number on.
-use Rattle.std.proofs.Common.{◌≡◌, ℕ, suc, ◌+◌, List, [], ◌∷◌, ◌++◌, length, length-append, append_assoc, refl, subst, arith, Some}
+use Rattle.std.proofs.Common.{◌≡◌, ℕ, suc, ◌+◌, List, [], ◌∷◌, ◌++◌, length, length-append, append_assoc, subst, arith, Some, sym, ◌∙◌, ap}
 use Rattle.std.specs.Prelude.{slice_get}
 use Rattle.csn_desc.specs.declared.node.Node.{Node}
+use Rattle.csn_desc.proofs.Entering.{get_here}
 use Rattle.csn_resolve.specs.Gives.{Placed, placed}
 use Rattle.csn_resolve.specs.Resolved.{nodes_of}
+
+-- a node that is looked up by its number told otherwise
+pub node_from : (all : List Node) {i j : ℕ} {n : Node} → i ≡ j → slice_get all i ≡ Some n → slice_get all j ≡ Some n
+node_from all p h = ap (slice_get all) (sym p) ∙ h
 
 module _ (all : List Node) where
   -- from the number `at` on, the nodes are these
@@ -31,12 +36,6 @@ module _ (all : List Node) where
       → nodes ≡ placed n s ∷ inner → Holds at nodes → Holds (suc at) inner
   inner_holds n at s nodes inner p h = let here = holds_along at p h in here.1
 
-node_behind :
-    (front : List Node) (n : Node) (rest : List Node)
-    → slice_get (front ++ n ∷ rest) (length front) ≡ Some n
-node_behind [] n rest = refl
-node_behind (m ∷ front) n rest = node_behind front n rest
-
 holds_in :
     {all other : List Node} (at : ℕ) (nodes : List Placed)
     → all ≡ other → Holds all at nodes → Holds other at nodes
@@ -47,7 +46,7 @@ pub holds_behind : (front : List Node) (nodes : List Placed) → Holds (front ++
 holds_behind front [] = tt
 holds_behind front (p ∷ nodes) =
     let later = holds_behind (front ++ p.node ∷ []) nodes in (
-      node_behind front p.node (nodes_of nodes),
+      get_here front p.node (nodes_of nodes),
       holds_from (front ++ nodes_of (p ∷ nodes)) nodes (omega (arith, length-append front (p.node ∷ [])))
           (holds_in (length (front ++ p.node ∷ [])) nodes (append_assoc front (p.node ∷ []) (nodes_of nodes)) later),
     )

@@ -23,12 +23,8 @@ use Rattle.csn_resolve.specs.Walk.{Around, inside, putting_in, behind, in_turn, 
 use Rattle.csn_resolve.specs.Going.{gone, way, Stops, LeafGoes}
 use Rattle.csn_resolve.proofs.GoingFacts.{stops-later, stops-same, stops-second, way-on, way-third}
 use Rattle.csn_resolve.proofs.Once.{same_tail}
-
-clash : {b : Bool} → b ≡ true → b ≡ false → ⊥
-clash p q = cc
-
-some-none : {A : Type 0} {o : Option A} {x : A} → o ≡ Some x → o ≡ None → ⊥
-some-none p q = cc
+use Rattle.csn_resolve.proofs.Bools.{no_both}
+use Rattle.csn_resolve.proofs.Options.{no_none}
 
 stops-in-second :
     (begun after : ℕ) (first second steps : List Step) (fault : ResolveFault)
@@ -86,14 +82,14 @@ module _ (rules : RulesV) (r : Reading) where
       {a : Around} {s e : ℕ} (n : List ℕ) {steps : List Step} → is_built_in n ≡ true → Walk rules r a (expr s e (name n)) steps
       → steps ≡ node_at a s
   built-in-steps n is (walk_built_in is' p) = p
-  built-in-steps n is (walk_undefined not none p) = absurd (clash is not)
+  built-in-steps n is (walk_undefined not none p) = absurd (no_both is not)
   built-in-steps n is (walk_recursive rule at among p) = absurd (no_rule rules n rule is at)
   built-in-steps n is (walk_name rule at new h p) = absurd (no_rule rules n rule is at)
 
   pub name-steps :
       {a : Around} {s e : ℕ} (n : List ℕ) {steps : List Step} → is_built_in n ≡ false → Walk rules r a (expr s e (name n)) steps
       → (rest : List Step) × (steps ≡ entering a s ++ rest)
-  name-steps n not (walk_built_in is p) = absurd (clash is not)
+  name-steps n not (walk_built_in is p) = absurd (no_both is not)
   name-steps n not (walk_undefined not' none p) = (_, p)
   name-steps n not (walk_recursive rule at among p) = (_, p)
   name-steps n not (walk_name rule at new h p) = (_, p)
@@ -101,26 +97,26 @@ module _ (rules : RulesV) (r : Reading) where
   pub undefined-steps :
       {a : Around} {s e : ℕ} (n : List ℕ) {steps : List Step} → is_built_in n ≡ false → rule_of rules n ≡ None
       → Walk rules r a (expr s e (name n)) steps → steps ≡ entering a s ++ refused Undefined s ∷ []
-  undefined-steps n not none (walk_built_in is p) = absurd (clash is not)
+  undefined-steps n not none (walk_built_in is p) = absurd (no_both is not)
   undefined-steps n not none (walk_undefined not' none' p) = p
-  undefined-steps n not none (walk_recursive rule at among p) = absurd (some-none at none)
-  undefined-steps n not none (walk_name rule at new h p) = absurd (some-none at none)
+  undefined-steps n not none (walk_recursive rule at among p) = absurd (no_none at none)
+  undefined-steps n not none (walk_name rule at new h p) = absurd (no_none at none)
 
   pub recursive-steps :
       {a : Around} {s e : ℕ} (n : List ℕ) (rule : Rule) {steps : List Step} → is_built_in n ≡ false → rule_of rules n ≡ Some rule
       → is_among n a.names ≡ true → Walk rules r a (expr s e (name n)) steps → steps ≡ entering a s ++ refused Recursive s ∷ []
-  recursive-steps n rule not at among (walk_built_in is p) = absurd (clash is not)
-  recursive-steps n rule not at among (walk_undefined not' none p) = absurd (some-none at none)
+  recursive-steps n rule not at among (walk_built_in is p) = absurd (no_both is not)
+  recursive-steps n rule not at among (walk_undefined not' none p) = absurd (no_none at none)
   recursive-steps n rule not at among (walk_recursive other at' among' p) = p
-  recursive-steps n rule not at among (walk_name other at' new h p) = absurd (clash among new)
+  recursive-steps n rule not at among (walk_name other at' new h p) = absurd (no_both among new)
 
   pub rule-steps :
       {a : Around} {s e : ℕ} (n : List ℕ) (rule : Rule) {steps : List Step} → is_built_in n ≡ false → rule_of rules n ≡ Some rule
       → is_among n a.names ≡ false → Walk rules r a (expr s e (name n)) steps
       → (inner : List Step) × RuleWalk rules r (putting_in n a) rule inner × (steps ≡ entering a s ++ inner)
-  rule-steps n rule not at new (walk_built_in is p) = absurd (clash is not)
-  rule-steps n rule not at new (walk_undefined not' none p) = absurd (some-none at none)
-  rule-steps n rule not at new (walk_recursive other at' among p) = absurd (clash among new)
+  rule-steps n rule not at new (walk_built_in is p) = absurd (no_both is not)
+  rule-steps n rule not at new (walk_undefined not' none p) = absurd (no_none at none)
+  rule-steps n rule not at new (walk_recursive other at' among p) = absurd (no_both among new)
   rule-steps {a} n rule not at new (walk_name {inner = inner} other at' new' h p) =
       let Q : Rule → Type 0 = λ z. RuleWalk rules r (putting_in n a) z inner in
       (inner, subst Q (same_rule rules n at' at) h, p)
@@ -152,27 +148,27 @@ module _ (rules : RulesV) (r : Reading) where
       let same : v ≡ w = cc in
       let Q : WidthV → Type 0 = λ z. CountSteps rules r a.seen (start_of x) z.count counts in
       (counts, _, subst Q same c, h, p)
-  window-steps w at (walk_window_behind v none is h c p) = absurd (some-none at none)
-  window-steps w at (walk_no_window none none' h g p) = absurd (some-none at none)
+  window-steps w at (walk_window_behind v none is h c p) = absurd (no_none at none)
+  window-steps w at (walk_no_window none none' h g p) = absurd (no_none at none)
 
   pub window-behind-steps :
       {a : Around} {s e : ℕ} {x y : ExprV} (w : WidthV) {steps : List Step} → width_of x ≡ None → width_of y ≡ Some w
       → Walk rules r a (expr s e (both x y)) steps
       → (inner : List Step) × (counts : List Step) × Walk rules r (inside a) x inner
       × CountSteps rules r a.seen (start_of y) w.count counts × (steps ≡ node_at a s ++ (inner ++ counts))
-  window-behind-steps w none at (walk_window v is c h p) = absurd (some-none is none)
+  window-behind-steps w none at (walk_window v is c h p) = absurd (no_none is none)
   window-behind-steps {a} {y = y} w none at (walk_window_behind {counts = counts} v none' is h c p) =
       let same : v ≡ w = cc in
       let Q : WidthV → Type 0 = λ z. CountSteps rules r a.seen (start_of y) z.count counts in
       (_, counts, h, subst Q same c, p)
-  window-behind-steps w none at (walk_no_window none' none'' h g p) = absurd (some-none at none'')
+  window-behind-steps w none at (walk_no_window none' none'' h g p) = absurd (no_none at none'')
 
   pub no-window-steps :
       {a : Around} {s e : ℕ} {x y : ExprV} {steps : List Step} → width_of x ≡ None → width_of y ≡ None
       → Walk rules r a (expr s e (both x y)) steps
       → (rest : List Step) × (steps ≡ node_at a s ++ refused IntersectionForm (start_of x) ∷ rest)
-  no-window-steps none none' (walk_window w is c h p) = absurd (some-none is none)
-  no-window-steps none none' (walk_window_behind w none'' is h c p) = absurd (some-none is none')
+  no-window-steps none none' (walk_window w is c h p) = absurd (no_none is none)
+  no-window-steps none none' (walk_window_behind w none'' is h c p) = absurd (no_none is none')
   no-window-steps none none' (walk_no_window p q h g steps) = (_, steps)
 
   -- ---- items, components, alternatives, rules
@@ -206,14 +202,14 @@ module _ (rules : RulesV) (r : Reading) where
 
   pub plain-steps : {a : Around} {rule : Rule} {steps : List Step} → tail_of rule ≡ None → RuleWalk rules r a rule steps → Walk rules r a rule.body steps
   plain-steps none (rule_plain is h) = h
-  plain-steps none (rule_tail tail is i t left p) = absurd (some-none is none)
+  plain-steps none (rule_tail tail is i t left p) = absurd (no_none is none)
 
   pub tail-steps :
       {a : Around} {rule : Rule} (tail : TailV) {steps : List Step} → tail_of rule ≡ Some tail → RuleWalk rules r a rule steps
       → (items : List Step) × (turn : List Step) × (left : List Step) × ItemsWalk rules r (inside a) [] tail.items items
       × ItemsWalk rules r (in_turn (inside a)) [] tail.items turn × TurnLeft rules r tail left
       × (steps ≡ node_at a (start_of rule.body) ++ (items ++ (turn_begun (inside a) tail.end ++ (turn ++ (left ++ node_at (inside a) tail.end.stop.at)))))
-  tail-steps tail at (rule_plain none h) = absurd (some-none at none)
+  tail-steps tail at (rule_plain none h) = absurd (no_none at none)
   tail-steps {a} {rule} tail at (rule_tail {items = items} {turn = turn} {left = lefts} other is i t left p) =
       let same : other ≡ tail = same_tail rule is at in
       let Items : TailV → Type 0 = λ z. ItemsWalk rules r (inside a) [] z.items items in
@@ -322,13 +318,13 @@ module _ (rules : RulesV) (r : Reading) where
   power-leaf Any begun after leaf p (walk_field unit c is) = elim c [ ]
   power-leaf Any begun after leaf p (walk_rest one is) = ap (way begun) is ∙ p
   power-leaf Any begun after leaf p (walk_times none c h left is) = elim c [ ]
-  power-leaf Any begun after leaf p (walk_many not h left is) = absurd (clash (sym (same-answer leaf)) not)
+  power-leaf Any begun after leaf p (walk_many not h left is) = absurd (no_both (sym (same-answer leaf)) not)
   power-leaf {a} {s} (Number n) begun after leaf p (walk_field {counts = counts} unit c is) =
       ap (way begun) is ∙ (way-on begun after (node_at a s) counts p ∙ (leaf counts c).1 after)
-  power-leaf (Number n) begun after leaf p (walk_times none c h left is) = absurd (clash (sym (leaf _ c).0) (is-none none))
+  power-leaf (Number n) begun after leaf p (walk_times none c h left is) = absurd (no_both (sym (leaf _ c).0) (is-none none))
   power-leaf {a} {s} (Linear m label d) begun after leaf p (walk_field {counts = counts} unit c is) =
       ap (way begun) is ∙ (way-on begun after (node_at a s) counts p ∙ (leaf counts c).1 after)
-  power-leaf (Linear m label d) begun after leaf p (walk_times none c h left is) = absurd (clash (sym (leaf _ c).0) (is-none none))
+  power-leaf (Linear m label d) begun after leaf p (walk_times none c h left is) = absurd (no_both (sym (leaf _ c).0) (is-none none))
 
   pub power-part :
       {a : Around} {s e : ℕ} {x : ExprV} (k : Exponent) {steps : List Step} (begun after : ℕ)
@@ -336,13 +332,13 @@ module _ (rules : RulesV) (r : Reading) where
       → (inner : List Step) × (left : List Step) × Walk rules r (inside a) x inner × PartLeft rules r x left
       × (way begun steps ≡ way after (inner ++ left))
   power-part Any begun after leaf p (walk_field unit c is) = elim c [ ]
-  power-part Any begun after leaf p (walk_rest one is) = absurd (clash one (sym (same-answer leaf)))
+  power-part Any begun after leaf p (walk_rest one is) = absurd (no_both one (sym (same-answer leaf)))
   power-part Any begun after leaf p (walk_times none c h left is) = elim c [ ]
   power-part {a} {s} Any begun after leaf p (walk_many {inner = inner} {left = lefts} not h left is) =
       (inner, lefts, h, left, ap (way begun) is ∙ way-on begun after (node_at a s) (inner ++ lefts) p)
-  power-part (Number n) begun after leaf p (walk_field unit c is) = absurd (clash (is-some unit) (sym (leaf _ c).0))
+  power-part (Number n) begun after leaf p (walk_field unit c is) = absurd (no_both (is-some unit) (sym (leaf _ c).0))
   power-part {a} {s} (Number n) begun after leaf p (walk_times {counts = counts} {inner = inner} {left = lefts} none c h left is) =
       (inner, lefts, h, left, way-third begun after after (node_at a s) counts (inner ++ lefts) _ is p ((leaf counts c).1 after))
-  power-part (Linear m label d) begun after leaf p (walk_field unit c is) = absurd (clash (is-some unit) (sym (leaf _ c).0))
+  power-part (Linear m label d) begun after leaf p (walk_field unit c is) = absurd (no_both (is-some unit) (sym (leaf _ c).0))
   power-part {a} {s} (Linear m label d) begun after leaf p (walk_times {counts = counts} {inner = inner} {left = lefts} none c h left is) =
       (inner, lefts, h, left, way-third begun after after (node_at a s) counts (inner ++ lefts) _ is p ((leaf counts c).1 after))

@@ -24,13 +24,14 @@ use Rattle.csn_resolve.specs.Gives.{Placed, placed, start_of, count_at, Gives, I
 use Rattle.csn_resolve.specs.Resolved.{ResolveSteps, asked_unknown, asked_rule, NameGives, AreRefusals, nodes_of, twice_steps}
 use Rattle.csn_resolve.specs.Shaped.{IsShaped, ItemsShaped, BranchesShaped, AreShaped}
 use Rattle.csn_resolve.proofs.Once.{same_tail}
-use Rattle.csn_resolve.proofs.Quiet.{Quiet, quiet_along, first_of, rest_of, quiet_from}
+use Rattle.csn_resolve.proofs.Quiet.{Quiet, quiet_along, first_of, rest_of, quiet_from, tail_quiet}
 use Rattle.csn_resolve.proofs.Holding.{Holds, holds_along, holds_from, holds_first, holds_rest, inner_holds, holds_behind}
 use Rattle.csn_resolve.proofs.TailShaped.{tail_shaped, rule_shaped}
 use Rattle.csn_resolve.proofs.ShownFacts.{still_shown, behind_shown, FrameShown, item_shown, count_shown}
 use Rattle.csn_resolve.proofs.InsideFacts.{IsInside, braces_inside, name_inside, node_inside, turn_inside, more_inside}
-use Rattle.csn_resolve.proofs.Windows.{no_both, only_is, unit_is, width_unit, left_window, right_window}
+use Rattle.csn_resolve.proofs.Windows.{only_is, unit_is, width_unit, left_window, right_window}
 use Rattle.csn_resolve.proofs.LaidParts.{laid_to, parts_to, parts_along, parts_append, node_laid, none_inside, one_inside, tail_laid}
+use Rattle.csn_resolve.proofs.Bools.{no_both}
 
 module _ (all : List Node) (rules : RulesV) (r : Reading) where
   -- ---- how many parts
@@ -247,9 +248,7 @@ module _ (all : List Node) (rules : RulesV) (r : Reading) where
           let Q : TailV → Type 0 = λ z. ItemsGive rules r z.items (many + 3) [] seen turn_parts turn in
           let begun = turn_begun (inside a) tail.end in
           let ends = node_at (inside a) tail.end.stop.at in
-          let after = rest_of (node_at a (start_of rule.body)) (steps ++ (begun ++ (turns ++ (left ++ ends)))) p q in
-          let behind_items = rest_of steps (begun ++ (turns ++ (left ++ ends))) refl after in
-          let in_turns = rest_of begun (turns ++ (left ++ ends)) refl behind_items in
+          let quiet = tail_quiet (node_at a (start_of rule.body)) steps begun turns left ends p q in
           let items_shape = tail_shaped rule tail shape is in
           let words = tail_shaped rule tail' shape is' in
           let last : List Placed = placed (Lits tail'.end.stop.run) tail'.end.stop.at ∷ [] in
@@ -261,10 +260,10 @@ module _ (all : List Node) (rules : RulesV) (r : Reading) where
           let at_many : Holds all many repeated = holds_from all repeated (sym many_is) (holds_rest all (suc at) items repeated here) in
           let at_turn : Holds all (many + 3) (turn ++ last) = holds_from all (turn ++ last) (omega arith) at_many.1.1.1 in
           let at_stop : Holds all stop last = holds_from all last (sym stop_is) (holds_rest all (many + 3) turn last at_turn) in
-          let node = node_inside all rules r (start_of rule.body) (first_of (node_at a (start_of rule.body)) (steps ++ (begun ++ (turns ++ (left ++ ends)))) p q) within in
-          let inner = turn_inside all rules r tail.end (first_of begun (turns ++ (left ++ ends)) refl behind_items) (more_inside all rules r (behind_shown all parts shown) node.1) in
-          let first = items_laid i (first_of steps (begun ++ (turns ++ (left ++ ends))) refl after) items_shape.items (subst P same i') (holds_first all (suc at) items repeated here) tt node.1 in
-          let second = items_laid t (first_of turns (left ++ ends) refl in_turns) items_shape.items (subst Q same t') (holds_first all (many + 3) turn last at_turn) tt
+          let node = node_inside all rules r (start_of rule.body) quiet.node_quiet within in
+          let inner = turn_inside all rules r tail.end quiet.begun_quiet (more_inside all rules r (behind_shown all parts shown) node.1) in
+          let first = items_laid i quiet.items_quiet items_shape.items (subst P same i') (holds_first all (suc at) items repeated here) tt node.1 in
+          let second = items_laid t quiet.turn_quiet items_shape.items (subst Q same t') (holds_first all (many + 3) turn last at_turn) tt
           (more_inside all rules r (still_shown all (many + 2) (seen_behind all true parts shown)) inner.1) in
           node_laid all root at (start_of rule.body) nodes (items ++ repeated) p' h node.0 tt (omega (arith, length-append parts (many ∷ stop ∷ [])))
           (parts_append all (parts_to all (sym many_is) first)

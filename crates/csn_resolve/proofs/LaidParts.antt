@@ -1,5 +1,5 @@
 -- Nodes that are well formed, one by one and behind one another.
-use Rattle.std.proofs.Common.{◌≡◌, ℕ, suc, ◌+◌, ◌<◌, ◌≤◌, Bool, true, List, [], ◌∷◌, ◌++◌, length, refl, sym, ◌∙◌, ap, subst, arith, Some}
+use Rattle.std.proofs.Common.{◌≡◌, ℕ, suc, ◌+◌, ◌<◌, ◌≤◌, Bool, true, List, [], ◌∷◌, ◌++◌, length, refl, ap, subst, arith, Some}
 use Rattle.std.specs.Prelude.{slice_get}
 use Rattle.csn_desc.specs.declared.symbol.Symbol.{Symbol}
 use Rattle.csn_desc.specs.declared.node.Node.{Node}
@@ -8,12 +8,9 @@ use Rattle.csn_desc.specs.Nodes.{head_of, parts_of}
 use Rattle.csn_desc.specs.Formed.{IsHead, HasParts, shows_earlier, with_seen}
 use Rattle.csn_desc.specs.Laid.{Laid, laid, PartsLaid, laid_end, laid_next, seen_behind}
 use Rattle.csn_resolve.specs.Gives.{Placed, placed}
-use Rattle.csn_resolve.proofs.Holding.{Holds, holds_along}
+use Rattle.csn_resolve.proofs.Holding.{Holds, holds_along, node_from}
 
 module _ (all : List Node) where
-  pub node_from : {i j : ℕ} {n : Node} → i ≡ j → slice_get all i ≡ Some n → slice_get all j ≡ Some n
-  node_from p h = ap (λ z. slice_get all z) (sym p) ∙ h
-
   pub laid_to :
       {shown : List ℕ} {round at end other : ℕ} → end ≡ other → Laid all shown round at end → Laid all shown round at other
   laid_to {shown} {round} {at} p h = let P : ℕ → Type 0 = λ z. Laid all shown round at z in subst P p h
@@ -81,8 +78,8 @@ module _ (all : List Node) where
   tail_laid many stop parts again run many_at seq_at word_at stop_at again_some run_some some deep turn ends =
       laid_next stop refl
       (laid (Many (many + 1)) many_at (omega (arith, deep)) tt refl (laid_next stop (omega arith)
-      (laid (Seq ((many + 2) ∷ parts)) (node_from (omega arith) seq_at) (omega (arith, deep)) tt (omega (arith, some))
+      (laid (Seq ((many + 2) ∷ parts)) (node_from all (omega arith) seq_at) (omega (arith, deep)) tt (omega (arith, some))
       (laid_next (many + 3) (omega arith)
-      (word_laid again (node_from (omega arith) word_at) again_some deep (omega arith)) turn))
+      (word_laid again (node_from all (omega arith) word_at) again_some deep (omega arith)) turn))
       (laid_end refl)))
       (laid_next (suc stop) refl (word_laid run stop_at run_some (omega (arith, deep)) refl) (laid_end ends))

@@ -1,29 +1,26 @@
 -- The marked rules are those that pass: what is found with them passes, and what passes is found with them.
 use Rattle.std.proofs.Common.{◌≡◌, ℕ, zero, suc, ◌<◌, Bool, true, false, List, [], ◌∷◌, length, set, slice_get, Some, None, Option, refl, ◌∙◌, ap, subst, arith, codes, ◌⊎◌, inl, inr}
+use Rattle.std.proofs.lemmas.Bool.{or_left, or_right, and_from}
 use Rattle.csn_desc.specs.declared.reading.Reading.{Reading}
 use Rattle.csn_grammar.specs.declared.rules.Rule.{Rule}
-use Rattle.csn_grammar.specs.ExprV.{ExprV, expr, ExprsV, BranchesV}
+use Rattle.csn_grammar.specs.ExprV.{ExprV, expr, ExprsV, BranchesV, sends}
 use Rattle.csn_grammar.specs.RulesV.{RulesV}
 use Rattle.csn_grammar.specs.Names.{same_name, rule_of}
 use Rattle.csn_grammar.specs.Void as grammar
 use Rattle.csn_grammar.specs.Void.{SomeVoid, AllVoid, void_none, void_name, void_group, void_labelled, void_window, void_seq, void_choice, void_received, void_sent, void_here, void_later, all_end, all_next, all_error}
 use Rattle.csn_resolve.specs.Counts as counts
 use Rattle.csn_resolve.specs.Counts.{narrow_field, narrow_name, narrow_group, narrow_received, narrow_sent}
-use Rattle.csn_resolve.specs.Tests.{is_void, some_void, all_void, is_narrow, form_narrow, narrow_width}
+use Rattle.csn_resolve.specs.Tests.{is_void, some_void, all_void, is_narrow, form_narrow, narrow_width, form_void}
 use Rattle.csn_grammar.specs.Forms.{width_of}
 use Rattle.csn_resolve.specs.declared.marks.Test.{Test}
 use Rattle.csn_resolve.specs.declared.marks.Test.TheVariants.{Void, Narrow}
 use Rattle.csn_resolve.specs.Numbers.{number_in}
 use Rattle.csn_resolve.specs.Marked.{Passes, passes, mark_at, is_set, marked, AreSound, AreClosed, unmarked}
-use Rattle.csn_resolve.proofs.Bools.{or_left, or_right, both_true}
 use Rattle.csn_resolve.proofs.NumberFacts.{rule_found, rule_number}
 use Rattle.csn_resolve.proofs.VoidDecided as v
 use Rattle.csn_resolve.proofs.NarrowDecided as w
-
-pub get_within : (rules : RulesV) (k : ℕ) → k < length rules → (rule : Rule) × (slice_get rules k ≡ Some rule)
-get_within [] k few = absurd (omega (arith, few))
-get_within (rule ∷ rules) zero few = (rule, refl)
-get_within (rule ∷ rules) (suc k) few = get_within rules k (omega (arith, few))
+use Rattle.csn_resolve.proofs.Levels.{NamesAre, side_taken}
+use Rattle.csn_resolve.proofs.Parts.{get_within}
 
 module _ (rules : RulesV) (marks : List Bool) where
   -- the rule of a name that is marked
@@ -55,22 +52,16 @@ module _ (rules : RulesV) (marks : List Bool) where
 
   -- ---- sound
 
-  names_sound : (r : Reading) → AreSound rules (Void r) marks → v.Names rules r (marked rules marks)
-  names_sound r sound n p =
-      let found = marked_rule n p in
-      let rule = within_rule found.0 found.2 in
-      (rule.0, found.1 ∙ rule.1, sound found.0 rule.0 rule.1 found.3)
-
-  narrows_sound : (r : Reading) → AreSound rules (Narrow r) marks → w.Names rules r (marked rules marks)
-  narrows_sound r sound n p =
+  names_sound : (test : Test) → AreSound rules test marks → NamesAre rules (λ x. Passes rules test x) (marked rules marks)
+  names_sound test sound n p =
       let found = marked_rule n p in
       let rule = within_rule found.0 found.2 in
       (rule.0, found.1 ∙ rule.1, sound found.0 rule.0 rule.1 found.3)
 
   pub found_passes :
       (test : Test) (x : ExprV) → AreSound rules test marks → passes test (marked rules marks) x ≡ true → Passes rules test x
-  found_passes (Void r) x sound p = v.void_found rules r (marked rules marks) (names_sound r sound) x p
-  found_passes (Narrow r) x sound p = w.narrow_found rules r (marked rules marks) (narrows_sound r sound) x p
+  found_passes (Void r) x sound p = v.void_found rules r (marked rules marks) (names_sound (Void r) sound) x p
+  found_passes (Narrow r) x sound p = w.narrow_found rules r (marked rules marks) (names_sound (Narrow r) sound) x p
 
   -- ---- complete
 
@@ -87,8 +78,8 @@ module _ (rules : RulesV) (marks : List Bool) where
       void_closed (void_window {x = x} {y = y} win is h) = v.found_window rules r (marked rules marks) x y win is (void_closed h)
       void_closed (void_seq h) = some_closed h
       void_closed (void_choice h) = all_closed h
-      void_closed (void_received {x = x} {y = y} is h) = v.found_left rules r (marked rules marks) x y is (void_closed h)
-      void_closed (void_sent {x = x} {y = y} is h) = v.found_right rules r (marked rules marks) x y is (void_closed h)
+      void_closed (void_received {x = x} {y = y} is h) = side_taken (λ z. form_void z (marked rules marks) (sends x y)) (λ z. is_void z (marked rules marks) x) is refl (void_closed h)
+      void_closed (void_sent {x = x} {y = y} is h) = side_taken (λ z. form_void z (marked rules marks) (sends x y)) (λ z. is_void z (marked rules marks) y) is refl (void_closed h)
 
       some_closed : {xs : ExprsV} → SomeVoid rules r xs → some_void r (marked rules marks) xs ≡ true
       some_closed (void_here {x = x} {xs = xs} h) = or_left (is_void r (marked rules marks) x) (some_void r (marked rules marks) xs) (void_closed h)
@@ -97,7 +88,7 @@ module _ (rules : RulesV) (marks : List Bool) where
       all_closed : {bs : BranchesV} → AllVoid rules r bs → all_void r (marked rules marks) bs ≡ true
       all_closed all_end = refl
       all_closed (all_next {x = x} {bs = bs} h others) =
-          both_true (is_void r (marked rules marks) x) (all_void r (marked rules marks) bs) (void_closed h) (all_closed others)
+          and_from (is_void r (marked rules marks) x) (all_void r (marked rules marks) bs) (void_closed h) (all_closed others)
       all_closed (all_error others) = all_closed others
 
   narrow_closed : (r : Reading) → AreClosed rules (Narrow r) marks → {x : ExprV} → counts.Narrow rules r x → is_narrow r (marked rules marks) x ≡ true
@@ -106,8 +97,8 @@ module _ (rules : RulesV) (marks : List Bool) where
   narrow_closed r closed (narrow_name {n = n} rule is h) =
       let body = narrow_closed r closed h in name_marked n rule is (λ k at. closed k rule at body)
   narrow_closed r closed (narrow_group h) = narrow_closed r closed h
-  narrow_closed r closed (narrow_received {x = x} {y = y} is h) = w.found_left rules r (marked rules marks) x y is (narrow_closed r closed h)
-  narrow_closed r closed (narrow_sent {x = x} {y = y} is h) = w.found_right rules r (marked rules marks) x y is (narrow_closed r closed h)
+  narrow_closed r closed (narrow_received {x = x} {y = y} is h) = side_taken (λ z. form_narrow z (marked rules marks) (sends x y)) (λ z. is_narrow z (marked rules marks) x) is refl (narrow_closed r closed h)
+  narrow_closed r closed (narrow_sent {x = x} {y = y} is h) = side_taken (λ z. form_narrow z (marked rules marks) (sends x y)) (λ z. is_narrow z (marked rules marks) y) is refl (narrow_closed r closed h)
 
   pub passes_found :
       (test : Test) (x : ExprV) → AreClosed rules test marks → Passes rules test x → passes test (marked rules marks) x ≡ true

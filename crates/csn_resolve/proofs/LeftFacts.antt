@@ -5,14 +5,12 @@ use Rattle.csn_grammar.specs.declared.exponent.Exponent.{Exponent}
 use Rattle.csn_grammar.specs.declared.exponent.Exponent.TheVariants.{Any, Number, Linear}
 use Rattle.csn_grammar.specs.ExprV.{ExprV}
 use Rattle.csn_grammar.specs.RulesV.{RulesV}
-use Rattle.csn_grammar.specs.TailForm.{TailV}
-use Rattle.csn_grammar.specs.Void.{SomeVoid}
 use Rattle.csn_resolve.specs.declared.fault.ResolveFault.{ResolveFault}
-use Rattle.csn_resolve.specs.declared.why.Why.TheVariants.{NoString}
+use Rattle.csn_resolve.specs.declared.why.Why.{Why}
 use Rattle.csn_resolve.specs.Seen.{Seen, seen_of}
 use Rattle.csn_resolve.specs.Steps.{Step, refused}
 use Rattle.csn_resolve.specs.Counts.{Narrow, CountSteps, size_steps, count_unknown, count_wide, count_narrow}
-use Rattle.csn_resolve.specs.Walk.{TurnLeft, left_void_turn, left_full_turn}
+use Rattle.csn_resolve.specs.Walk.{Refuses, is_refused, is_accepted}
 use Rattle.csn_resolve.specs.Going.{Checks}
 
 clash : (seen : Seen ExprV) {label other : List ℕ} {x : ExprV} → label ≡ other → seen_of seen other ≡ Some x → seen_of seen label ≡ None → ⊥
@@ -35,13 +33,15 @@ module _ (rules : RulesV) (r : Reading) where
       let Q : ExprV → Type 0 = λ z. Narrow rules r z in absurd (wide (subst Q (same seen labels at found) narrow))
   narrow-steps (Linear n other d) m label c x is at narrow (count_narrow y found narrow' p) = p
 
-  pub turn-void : {tail : TailV} {steps : List Step} → SomeVoid rules r tail.items → TurnLeft rules r tail steps → steps ≡ refused NoString tail.end.braces ∷ []
-  turn-void v (left_void_turn v' p) = p
-  turn-void v (left_full_turn full p) = absurd (full v)
+-- ---- what is refused, and what is not
 
-  pub turn-full : {tail : TailV} {steps : List Step} → ¬ SomeVoid rules r tail.items → TurnLeft rules r tail steps → steps ≡ []
-  turn-full full (left_void_turn v p) = absurd (full v)
-  turn-full full (left_full_turn full' p) = p
+pub refuses-where : {P : Type 0} {why : Why} {place : ℕ} {steps : List Step} → P → Refuses P why place steps → steps ≡ refused why place ∷ []
+refuses-where h (is_refused g p) = p
+refuses-where h (is_accepted none p) = absurd (none h)
+
+pub refuses-not : {P : Type 0} {why : Why} {place : ℕ} {steps : List Step} → ¬ P → Refuses P why place steps → steps ≡ []
+refuses-not none (is_refused h p) = absurd (none h)
+refuses-not none (is_accepted other p) = p
 
 pub checks-same : (steps others : List Step) (answer : Result (Unit {0}) ResolveFault) → steps ≡ others → Checks others answer → Checks steps answer
 checks-same steps others answer p h = let Q : List Step → Type 0 = λ z. Checks z answer in subst Q (sym p) h

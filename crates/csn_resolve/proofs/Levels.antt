@@ -7,6 +7,9 @@ use Rattle.csn_grammar.specs.declared.rules.Rule.{Rule}
 use Rattle.csn_grammar.specs.ExprV.{ExprV}
 use Rattle.csn_grammar.specs.RulesV.{RulesV}
 use Rattle.csn_grammar.specs.Names.{same_name, is_built_in, rule_of}
+use Rattle.csn_resolve.proofs.Bools.{no_both}
+use Rattle.csn_desc.specs.declared.reading.Reading.{Reading}
+use Rattle.csn_desc.specs.declared.reading.Reading.TheVariants.{Received, Sent}
 
 -- ---- how many rules pass a test
 
@@ -65,10 +68,7 @@ one_more :
     → (one_if b + m ≤ one_if c + n) × (((c ≡ true → b ≡ true) × C) ⊎ (suc (one_if b + m) ≤ one_if c + n))
 one_more true true m n C wide few (inl closed) = (omega arith, inl (λ h. refl, closed))
 one_more true true m n C wide few (inr more) = (omega arith, inr (omega arith))
-one_more true false m n C wide few d = absurd (clash (wide refl))
-  where
-    clash : false ≡ true → ⊥
-    clash p = cc
+one_more true false m n C wide few d = absurd (no_both (wide refl) refl)
 one_more false true m n C wide few d = (omega arith, inr (omega arith))
 one_more false false m n C wide few (inl closed) = (omega arith, inl (λ h. h, closed))
 one_more false false m n C wide few (inr more) = (omega arith, inr (omega arith))
@@ -82,7 +82,23 @@ closed_or_more p q wide (rule ∷ rules) =
     let later = closed_or_more p q wide rules in
     one_more (p rule) (q rule) (passing p rules) (passing q rules) (Closed p q rules) (wide rule) later.0 later.1
 
+-- ---- the side of `=` that is taken
+
+pub by_reading :
+    (r : Reading) (f : Reading → Bool) {P : Type 0} → f r ≡ true
+    → (r ≡ Received → f Received ≡ true → P) → (r ≡ Sent → f Sent ≡ true → P) → P
+by_reading Received f p left right = left refl p
+by_reading Sent f p left right = right refl p
+
+-- a test of both sides is one of the side that is taken
+pub side_taken : {r q : Reading} (f g : Reading → Bool) → r ≡ q → f q ≡ g q → g r ≡ true → f r ≡ true
+side_taken f g is same p = ap f is ∙ (same ∙ (sym (ap g is) ∙ p))
+
 -- ---- levels of names
+
+-- these names have rules of which P holds
+abbrev pub NamesAre : RulesV → (ExprV → Type 0) → (List ℕ → Bool) → Type 0
+NamesAre rules P h = (n : List ℕ) → h n ≡ true → (rule : Rule) × (rule_of rules n ≡ Some rule) × P rule.body
 
 module _ (rules : RulesV) (test : (List ℕ → Bool) → ExprV → Bool) where
   -- a rule passes, where these names do
@@ -94,6 +110,19 @@ module _ (rules : RulesV) (test : (List ℕ → Bool) → ExprV → Bool) where
   abbrev pub level : ℕ → List ℕ → Bool
   level zero n = false
   level (suc k) n = rule_test (rule_of rules n) (level k)
+
+  -- the names of a level have rules of which P holds, where P holds of what passes with such names
+  pub level_names :
+      (P : ExprV → Type 0) → ((h : List ℕ → Bool) → NamesAre rules P h → (x : ExprV) → test h x ≡ true → P x)
+      → (k : ℕ) → NamesAre rules P (level k)
+  level_names P sound zero n p = cc
+  level_names P sound (suc k) n p = in_rule (rule_of rules n) refl p (level_names P sound k)
+    where
+      in_rule :
+          (o : Option Rule) → rule_of rules n ≡ o → rule_test o (level k) ≡ true → NamesAre rules P (level k)
+          → (rule : Rule) × (rule_of rules n ≡ Some rule) × P rule.body
+      in_rule None at p names = cc
+      in_rule (Some rule) at p names = (rule, at, sound (level k) names rule.body p)
 
   module _ (wider : (h g : List ℕ → Bool) → ((n : List ℕ) → h n ≡ true → g n ≡ true) → (x : ExprV) → test h x ≡ true → test g x ≡ true) where
     rule_wider :
@@ -173,7 +202,4 @@ module _ (rules : RulesV) (test : (List ℕ → Bool) → ExprV → Bool) where
         by_test : (b : Bool) → test (level last_level.0) x ≡ b → P x ⊎ (¬ P x)
         by_test true passes = inl (sound last_level.0 x passes)
         by_test false fails =
-            inr (λ h. let at = complete x h in clash (last_level.1 at.0 x at.1) fails)
-          where
-            clash : {b : Bool} → b ≡ true → b ≡ false → ⊥
-            clash p q = cc
+            inr (λ h. let at = complete x h in no_both (last_level.1 at.0 x at.1) fails)

@@ -5,9 +5,6 @@ use Rattle.csn_grammar.specs.ExprV.{ExprV, BranchV, branch, exprs_of, branches_o
 use Rattle.csn_resolve.specs.Tests.{is_void, some_void, all_void}
 use Rattle.csn_resolve.proofs.Parts.{drop_at}
 
-pub both_ways : {b : Bool} → b ≡ false → b ≡ true → ⊥
-both_ways p q = cc
-
 module _ (r : Reading) (h : List ℕ → Bool) where
   pub some-next :
       (xs : List ExprV) (at : ℕ) (x : ExprV) → slice_get xs at ≡ Some x → is_void r h x ≡ false

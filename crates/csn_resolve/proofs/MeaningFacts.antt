@@ -28,11 +28,10 @@ use Rattle.csn_resolve.specs.Shaped.{IsShaped, AreShaped}
 use Rattle.csn_resolve.specs.Gives.{Placed, placed, Gives, ItemsGive, EachGives, RuleGives, gives_lits, gives_null, gives_bit, gives_octet, gives_field, gives_rest, gives_spare_bit, gives_spare_low, gives_padding, gives_seq, gives_choice, gives_only, gives_times, gives_many, gives_cut, gives_window, gives_labelled, gives_name, gives_group, gives_received, gives_sent, items_end, items_next, each_end, each_next, rule_plain, rule_tail}
 use Rattle.csn_resolve.specs.Resolved.{nodes_of, IsResolved}
 use Rattle.csn_resolve.proofs.Full.{gives_full}
-use Rattle.csn_resolve.proofs.Holding.{Holds, holds_along, holds_from, holds_first, holds_rest, holds_behind}
-use Rattle.csn_resolve.proofs.Numbered.{node_from}
+use Rattle.csn_resolve.proofs.Holding.{Holds, holds_along, holds_from, holds_first, holds_rest, holds_behind, node_from}
 use Rattle.csn_resolve.proofs.Agreement.{Agree, counts_agree, agree_later, agree_item}
 use Rattle.csn_resolve.proofs.NodeFacts.{gives_some, items_behind, label_named}
-use Rattle.csn_resolve.proofs.SameLeaves.{Same, lits_same, null_same, bit_same, octet_same, field_same, rest_same, spare_bit_same, spare_low_same, padding_same}
+use Rattle.csn_resolve.proofs.SameLeaves.{Same, lits_same, null_same, bit_same, octet_same, field_same, rest_same, padding_same, spare_same, spare_zero, spare_one_low}
 use Rattle.csn_resolve.proofs.SameParts.{SameItems, same_end, same_next, seq_same, cut_same, times_same, many_same}
 use Rattle.csn_resolve.proofs.SameForms.{SameEach, SameRule, choice_same, only_same, window_same, label_same, group_same, received_same, sent_same, name_same}
 use Rattle.csn_resolve.proofs.SameForms as forms
@@ -76,8 +75,8 @@ module _ (rules : RulesV) (r : Reading) where
             let here = holds_along d.nodes at p h in
             field_same rules r d unit count seen is counted (counts_agree at v env seen k count a counted) here.0
         gives_same {at = at} (gives_rest is p) h env v a = let here = holds_along d.nodes at p h in rest_same rules r d is here.0
-        gives_same {at = at} (gives_spare_bit is p) h env v a = let here = holds_along d.nodes at p h in spare_bit_same rules r d reading is here.0
-        gives_same {at = at} (gives_spare_low is p) h env v a = let here = holds_along d.nodes at p h in spare_low_same rules r d reading is here.0
+        gives_same {at = at} (gives_spare_bit is p) h env v a = let here = holds_along d.nodes at p h in spare_same rules r d reading (spare_zero is) here.0
+        gives_same {at = at} (gives_spare_low is p) h env v a = let here = holds_along d.nodes at p h in spare_same rules r d reading (spare_one_low is) here.0
         gives_same {at = at} (gives_padding is p) h env v a = let here = holds_along d.nodes at p h in padding_same rules r d reading is here.0
         gives_same {at = at} {seen = seen} (gives_seq g p) h env v a =
             let here = holds_along d.nodes at p h in

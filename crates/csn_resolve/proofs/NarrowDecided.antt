@@ -1,6 +1,6 @@
 -- Whether what stands behind a label is a field of constant width, of 1 to 16 bits, is decided.
-use Rattle.std.proofs.Common.{◌≡◌, ℕ, zero, suc, ◌*◌, ◌≤◌, Bool, true, nat_le, List, ◌⊎◌, inl, inr, refl, sym, ◌∙◌, ap, Option, Some, None}
-use Rattle.std.proofs.lemmas.Bool.{leb-true, le-leb}
+use Rattle.std.proofs.Common.{◌≡◌, ℕ, suc, ◌*◌, ◌≤◌, Bool, true, nat_le, List, ◌⊎◌, inl, inr, refl, ◌∙◌, ap, Option, Some, None}
+use Rattle.std.proofs.lemmas.Bool.{leb-true, le-leb, or_cases, or_left, and_parts, and_from}
 use Rattle.csn_desc.specs.declared.reading.Reading.{Reading}
 use Rattle.csn_desc.specs.declared.reading.Reading.TheVariants.{Received, Sent}
 use Rattle.csn_grammar.specs.declared.exponent.Exponent.{Exponent}
@@ -12,8 +12,8 @@ use Rattle.csn_grammar.specs.Names.{rule_of}
 use Rattle.csn_grammar.specs.Forms.{WidthV, width_of}
 use Rattle.csn_resolve.specs.Counts.{Narrow, narrow_field, narrow_name, narrow_group, narrow_received, narrow_sent}
 use Rattle.csn_resolve.specs.Tests.{few_bits, narrow_width, is_narrow, form_narrow}
-use Rattle.csn_resolve.proofs.Bools.{or_cases, or_wider, or_left, and_cases, both_true}
-use Rattle.csn_resolve.proofs.Levels.{rule_test, level, decided}
+use Rattle.csn_resolve.proofs.Bools.{or_wider}
+use Rattle.csn_resolve.proofs.Levels.{level, decided, by_reading, side_taken, NamesAre, level_names, rule_test}
 
 -- ---- with more names, no less is narrow
 
@@ -35,7 +35,7 @@ module _ (h g : List ℕ → Bool) (wide : (n : List ℕ) → h n ≡ true → g
 
 number_width : (unit n : ℕ) → few_bits unit (Number n) ≡ true → (1 ≤ unit * n) × (unit * n ≤ 16)
 number_width unit n p =
-    let parts = and_cases (nat_le 1 (unit * n)) (nat_le (unit * n) 16) p in
+    let parts = and_parts (nat_le 1 (unit * n)) (nat_le (unit * n) 16) p in
     (leb-true 1 (unit * n) parts.0, leb-true (unit * n) 16 parts.1)
 
 module _ (rules : RulesV) (r : Reading) where
@@ -43,7 +43,7 @@ module _ (rules : RulesV) (r : Reading) where
   narrows k = level rules (is_narrow r) k
 
   abbrev pub Names : (List ℕ → Bool) → Type 0
-  Names h = (n : List ℕ) → h n ≡ true → (rule : Rule) × (rule_of rules n ≡ Some rule) × Narrow rules r rule.body
+  Names h = NamesAre rules (λ x. Narrow rules r x) h
 
   by_width : (x : ExprV) (o : Option WidthV) → width_of x ≡ o → narrow_width o ≡ true → Narrow rules r x
   by_width x None is p = cc
@@ -53,13 +53,6 @@ module _ (rules : RulesV) (r : Reading) where
       by_count Any at p = cc
       by_count (Linear m label c) at p = cc
       by_count (Number n) at p = let few = number_width w.unit n p in narrow_field w n is at few.0 few.1
-
-  in_sides :
-      (h : List ℕ → Bool) (s e : ℕ) (x y : ExprV) (q : Reading) → r ≡ q → form_narrow q h (sends x y) ≡ true
-      → (is_narrow r h x ≡ true → Narrow rules r x) → (is_narrow r h y ≡ true → Narrow rules r y)
-      → Narrow rules r (expr s e (sends x y))
-  in_sides h s e x y Received is p left right = narrow_received is (left (ap (λ z. is_narrow z h x) is ∙ p))
-  in_sides h s e x y Sent is p left right = narrow_sent is (right (ap (λ z. is_narrow z h y) is ∙ p))
 
   module _ (h : List ℕ → Bool) (names : Names h) where
     in_width :
@@ -78,19 +71,12 @@ module _ (rules : RulesV) (r : Reading) where
       form_found s e (name n) p = let found = names n p in narrow_name found.0 found.1 found.2
       form_found s e (group x) p = narrow_group (narrow_found x p)
       form_found s e (sends x y) p =
-          in_sides h s e x y r refl p (λ q. narrow_found x q) (λ q. narrow_found y q)
+          by_reading r (λ q. form_narrow q h (sends x y)) p (λ is q. narrow_received is (narrow_found x (ap (λ z. is_narrow z h x) is ∙ q)))
+          (λ is q. narrow_sent is (narrow_found y (ap (λ z. is_narrow z h y) is ∙ q)))
       form_found s e f p = cc
 
   names_found : (k : ℕ) → Names (narrows k)
-  names_found zero n p = cc
-  names_found (suc k) n p = in_rule (rule_of rules n) refl p (names_found k)
-    where
-      in_rule :
-          (o : Option Rule)
-          → rule_of rules n ≡ o → rule_test rules (is_narrow r) o (narrows k) ≡ true → Names (narrows k)
-          → (rule : Rule) × (rule_of rules n ≡ Some rule) × Narrow rules r rule.body
-      in_rule None at p names = cc
-      in_rule (Some rule) at p names = (rule, at, narrow_found (narrows k) names rule.body p)
+  names_found = level_names rules (is_narrow r) (λ x. Narrow rules r x) narrow_found
 
   found_name :
       (n : List ℕ) (rule : Rule) → rule_of rules n ≡ Some rule → (k : ℕ)
@@ -103,17 +89,7 @@ module _ (rules : RulesV) (r : Reading) where
       → narrow_width (width_of x) ≡ true
   found_width x w n is at some few =
       ap narrow_width is ∙ (ap (few_bits w.unit) at
-      ∙ both_true (nat_le 1 (w.unit * n)) (nat_le (w.unit * n) 16) (le-leb 1 (w.unit * n) some) (le-leb (w.unit * n) 16 few))
-
-  pub found_left :
-      (h : List ℕ → Bool) (x y : ExprV)
-      → r ≡ Received → is_narrow r h x ≡ true → form_narrow r h (sends x y) ≡ true
-  found_left h x y is p = ap (λ z. form_narrow z h (sends x y)) is ∙ (sym (ap (λ z. is_narrow z h x) is) ∙ p)
-
-  pub found_right :
-      (h : List ℕ → Bool) (x y : ExprV)
-      → r ≡ Sent → is_narrow r h y ≡ true → form_narrow r h (sends x y) ≡ true
-  found_right h x y is p = ap (λ z. form_narrow z h (sends x y)) is ∙ (sym (ap (λ z. is_narrow z h y) is) ∙ p)
+      ∙ and_from (nat_le 1 (w.unit * n)) (nat_le (w.unit * n) 16) (le-leb 1 (w.unit * n) some) (le-leb (w.unit * n) 16 few))
 
   narrow_is_found : {x : ExprV} → Narrow rules r x → (k : ℕ) × (is_narrow r (narrows k) x ≡ true)
   narrow_is_found (narrow_field {x = expr s e f} w n is at some few) =
@@ -122,9 +98,9 @@ module _ (rules : RulesV) (r : Reading) where
       let at = narrow_is_found v in (suc at.0, found_name n rule is at.0 at.1)
   narrow_is_found (narrow_group v) = let at = narrow_is_found v in (at.0, at.1)
   narrow_is_found (narrow_received {x = x} {y = y} is v) =
-      let at = narrow_is_found v in (at.0, found_left (narrows at.0) x y is at.1)
+      let at = narrow_is_found v in (at.0, side_taken (λ z. form_narrow z (narrows at.0) (sends x y)) (λ z. is_narrow z (narrows at.0) x) is refl at.1)
   narrow_is_found (narrow_sent {x = x} {y = y} is v) =
-      let at = narrow_is_found v in (at.0, found_right (narrows at.0) x y is at.1)
+      let at = narrow_is_found v in (at.0, side_taken (λ z. form_narrow z (narrows at.0) (sends x y)) (λ z. is_narrow z (narrows at.0) y) is refl at.1)
 
   pub narrow_decided : (x : ExprV) → Narrow rules r x ⊎ (¬ Narrow rules r x)
   narrow_decided =

@@ -1,10 +1,11 @@
 -- Rules looked up by their names.
-use Rattle.std.proofs.Common.{◌≡◌, ℕ, suc, ◌+◌, ◌-◌, ◌≤◌, ◌<◌, Bool, true, false, ◌||◌, List, [], ◌∷◌, ◌++◌, map, length, take, drop, slice_get, nat_eq, refl, sym, ◌∙◌, ap, arith, Option, Some, None}
+use Rattle.std.proofs.Common.{◌≡◌, ℕ, suc, ◌+◌, ◌-◌, ◌≤◌, ◌<◌, Bool, true, false, ◌||◌, List, [], ◌∷◌, ◌++◌, map, length, take, drop, slice_get, nat_eq, nat_lt, refl, sym, ◌∙◌, ap, arith, Option, Some, None}
 use Rattle.std.specs.Prelude.{if◌then◌else◌}
 use Rattle.std.specs.Borrow.{Bor}
-use Rattle.std.specs.List.{find, list_any, position_from}
+use Rattle.std.specs.List.{find, list_any, position_from, position_or_len}
 use Rattle.std.specs.Cmp.Lexicographic.{pointwise, same_text}
 use Rattle.std.proofs.lemmas.Cmp.{nat_list_eq_equiv}
+use Rattle.std.proofs.lemmas.Iterator.Adapters.{position_from-zero}
 use Rattle.csn_grammar.specs.declared.rules.Rule.{Rule}
 use Rattle.csn_grammar.specs.RulesV.{RulesV}
 use Rattle.csn_grammar.specs.Names.{same_name, is_built_in, built_in_names, rule_of}
@@ -20,7 +21,7 @@ same_back : (a b : List ℕ) → same_name a b ≡ same_name b a
 same_back a b = nat_list_eq_equiv.symm a b
 
 -- the number of a key is that of the rule with this name
-pub key_number :
+key_number :
     (n : List ℕ) (i : ℕ) (keys : List (Bor (List ℕ))) (rules : RulesV) → map (λ k. k.now) keys ≡ rule_names rules
     → position_from (λ k. pointwise nat_eq n k.now) i keys ≡ position_from (λ rule. same_name rule.name n) i rules
 key_number n i [] [] p = refl
@@ -93,7 +94,7 @@ own_name n i (rule ∷ rules) k p own =
     by false same q false built own later = later q own
 
 -- where no rule has a name that is built in, the first rule with a name is the one that it means
-pub number_is :
+number_is :
     (rules : RulesV) (n : List ℕ) → list_any is_built_in (rule_names rules) ≡ false
     → position_from (λ rule. same_name rule.name n) 0 rules ≡ number_in rules n
 number_is rules n own = by (position_from (λ rule. same_name rule.name n) 0 rules) refl (is_built_in n) refl
@@ -104,6 +105,15 @@ number_is rules n own = by (position_from (λ rule. same_name rule.name n) 0 rul
     by o p false q = refl
     by None p true q = refl
     by (Some k) p true q = let free = own_name n 0 rules k p own in absurd (cc)
+
+-- the index of a name among the keys is the number of its rule
+pub index_number :
+    (n : List ℕ) (keys : List (Bor (List ℕ))) (rules : RulesV) → map (λ k. k.now) keys ≡ rule_names rules
+    → list_any is_built_in (rule_names rules) ≡ false
+    → (if nat_lt (position_or_len (λ k. pointwise nat_eq n k.now) keys) (length keys) then Some (position_or_len (λ k. pointwise nat_eq n k.now) keys) else None)
+    ≡ number_in rules n
+index_number n keys rules named own =
+    position_from-zero (λ (k : Bor (List ℕ)). pointwise nat_eq n k.now) keys ∙ (key_number n 0 keys rules named ∙ number_is rules n own)
 
 pub rule_found :
     (rules : RulesV) (n : List ℕ) (k : ℕ) → number_in rules n ≡ Some k

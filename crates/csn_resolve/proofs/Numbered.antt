@@ -1,5 +1,5 @@
 -- The nodes that a named rule gives are numbered through from the root.
-use Rattle.std.proofs.Common.{◌≡◌, ℕ, suc, ◌+◌, List, [], ◌∷◌, ◌++◌, length, refl, sym, ◌∙◌, ap, subst, arith, Some, length-append}
+use Rattle.std.proofs.Common.{◌≡◌, ℕ, suc, ◌+◌, List, [], ◌∷◌, ◌++◌, length, refl, sym, ap, subst, arith, Some, length-append}
 use Rattle.std.specs.Prelude.{slice_get}
 use Rattle.csn_desc.specs.declared.reading.Reading.{Reading}
 use Rattle.csn_desc.specs.declared.symbol.Symbol.{Symbol}
@@ -13,12 +13,9 @@ use Rattle.csn_grammar.specs.RulesV.{RulesV}
 use Rattle.csn_resolve.specs.Seen.{Frame, Seen}
 use Rattle.csn_resolve.specs.Gives.{Placed, placed, start_of, Gives, ItemsGive, EachGives, RuleGives, gives_lits, gives_null, gives_bit, gives_octet, gives_field, gives_rest, gives_spare_bit, gives_spare_low, gives_padding, gives_seq, gives_choice, gives_only, gives_times, gives_many, gives_cut, gives_window, gives_labelled, gives_name, gives_group, gives_received, gives_sent, items_end, items_next, each_end, each_next, rule_plain, rule_tail}
 use Rattle.csn_resolve.specs.Resolved.{NameGives, nodes_of}
-use Rattle.csn_resolve.proofs.Holding.{Holds, holds_along, holds_from, holds_first, holds_rest, inner_holds, holds_behind}
+use Rattle.csn_resolve.proofs.Holding.{Holds, holds_along, holds_from, holds_first, holds_rest, inner_holds, holds_behind, node_from}
 
 module _ (all : List Node) where
-  pub node_from : {i j : ℕ} {n : Node} → i ≡ j → slice_get all i ≡ Some n → slice_get all j ≡ Some n
-  node_from p h = ap (λ z. slice_get all z) (sym p) ∙ h
-
   spans_from : {i j end other : ℕ} → i ≡ j → end ≡ other → Spans all i end → Spans all j other
   spans_from {i} {j} {end} {other} p q h =
       let P : ℕ → Type 0 = λ z. Spans all i z in let Q : ℕ → Type 0 = λ z. Spans all z other in subst Q p (subst P q h)
@@ -57,6 +54,14 @@ module _ (all : List Node) where
       → PartsSpan all (suc at ∷ []) (suc at) (suc at + length inner)
   one_inside at inner h = span_next (suc at + length inner) refl h (span_end refl)
 
+  -- one part, and the others
+  next_spans :
+      {at : ℕ} {parts later : List ℕ} {nodes : List Placed} (first rest : List Placed) → parts ≡ at ∷ later → nodes ≡ first ++ rest
+      → Spans all at (at + length first) → PartsSpan all later (at + length first) (at + length first + length rest)
+      → PartsSpan all parts at (at + length nodes)
+  next_spans {at} first rest p q one others =
+      parts_along (sym p) (span_next (at + length first) refl one (parts_to (omega (arith, ap length q, length-append first rest)) others))
+
   -- the repetition of a rule in tail form, and the word that stops it
   tail_spans :
       {end : ℕ} (many stop : ℕ) (parts : List ℕ) (again run : List Symbol)
@@ -66,8 +71,8 @@ module _ (all : List Node) where
   tail_spans many stop parts again run many_at seq_at word_at turn stop_at ends =
       span_next stop refl
       (spans _ many_at (span_next stop (omega arith)
-      (spans _ (node_from (omega arith) seq_at)
-      (span_next (many + 3) (omega arith) (spans _ (node_from (omega arith) word_at) (span_end (omega arith))) turn))
+      (spans _ (node_from all (omega arith) seq_at)
+      (span_next (many + 3) (omega arith) (spans _ (node_from all (omega arith) word_at) (span_end (omega arith))) turn))
       (span_end refl)))
       (span_next (suc stop) refl (spans _ stop_at (span_end refl)) (span_end ends))
 
@@ -112,9 +117,7 @@ module _ (all : List Node) where
       items_spans {at = at} (items_end p q) h = parts_along (sym p) (span_end (omega (arith, ap length q)))
       items_spans {at = at} (items_next first rest g others p q) h =
           let here = holds_along all at q h in
-          let later = items_spans others (holds_rest all at first rest here) in
-          parts_along (sym p) (span_next (at + length first) refl (gives_spans g (holds_first all at first rest here))
-          (parts_to (omega (arith, ap length q, length-append first rest)) later))
+          next_spans first rest p q (gives_spans g (holds_first all at first rest here)) (items_spans others (holds_rest all at first rest here))
 
       each_spans :
           {xs : List ExprV} {at : ℕ} {seen : Seen ℕ} {parts : List ℕ} {nodes : List Placed}
@@ -123,9 +126,7 @@ module _ (all : List Node) where
       each_spans {at = at} (each_end p q) h = parts_along (sym p) (span_end (omega (arith, ap length q)))
       each_spans {at = at} (each_next first rest g others p q) h =
           let here = holds_along all at q h in
-          let later = each_spans others (holds_rest all at first rest here) in
-          parts_along (sym p) (span_next (at + length first) refl (gives_spans g (holds_first all at first rest here))
-          (parts_to (omega (arith, ap length q, length-append first rest)) later))
+          next_spans first rest p q (gives_spans g (holds_first all at first rest here)) (each_spans others (holds_rest all at first rest here))
 
       rule_spans :
           {rule : Rule} {at : ℕ} {seen : Seen ℕ} {nodes : List Placed}

@@ -16,7 +16,7 @@ use Rattle.csn_resolve.specs.Gives.{Placed, Gives, ItemsGive, EachGives, RuleGiv
 pub same_tail : (rule : Rule) {a b : TailV} → tail_of rule ≡ Some a → tail_of rule ≡ Some b → a ≡ b
 same_tail rule p q = cc
 
-not_two : {xs : List ExprV} {x : ExprV} → 2 ≤ length xs → xs ≡ x ∷ [] → ⊥
+pub not_two : {xs : List ExprV} {x : ExprV} → 2 ≤ length xs → xs ≡ x ∷ [] → ⊥
 not_two {xs} {x} two one = absurd (omega (arith, two, ap length one))
 
 same_only : {x y : ExprV} → x ∷ [] ≡ y ∷ [] → x ≡ y

@@ -1,5 +1,5 @@
 -- Items and alternatives one by one: each is smaller than the list, and what is left begins with it.
-use Rattle.std.proofs.Common.{◌≡◌, ℕ, zero, suc, ◌+◌, ◌≤◌, ◌<◌, List, [], ◌∷◌, ◌++◌, length, take, drop, slice_get, Option, Some, ◌∙◌, ap, arith}
+use Rattle.std.proofs.Common.{◌≡◌, ℕ, zero, suc, ◌+◌, ◌≤◌, ◌<◌, List, [], ◌∷◌, ◌++◌, length, take, drop, slice_get, Some, refl, ◌∙◌, ap, arith}
 use Rattle.std.proofs.lemmas.List.{drop_more}
 use Rattle.std.proofs.lemmas.Option.{slice_get_within, get_or_from_slice_get}
 use Rattle.csn_grammar.specs.ExprV.{ExprV, BranchV}
@@ -47,5 +47,8 @@ take_short zero (x ∷ xs) = omega arith
 take_short (suc n) [] = omega arith
 take_short (suc n) (x ∷ xs) = let less = take_short n xs in omega (arith, less)
 
-pub same_get : {A : Type 0} {o : Option A} {x y : A} → o ≡ Some x → o ≡ Some y → x ≡ y
-same_get p q = cc
+-- a number below the length has an element
+pub get_within : {A : Type 0} (xs : List A) (k : ℕ) → k < length xs → (x : A) × (slice_get xs k ≡ Some x)
+get_within [] k few = absurd (omega (arith, few))
+get_within (x ∷ xs) zero few = (x, refl)
+get_within (x ∷ xs) (suc k) few = get_within xs k (omega (arith, few))

@@ -9,15 +9,15 @@ use Rattle.csn_grammar.specs.declared.exponent.Exponent.{Exponent}
 use Rattle.csn_grammar.specs.ExprV.{ExprV}
 use Rattle.csn_grammar.specs.RulesV.{RulesV}
 use Rattle.csn_grammar.specs.Names.{same_name}
-use Rattle.csn_grammar.specs.Void.{Void, SomeVoid}
+use Rattle.csn_resolve.specs.declared.why.Why.{Why}
 use Rattle.csn_resolve.specs.Why.{Refusal}
 use Rattle.csn_resolve.specs.Seen.{Frame, Seen, seen_in, seen_of, with_labelled}
 use Rattle.csn_resolve.specs.Gives.{count_at}
 use Rattle.csn_resolve.specs.Steps.{Step, begins, refused, refusals_after}
 pub use Rattle.csn_resolve.specs.Steps.{Quiet}
 use Rattle.csn_resolve.specs.Counts.{CountSteps, count_number, count_unknown, count_wide, count_narrow}
-use Rattle.csn_resolve.specs.Walk.{PartLeft, TurnLeft, left_void, left_full, left_void_turn, left_full_turn}
-use Rattle.csn_grammar.specs.TailForm.{TailV}
+use Rattle.csn_resolve.specs.Walk.{Refuses, is_refused, is_accepted}
+use Rattle.csn_resolve.proofs.Bools.{no_both}
 
 quiet_first : (xs ys : List Step) → Quiet (xs ++ ys) → Quiet xs
 quiet_first [] ys q = tt
@@ -38,7 +38,31 @@ first_of xs ys p q = quiet_first xs ys (quiet_along p q)
 pub rest_of : {steps : List Step} (xs ys : List Step) → steps ≡ xs ++ ys → Quiet steps → Quiet ys
 rest_of xs ys p q = quiet_rest xs ys (quiet_along p q)
 
-rest_empty : (xs ys : List Refusal) → xs ++ ys ≡ [] → ys ≡ []
+-- the steps of a rule in tail form, of which none is a refusal: those of its node, of its items, of the
+-- beginning of what is repeated, of a turn, on leaving it, and of the word that stops it
+pub record TailQuiet (node items begun turn left ends : List Step) : Type 0 where
+  pub node_quiet : Quiet node
+  pub items_quiet : Quiet items
+  pub begun_quiet : Quiet begun
+  pub turn_quiet : Quiet turn
+  pub left_quiet : Quiet left
+
+pub tail_quiet :
+    {steps : List Step} (node items begun turn left ends : List Step)
+    → steps ≡ node ++ (items ++ (begun ++ (turn ++ (left ++ ends)))) → Quiet steps → TailQuiet node items begun turn left ends
+tail_quiet node items begun turn left ends p q =
+    let behind_node = rest_of node (items ++ (begun ++ (turn ++ (left ++ ends)))) p q in
+    let behind_items = rest_of items (begun ++ (turn ++ (left ++ ends))) refl behind_node in
+    let in_turn = rest_of begun (turn ++ (left ++ ends)) refl behind_items in
+    record {
+      node_quiet = first_of node (items ++ (begun ++ (turn ++ (left ++ ends)))) p q;
+      items_quiet = first_of items (begun ++ (turn ++ (left ++ ends))) refl behind_node;
+      begun_quiet = first_of begun (turn ++ (left ++ ends)) refl behind_items;
+      turn_quiet = first_of turn (left ++ ends) refl in_turn;
+      left_quiet = first_of left ends refl (rest_of turn (left ++ ends) refl in_turn);
+    }
+
+pub rest_empty : (xs ys : List Refusal) → xs ++ ys ≡ [] → ys ≡ []
 rest_empty [] ys p = p
 rest_empty (x ∷ xs) ys p = cc
 
@@ -113,10 +137,12 @@ node_seen label seen others x same at = is_there (seen_of others label) refl (sa
         → seen_of others label ≡ o → is_some (seen_of seen label) ≡ is_some (seen_of others label)
         → (i : ℕ) × (seen_of others label ≡ Some i)
     is_there (Some i) is p = (i, is)
-    is_there None is p = absurd (clash (ap is_some at) (p ∙ ap is_some is))
-      where
-        clash : {b : Bool} → b ≡ true → b ≡ false → ⊥
-        clash q t = cc
+    is_there None is p = absurd (no_both (ap is_some at) (p ∙ ap is_some is))
+
+-- what is not refused does not hold
+pub not_refused : {P : Type 0} {why : Why} {place : ℕ} {steps : List Step} → Refuses P why place steps → Quiet steps → ¬ P
+not_refused (is_refused h p) q = absurd (quiet_along p q)
+not_refused (is_accepted none p) q = none
 
 module _ (rules : RulesV) (r : Reading) where
   -- a number exponent that is not refused is a count
@@ -130,13 +156,3 @@ module _ (rules : RulesV) (r : Reading) where
   count_given {seen} others same (count_narrow {m = m} {c = c} {label = label} x is narrow p) q =
       let at = node_seen label seen others x same is in
       (Counted m at.0 c, ap (λ o. option_map (λ field. Counted m field c) o) at.1)
-
-  pub part_full : {x : ExprV} {steps : List Step} → PartLeft rules r x steps → Quiet steps → ¬ Void rules r x
-  part_full (left_void v p) q = absurd (quiet_along p q)
-  part_full (left_full full p) q = full
-
-  pub turn_full :
-      {tail : TailV} {steps : List Step}
-      → TurnLeft rules r tail steps → Quiet steps → ¬ SomeVoid rules r tail.items
-  turn_full (left_void_turn v p) q = absurd (quiet_along p q)
-  turn_full (left_full_turn full p) q = full

@@ -1,5 +1,5 @@
 -- Where an expression is walked without a refusal, so are its parts, and its counts are not too large.
-use Rattle.std.proofs.Common.{◌≡◌, ℕ, zero, suc, ◌+◌, ◌≤◌, ◌<◌, Bool, true, false, ◌==◌, List, [], ◌∷◌, ◌++◌, refl, ap, subst, arith, lt_of_not-le, Option, Some, None, slice_get}
+use Rattle.std.proofs.Common.{◌≡◌, ℕ, zero, suc, ◌+◌, ◌≤◌, ◌<◌, Bool, true, false, ◌==◌, List, [], ◌∷◌, ◌++◌, refl, ap, subst, arith, lt_of_not-le, Some, None, slice_get}
 use Rattle.csn_desc.specs.declared.reading.Reading.{Reading}
 use Rattle.csn_desc.specs.declared.node.Count.{Count}
 use Rattle.csn_grammar.specs.declared.exponent.Exponent.{Exponent}
@@ -20,12 +20,8 @@ use Rattle.csn_resolve.specs.Walk.{Around, inside, putting_in, behind, entering,
 use Rattle.csn_resolve.specs.Made.{QuietAt, AllQuiet, BranchesQuiet, RuleQuiet}
 use Rattle.csn_resolve.proofs.Quiet.{first_of, rest_of, quiet_along}
 use Rattle.csn_resolve.proofs.Inversion.{labelled-steps, group-steps, seq-steps, choice-steps, cut-steps, sends-steps, window-steps, window-behind-steps, items-next-steps, components-next-steps, branches-next-steps, plain-steps, tail-steps}
-
-clash : {b : Bool} → b ≡ true → b ≡ false → ⊥
-clash p q = cc
-
-no-none : {A : Type 0} {o : Option A} {x : A} → o ≡ Some x → o ≡ None → ⊥
-no-none p q = cc
+use Rattle.csn_resolve.proofs.Bools.{no_both}
+use Rattle.csn_resolve.proofs.Options.{no_none}
 
 not-refused : (b : Bool) (place : ℕ) → Quiet (refused_if b CountTooLarge place) → b ≡ false
 not-refused true place q = absurd q
@@ -37,7 +33,7 @@ not-full d place q few = by (d == 64) refl q
   where
     by : (b : Bool) → (d == 64) ≡ b → Quiet (refused_if b TooDeep place) → d < 64
     by true e h = absurd h
-    by false e h = lt_of_not-le (λ full. let same : d ≡ 64 = omega (arith, full, few) in clash (ap (λ z. z == 64) same) e)
+    by false e h = lt_of_not-le (λ full. let same : d ≡ 64 = omega (arith, full, few) in no_both (ap (λ z. z == 64) same) e)
 
 size-small : (k : Exponent) (place : ℕ) {steps : List Step} → steps ≡ size_steps k place → Quiet steps → is_too_large k ≡ false
 size-small k place p q =
@@ -59,6 +55,14 @@ module _ (rules : RulesV) (r : Reading) where
       → steps ≡ node_at a place ++ rest → Quiet steps → a.depth < 64
   node-shallow a place rest few p q =
       not-full a.depth place (first_of (entering a place) (begins place ∷ []) refl (first_of (node_at a place) rest p q)) few
+
+  -- what stands round what is inside a node, and the steps behind those of the node
+  inside-node :
+      {names : ℕ} (place : ℕ) (a : Around) {steps : List Step} (rest : List Step) → names ≤ a.depth → a.depth ≤ 64
+      → steps ≡ node_at a place ++ rest → Quiet steps → (names ≤ suc a.depth) × (suc a.depth ≤ 64) × Quiet rest
+  inside-node place a rest below few p q =
+      let shallow = node-shallow a place rest few p q in
+      (omega (arith, below), omega (arith, shallow), rest_of (node_at a place) rest p q)
 
   within-node :
       {names : ℕ} (place : ℕ) (a : Around) {x : ExprV} {steps : List Step} (inner rest : List Step) → names ≤ a.depth → a.depth ≤ 64
@@ -137,24 +141,21 @@ module _ (rules : RulesV) (r : Reading) where
   pub quiet-seq : {names s e : ℕ} (xs : List ExprV) → QuietAt rules r names (expr s e (seq (exprs_of xs))) → AllQuiet rules r names xs
   quiet-seq {s = s} xs h =
       let parts = seq-steps rules r h.walk in
-      let shallow = node-shallow h.around s parts.0 h.shallow parts.2 h.quiet in
-      let below = h.below in
-      items-quiet xs {a = inside h.around} (omega (arith, below)) (omega (arith, shallow)) parts.1 (rest_of (node_at h.around s) parts.0 parts.2 h.quiet)
+      let there = inside-node s h.around parts.0 h.below h.shallow parts.2 h.quiet in
+      items-quiet xs {a = inside h.around} there.0 there.1 parts.1 there.2
 
   pub quiet-cut : {names s e : ℕ} (xs : List ExprV) → QuietAt rules r names (expr s e (cut (exprs_of xs))) → AllQuiet rules r names xs
   quiet-cut {s = s} xs h =
       let parts = cut-steps rules r h.walk in
-      let shallow = node-shallow h.around s parts.0 h.shallow parts.2 h.quiet in
-      let below = h.below in
-      components-quiet xs {a = inside h.around} (omega (arith, below)) (omega (arith, shallow)) parts.1 (rest_of (node_at h.around s) parts.0 parts.2 h.quiet)
+      let there = inside-node s h.around parts.0 h.below h.shallow parts.2 h.quiet in
+      components-quiet xs {a = inside h.around} there.0 there.1 parts.1 there.2
 
   pub quiet-choice :
       {names s e : ℕ} (bs : List BranchV) → QuietAt rules r names (expr s e (choice (branches_of bs))) → BranchesQuiet rules r names bs
   quiet-choice {s = s} bs h =
       let parts = choice-steps rules r h.walk in
-      let shallow = node-shallow h.around s parts.0 h.shallow parts.2 h.quiet in
-      let below = h.below in
-      branches-quiet bs {a = inside h.around} (omega (arith, below)) (omega (arith, shallow)) parts.1 (rest_of (node_at h.around s) parts.0 parts.2 h.quiet)
+      let there = inside-node s h.around parts.0 h.below h.shallow parts.2 h.quiet in
+      branches-quiet bs {a = inside h.around} there.0 there.1 parts.1 there.2
 
   -- ---- parts with an exponent
 
@@ -174,7 +175,7 @@ module _ (rules : RulesV) (r : Reading) where
       {names : ℕ} {a : Around} {s e : ℕ} {x : ExprV} {k : Exponent} {steps : List Step} (seen : Seen ℕ) {count : Count}
       → names ≤ a.depth → a.depth ≤ 64 → unit_of x ≡ None → count_at seen k ≡ Some count
       → Walk rules r a (expr s e (power x k)) steps → Quiet steps → QuietAt rules r names x
-  times-part seen below few no_unit at (walk_field unit c p) q = absurd (no-none unit no_unit)
+  times-part seen below few no_unit at (walk_field unit c p) q = absurd (no_none unit no_unit)
   times-part seen below few no_unit at (walk_rest is p) q = absurd (cc)
   times-part {a = a} {s} seen below few no_unit at (walk_times {counts = counts} {inner = inner} {left = left} none c h l p) q =
       let after = rest_of counts (inner ++ left) refl (rest_of (node_at a s) (counts ++ (inner ++ left)) p q) in
@@ -190,7 +191,7 @@ module _ (rules : RulesV) (r : Reading) where
       {names : ℕ} {a : Around} {s e : ℕ} {x : ExprV} {steps : List Step} → names ≤ a.depth → a.depth ≤ 64 → is_bit x ≡ false
       → Walk rules r a (expr s e (power x Any)) steps → Quiet steps → QuietAt rules r names x
   many-part below few no_bit (walk_field unit c p) q = elim c [ ]
-  many-part below few no_bit (walk_rest is p) q = absurd (clash is no_bit)
+  many-part below few no_bit (walk_rest is p) q = absurd (no_both is no_bit)
   many-part below few no_bit (walk_times none c h l p) q = elim c [ ]
   many-part {a = a} {s} below few no_bit (walk_many {inner = inner} {left = left} not h l p) q =
       within-node s a inner (inner ++ left) below few p q h (first_of inner left refl (rest_of (node_at a s) (inner ++ left) p q))
@@ -228,7 +229,7 @@ module _ (rules : RulesV) (r : Reading) where
       → rule_of rules n ≡ Some rule → Walk rules r a (expr s e (name n)) steps → Quiet steps
       → RuleQuiet rules r (names + 1) rule × (names < 64)
   name-rule {n = n} {rule = rule} below few at (walk_built_in is p) q = absurd (no_rule rules n rule is at)
-  name-rule below few at (walk_undefined not none p) q = absurd (no-none at none)
+  name-rule below few at (walk_undefined not none p) q = absurd (no_none at none)
   name-rule {a = a} {s} below few at (walk_recursive other is among p) q = absurd (rest_of (entering a s) (refused Recursive s ∷ []) p q)
   name-rule {names} {a} {s} {n = n} {rule} below few at (walk_name {inner = inner} other is new h p) q =
       let Same : Rule → Type 0 = λ z. RuleWalk rules r (putting_in n a) z inner in

@@ -2,6 +2,7 @@
 -- choices, windows, labels, names, braces and `=`.
 use Rattle.std.proofs.Common.{◌≡◌, ◌↔◌, ℕ, zero, suc, ◌*◌, ◌≤◌, true, List, [], ◌∷◌, length, refl, sym, ◌∙◌, ap, subst, arith, Some}
 use Rattle.std.specs.Prelude.{slice_get}
+use Rattle.std.proofs.lemmas.Option.{slice_get_within}
 use Rattle.csn_desc.specs.declared.reading.Reading.{Reading}
 use Rattle.csn_desc.specs.declared.reading.Reading.TheVariants.{Received, Sent}
 use Rattle.csn_desc.specs.declared.node.Count.{Count}
@@ -26,6 +27,9 @@ use Rattle.csn_grammar.specs.Meaning.{Means, RuleMeans, means_spare_bit, means_s
 use Rattle.csn_grammar.specs.Follow.{Follow, RuleFollows, follows_whole, follows_leaf, follows_choice, follows_window, follows_labelled, follows_name, follows_group, follows_received, follows_sent}
 use Rattle.csn_grammar.proofs.VoidFacts.{no_rule, same_rule, same_window, kept_once}
 use Rattle.csn_resolve.proofs.SameLeaves.{Same, node_same, spare_built}
+use Rattle.csn_resolve.proofs.Once.{not_two}
+use Rattle.csn_resolve.proofs.Parts.{get_within}
+use Rattle.csn_resolve.proofs.Options.{same_some}
 
 module _ (rules : RulesV) (r : Reading) (d : DescV) where
   -- ---- choices
@@ -46,19 +50,21 @@ module _ (rules : RulesV) (r : Reading) (d : DescV) where
       let P : ExprV → Type 0 = λ z. Same rules r d z i env v in (i, refl, subst P (cc) here)
   part_there (suc j) (each_next here later) at = part_there j later at
 
+  same_long : {xs : List ExprV} {parts : List ℕ} {env : Env} {v : Values} → SameEach xs parts env v → length xs ≡ length parts
+  same_long each_end = refl
+  same_long (each_next here later) = ap suc (same_long later)
+
   part_here :
       {xs : List ExprV} {parts : List ℕ} {env : Env} {v : Values} {i : ℕ} (j : ℕ) → SameEach xs parts env v
       → slice_get parts j ≡ Some i → (x : ExprV) × (slice_get xs j ≡ Some x) × Same rules r d x i env v
-  part_here j each_end at = cc
-  part_here {env = env} {v = v} zero (each_next {x = x} here later) at =
-      let P : ℕ → Type 0 = λ z. Same rules r d x z env v in (x, refl, subst P (cc) here)
-  part_here (suc j) (each_next here later) at = part_here j later at
+  part_here {xs} {parts} {env} {v} {i} j same at =
+      let found = get_within xs j (omega (arith, slice_get_within parts j i at, same_long same)) in
+      let there = part_there j same found.1 in
+      let P : ℕ → Type 0 = λ z. Same rules r d found.0 z env v in
+      (found.0, found.1, subst P (same_some there.1 at) there.2)
 
   get_along : {xs ys : List ExprV} {x : ExprV} (j : ℕ) → xs ≡ ys → slice_get xs j ≡ Some x → slice_get ys j ≡ Some x
   get_along j p at = ap (λ l. slice_get l j) (sym p) ∙ at
-
-  not_two : {xs : List ExprV} {x : ExprV} → 2 ≤ length xs → xs ≡ x ∷ [] → ⊥
-  not_two two one = absurd (omega (arith, two, ap length one))
 
   module _ {bs : BranchesV} {xs : List ExprV} {parts : List ℕ} {env : Env} {v : Values} (kept : Kept rules r bs xs) (two : 2 ≤ length xs) (same : SameEach xs parts env v) where
     choice_to :

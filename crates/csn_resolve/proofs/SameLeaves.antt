@@ -229,43 +229,38 @@ module _ (rules : RulesV) (r : Reading) (d : DescV) where
     spare_here : (s : Symbol) (o : ℕ) (b : List ℕ) → IsSpare d.reading s o b → IsSpare r s o b
     spare_here s o b h = let P : Reading → Type 0 = λ z. IsSpare z s o b in subst P reading h
 
-    spare_bit_to :
-        {s e o : ℕ} {n : List ℕ} {env : Env} {v : Values} {b : List ℕ} {t : TreeV} → n ≡ codes "spare bit"
-        → Means rules r (expr s e (name n)) o env b t → NodeMeans d (Spare symbol.Zero) o v b t
-    spare_bit_to is (means_spare_bit is' one h) = node.means_spare one (spare_there _ _ _ h)
-    spare_bit_to is (means_spare_low is' one h) = cc
-    spare_bit_to is (means_padding is' some h) = cc
-    spare_bit_to {n = n} is (means_name rule at h) = absurd (no_rule rules n rule (ap is_built_in is) at)
+    -- the name of one spare bit, and its symbol
+    pub data IsSpareBit (n : List ℕ) : Symbol → Type 0 where
+      spare_zero : n ≡ codes "spare bit" → IsSpareBit n symbol.Zero
+      spare_one_low : n ≡ codes "spare L" → IsSpareBit n symbol.Low
 
-    spare_bit_from :
-        {s e o : ℕ} {n : List ℕ} {env : Env} {v : Values} {b : List ℕ} {t : TreeV} → n ≡ codes "spare bit"
-        → NodeMeans d (Spare symbol.Zero) o v b t → Means rules r (expr s e (name n)) o env b t
-    spare_bit_from is (node.means_spare one h) = means_spare_bit is one (spare_here _ _ _ h)
+    spare_to :
+        {s e o : ℕ} {n : List ℕ} {q : Symbol} {env : Env} {v : Values} {b : List ℕ} {t : TreeV} → IsSpareBit n q
+        → Means rules r (expr s e (name n)) o env b t → NodeMeans d (Spare q) o v b t
+    spare_to (spare_zero is) (means_spare_bit is' one h) = node.means_spare one (spare_there _ _ _ h)
+    spare_to (spare_zero is) (means_spare_low is' one h) = cc
+    spare_to (spare_zero is) (means_padding is' some h) = cc
+    spare_to {n = n} (spare_zero is) (means_name rule at h) = absurd (no_rule rules n rule (ap is_built_in is) at)
+    spare_to (spare_one_low is) (means_spare_bit is' one h) = cc
+    spare_to (spare_one_low is) (means_spare_low is' one h) = node.means_spare one (spare_there _ _ _ h)
+    spare_to (spare_one_low is) (means_padding is' some h) = cc
+    spare_to {n = n} (spare_one_low is) (means_name rule at h) = absurd (no_rule rules n rule (ap is_built_in is) at)
 
-    pub spare_bit_same :
-        {s e i : ℕ} {n : List ℕ} {env : Env} {v : Values}
-        → n ≡ codes "spare bit" → slice_get d.nodes i ≡ Some (Spare symbol.Zero) → Same (expr s e (name n)) i env v
-    spare_bit_same {n = n} {v = v} is at =
-        leaf_same (Spare symbol.Zero) at (spare_bit_name n is) (λ o b t. (spare_bit_to is, spare_bit_from is)) (spare_begun symbol.Zero v)
+    spare_from :
+        {s e o : ℕ} {n : List ℕ} {q : Symbol} {env : Env} {v : Values} {b : List ℕ} {t : TreeV} → IsSpareBit n q
+        → NodeMeans d (Spare q) o v b t → Means rules r (expr s e (name n)) o env b t
+    spare_from (spare_zero is) (node.means_spare one h) = means_spare_bit is one (spare_here _ _ _ h)
+    spare_from (spare_one_low is) (node.means_spare one h) = means_spare_low is one (spare_here _ _ _ h)
 
-    spare_low_to :
-        {s e o : ℕ} {n : List ℕ} {env : Env} {v : Values} {b : List ℕ} {t : TreeV} → n ≡ codes "spare L"
-        → Means rules r (expr s e (name n)) o env b t → NodeMeans d (Spare symbol.Low) o v b t
-    spare_low_to is (means_spare_bit is' one h) = cc
-    spare_low_to is (means_spare_low is' one h) = node.means_spare one (spare_there _ _ _ h)
-    spare_low_to is (means_padding is' some h) = cc
-    spare_low_to {n = n} is (means_name rule at h) = absurd (no_rule rules n rule (ap is_built_in is) at)
+    spare_named : {n : List ℕ} {q : Symbol} → IsSpareBit n q → is_spare_name n ≡ true
+    spare_named {n} (spare_zero is) = spare_bit_name n is
+    spare_named {n} (spare_one_low is) = spare_low_name n is
 
-    spare_low_from :
-        {s e o : ℕ} {n : List ℕ} {env : Env} {v : Values} {b : List ℕ} {t : TreeV} → n ≡ codes "spare L"
-        → NodeMeans d (Spare symbol.Low) o v b t → Means rules r (expr s e (name n)) o env b t
-    spare_low_from is (node.means_spare one h) = means_spare_low is one (spare_here _ _ _ h)
-
-    pub spare_low_same :
-        {s e i : ℕ} {n : List ℕ} {env : Env} {v : Values}
-        → n ≡ codes "spare L" → slice_get d.nodes i ≡ Some (Spare symbol.Low) → Same (expr s e (name n)) i env v
-    spare_low_same {n = n} {v = v} is at =
-        leaf_same (Spare symbol.Low) at (spare_low_name n is) (λ o b t. (spare_low_to is, spare_low_from is)) (spare_begun symbol.Low v)
+    pub spare_same :
+        {s e i : ℕ} {n : List ℕ} {q : Symbol} {env : Env} {v : Values}
+        → IsSpareBit n q → slice_get d.nodes i ≡ Some (Spare q) → Same (expr s e (name n)) i env v
+    spare_same {q = q} {v = v} is at =
+        leaf_same (Spare q) at (spare_named is) (λ o b t. (spare_to is, spare_from is)) (spare_begun q v)
 
     padding_to :
         {s e o : ℕ} {n : List ℕ} {env : Env} {v : Values} {b : List ℕ} {t : TreeV} → n ≡ codes "spare padding"

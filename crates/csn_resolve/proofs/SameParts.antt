@@ -86,63 +86,48 @@ module _ (rules : RulesV) (r : Reading) (d : DescV) where
   items_follow (same_next here later) (after.parts_later {t = t} b1 b2 joins h others) =
       items_later b1 b2 joins ((here.means _ b1 t).1 h) (items_follow (later b1) others)
 
-  -- ---- sequences
+  -- ---- sequences and truncations
 
-  seq_to :
-      {s e o : ℕ} {xs : ExprsV} {env : Env} {parts : List ℕ} {v : Values} {b : List ℕ} {t : TreeV}
-      → SameItems xs [] env parts v → Means rules r (expr s e (seq xs)) o env b t → NodeMeans d (Seq parts) o v b t
-  seq_to same (means_seq h) = node.means_seq (items_to same h)
+  module _ {xs : ExprsV} {env : Env} {parts : List ℕ} {v : Values} (same : SameItems xs [] env parts v) where
+    seq_to : {s e o : ℕ} {b : List ℕ} {t : TreeV} → Means rules r (expr s e (seq xs)) o env b t → NodeMeans d (Seq parts) o v b t
+    seq_to (means_seq h) = node.means_seq (items_to same h)
 
-  seq_from :
-      {s e o : ℕ} {xs : ExprsV} {env : Env} {parts : List ℕ} {v : Values} {b : List ℕ} {t : TreeV}
-      → SameItems xs [] env parts v → NodeMeans d (Seq parts) o v b t → Means rules r (expr s e (seq xs)) o env b t
-  seq_from same (node.means_seq h) = means_seq (items_from same h)
+    seq_from : {s e o : ℕ} {b : List ℕ} {t : TreeV} → NodeMeans d (Seq parts) o v b t → Means rules r (expr s e (seq xs)) o env b t
+    seq_from (node.means_seq h) = means_seq (items_from same h)
 
-  seq_follows :
-      {s e o : ℕ} {xs : ExprsV} {env : Env} {parts : List ℕ} {v : Values} {b : List ℕ}
-      → SameItems xs [] env parts v → Follow rules r (expr s e (seq xs)) o env b → NodeFollows d (Seq parts) o v b
-  seq_follows same (follows_whole t h) = after.follows_whole t (seq_to same h)
-  seq_follows same (follows_leaf whole rest leaf joins h) = cc
-  seq_follows same (follows_seq full f) = after.follows_seq (parts_follow same f)
+    seq_follows : {s e o : ℕ} {b : List ℕ} → Follow rules r (expr s e (seq xs)) o env b → NodeFollows d (Seq parts) o v b
+    seq_follows (follows_whole t h) = after.follows_whole t (seq_to h)
+    seq_follows (follows_leaf whole rest leaf joins h) = cc
+    seq_follows (follows_seq full f) = after.follows_seq (parts_follow same f)
 
-  seq_followed :
-      {s e o : ℕ} {xs : ExprsV} {env : Env} {parts : List ℕ} {v : Values} {b : List ℕ} → ¬ SomeVoid rules r xs
-      → SameItems xs [] env parts v → NodeFollows d (Seq parts) o v b → Follow rules r (expr s e (seq xs)) o env b
-  seq_followed full same (after.follows_whole t h) = follows_whole t (seq_from same h)
-  seq_followed full same (after.follows_seq f) = follows_seq full (items_follow same f)
+    seq_followed :
+        {s e o : ℕ} {b : List ℕ}
+        → ¬ SomeVoid rules r xs → NodeFollows d (Seq parts) o v b → Follow rules r (expr s e (seq xs)) o env b
+    seq_followed full (after.follows_whole t h) = follows_whole t (seq_from h)
+    seq_followed full (after.follows_seq f) = follows_seq full (items_follow same f)
+
+    cut_to : {s e o : ℕ} {b : List ℕ} {t : TreeV} → Means rules r (expr s e (cut xs)) o env b t → NodeMeans d (Trunc parts) o v b t
+    cut_to (means_cut_all p) = node.means_cut p
+    cut_to (means_cut h) = node.means_trunc (lead_to same h)
+
+    cut_from : {s e o : ℕ} {b : List ℕ} {t : TreeV} → NodeMeans d (Trunc parts) o v b t → Means rules r (expr s e (cut xs)) o env b t
+    cut_from (node.means_cut p) = means_cut_all p
+    cut_from (node.means_trunc h) = means_cut (lead_from same h)
+
+    cut_follows : {s e o : ℕ} {b : List ℕ} → Follow rules r (expr s e (cut xs)) o env b → NodeFollows d (Trunc parts) o v b
+    cut_follows (follows_whole t h) = after.follows_whole t (cut_to h)
+    cut_follows (follows_leaf whole rest leaf joins h) = cc
+    cut_follows (follows_cut f) = after.follows_trunc (parts_follow same f)
+
+    cut_followed : {s e o : ℕ} {b : List ℕ} → NodeFollows d (Trunc parts) o v b → Follow rules r (expr s e (cut xs)) o env b
+    cut_followed (after.follows_whole t h) = follows_whole t (cut_from h)
+    cut_followed (after.follows_trunc f) = follows_cut (items_follow same f)
 
   pub seq_same :
       {s e i : ℕ} {xs : ExprsV} {env : Env} {parts : List ℕ} {v : Values} → ¬ SomeVoid rules r xs
       → SameItems xs [] env parts v → slice_get d.nodes i ≡ Some (Seq parts) → Same rules r d (expr s e (seq xs)) i env v
   seq_same {parts = parts} full same at =
-      node_same rules r d (Seq parts) at (λ o b t. (seq_to same, seq_from same)) (λ o b. (seq_follows same, seq_followed full same))
-
-  -- ---- truncations
-
-  cut_to :
-      {s e o : ℕ} {xs : ExprsV} {env : Env} {parts : List ℕ} {v : Values} {b : List ℕ} {t : TreeV}
-      → SameItems xs [] env parts v → Means rules r (expr s e (cut xs)) o env b t → NodeMeans d (Trunc parts) o v b t
-  cut_to same (means_cut_all p) = node.means_cut p
-  cut_to same (means_cut h) = node.means_trunc (lead_to same h)
-
-  cut_from :
-      {s e o : ℕ} {xs : ExprsV} {env : Env} {parts : List ℕ} {v : Values} {b : List ℕ} {t : TreeV}
-      → SameItems xs [] env parts v → NodeMeans d (Trunc parts) o v b t → Means rules r (expr s e (cut xs)) o env b t
-  cut_from same (node.means_cut p) = means_cut_all p
-  cut_from same (node.means_trunc h) = means_cut (lead_from same h)
-
-  cut_follows :
-      {s e o : ℕ} {xs : ExprsV} {env : Env} {parts : List ℕ} {v : Values} {b : List ℕ}
-      → SameItems xs [] env parts v → Follow rules r (expr s e (cut xs)) o env b → NodeFollows d (Trunc parts) o v b
-  cut_follows same (follows_whole t h) = after.follows_whole t (cut_to same h)
-  cut_follows same (follows_leaf whole rest leaf joins h) = cc
-  cut_follows same (follows_cut f) = after.follows_trunc (parts_follow same f)
-
-  cut_followed :
-      {s e o : ℕ} {xs : ExprsV} {env : Env} {parts : List ℕ} {v : Values} {b : List ℕ}
-      → SameItems xs [] env parts v → NodeFollows d (Trunc parts) o v b → Follow rules r (expr s e (cut xs)) o env b
-  cut_followed same (after.follows_whole t h) = follows_whole t (cut_from same h)
-  cut_followed same (after.follows_trunc f) = follows_cut (items_follow same f)
+      node_same rules r d (Seq parts) at (λ o b t. (seq_to same, seq_from same)) (λ o b. (seq_follows same, seq_followed same full))
 
   pub cut_same :
       {s e i : ℕ} {xs : ExprsV} {env : Env} {parts : List ℕ} {v : Values}

@@ -1,8 +1,9 @@
 -- Labelled items that are seen, with what stands behind their labels and with their nodes: the nodes are among
 -- those that are shown, and where a count may stand on the item, its node is a field of 1 to 16 bits.
 use Rattle.std.proofs.Common.{◌≡◌, ℕ, zero, suc, ◌*◌, ◌≤◌, Bool, true, false, nat_lt, ltb-false, List, [], ◌∷◌, refl, sym, ◌∙◌, ap, subst, arith, Option, Some, None, Contains}
-use Rattle.std.specs.Prelude.{slice_get, if◌then◌else◌, ◌==◌, ◌||◌, IsSomeAnd}
+use Rattle.std.specs.Prelude.{slice_get, if◌then◌else◌, ◌==◌, IsSomeAnd}
 use Rattle.std.specs.Option.{option_map, option_or, option_and_then}
+use Rattle.std.proofs.lemmas.Bool.{or_parts}
 use Rattle.csn_desc.specs.declared.reading.Reading.{Reading}
 use Rattle.csn_desc.specs.declared.node.Count.{Count}
 use Rattle.csn_desc.specs.declared.node.Count.TheVariants.{Counted}
@@ -49,10 +50,6 @@ sizes_of k place p q =
 not_zero : (n : ℕ) → (n == 0) ≡ false → 1 ≤ n
 not_zero zero p = absurd (cc)
 not_zero (suc n) p = omega arith
-
-right_false : (a b : Bool) → (a || b) ≡ false → b ≡ false
-right_false true b p = absurd (cc)
-right_false false b p = p
 
 module _ (all : List Node) where
   -- what is shown is shown behind a part too
@@ -222,7 +219,7 @@ module _ (all : List Node) where
     given_shown shown others {seen = seen} {place = place} same (count_narrow {m = m} {c = c} {label = label} x is narrow p) q =
         let sizes = sizes_of (Linear m label c) place p q in
         linear_shown shown m c x (seen_of seen label) (seen_of others label) (found_shown shown label seen others same) is narrow
-        (not_zero m sizes.0) (ltb-false 65535 c (right_false (nat_lt 255 m) (nat_lt 65535 c) sizes.1))
+        (not_zero m sizes.0) (ltb-false 65535 c ((or_parts (nat_lt 255 m) (nat_lt 65535 c) sizes.1).1))
 
     -- a number exponent that is not refused is a count
     pub count_shown :

@@ -18,7 +18,7 @@ use Rattle.csn_resolve.specs.Why.{Refusal}
 use Rattle.csn_resolve.specs.Gives.{start_of}
 use Rattle.csn_resolve.specs.Steps.{Step}
 use Rattle.csn_resolve.specs.Counts.{Narrow, CountSteps, count_number, count_unknown, count_wide, count_narrow}
-use Rattle.csn_resolve.specs.Walk.{Around, inside, in_turn, putting_in, outermost, behind, is_among, PartLeft, BranchLeft, TurnLeft, left_void, left_full, left_plain, left_error, left_sendable, left_void_turn, left_full_turn, Walk, ItemsWalk, ComponentsWalk, BranchesWalk, RuleWalk, walk_lits, walk_null, walk_bit, walk_octet, walk_field, walk_rest, walk_built_in, walk_undefined, walk_recursive, walk_name, walk_group, walk_labelled, walk_seq, walk_choice, walk_times, walk_many, walk_cut, walk_window, walk_window_behind, walk_no_window, walk_sends, items_end, items_next, components_end, components_next, branches_end, branches_next, rule_plain, rule_tail}
+use Rattle.csn_resolve.specs.Walk.{Around, inside, in_turn, putting_in, outermost, behind, is_among, PartLeft, BranchLeft, TurnLeft, is_refused, is_accepted, left_plain, left_error, left_sendable, Walk, ItemsWalk, ComponentsWalk, BranchesWalk, RuleWalk, walk_lits, walk_null, walk_bit, walk_octet, walk_field, walk_rest, walk_built_in, walk_undefined, walk_recursive, walk_name, walk_group, walk_labelled, walk_seq, walk_choice, walk_times, walk_many, walk_cut, walk_window, walk_window_behind, walk_no_window, walk_sends, items_end, items_next, components_end, components_next, branches_end, branches_next, rule_plain, rule_tail}
 use Rattle.csn_resolve.specs.Resolved.{asked_unknown, asked_rule, AreRefusals}
 use Rattle.csn_resolve.proofs.VoidDecided.{void_decided, some_void_decided}
 use Rattle.csn_resolve.proofs.NarrowDecided.{narrow_decided}
@@ -57,8 +57,8 @@ module _ (rules : RulesV) (r : Reading) where
   part_left x = by (void_decided rules r x)
     where
       by : Void rules r x ⊎ (¬ Void rules r x) → (steps : List Step) × PartLeft rules r x steps
-      by (inl v) = (_, left_void v refl)
-      by (inr full) = (_, left_full full refl)
+      by (inl v) = (_, is_refused v refl)
+      by (inr full) = (_, is_accepted full refl)
 
   branch_left : (error : Bool) (x : ExprV) → (steps : List Step) × BranchLeft rules r error x steps
   branch_left false x = (_, left_plain refl)
@@ -74,8 +74,8 @@ module _ (rules : RulesV) (r : Reading) where
       by :
           SomeVoid rules r tail.items ⊎ (¬ SomeVoid rules r tail.items)
           → (steps : List Step) × TurnLeft rules r tail steps
-      by (inl v) = (_, left_void_turn v refl)
-      by (inr full) = (_, left_full_turn full refl)
+      by (inl v) = (_, is_refused v refl)
+      by (inr full) = (_, is_accepted full refl)
 
   -- a number exponent has its steps
   counted :

@@ -1,6 +1,7 @@
 -- Whether an expression is empty of strings is decided.
 use Rattle.std.proofs.Common.{◌≡◌, ℕ, zero, suc, ◌+◌, ◌≤◌, Bool, true, false, ◌||◌, List, ◌⊎◌, inl, inr, refl, sym, ◌∙◌, ap, arith, codes, Option, Some, None}
 use Rattle.std.specs.Cmp.Lexicographic.{same_text}
+use Rattle.std.proofs.lemmas.Bool.{or_cases, or_left, or_right, and_parts, and_from}
 use Rattle.csn_desc.specs.declared.reading.Reading.{Reading}
 use Rattle.csn_desc.specs.declared.reading.Reading.TheVariants.{Received, Sent}
 use Rattle.csn_grammar.specs.declared.rules.Rule.{Rule}
@@ -10,8 +11,8 @@ use Rattle.csn_grammar.specs.Names.{same_name, rule_of}
 use Rattle.csn_grammar.specs.Forms.{WidthV, WindowV, width_of, window_of}
 use Rattle.csn_grammar.specs.Void.{Void, SomeVoid, AllVoid, void_none, void_name, void_group, void_labelled, void_window, void_seq, void_choice, void_received, void_sent, void_here, void_later, all_end, all_next, all_error}
 use Rattle.csn_resolve.specs.Tests.{window_part, is_void, form_void, some_void, all_void}
-use Rattle.csn_resolve.proofs.Bools.{or_cases, or_wider, or_left, or_right, and_cases, both_true}
-use Rattle.csn_resolve.proofs.Levels.{rule_test, level, decided}
+use Rattle.csn_resolve.proofs.Bools.{or_wider}
+use Rattle.csn_resolve.proofs.Levels.{level, decided, by_reading, side_taken, NamesAre, level_names, rule_test}
 
 part_wider :
     (w v : Option WidthV) (a b c d : Bool) → (a ≡ true → c ≡ true) → (b ≡ true → d ≡ true)
@@ -55,8 +56,8 @@ module _ (h g : List ℕ → Bool) (wide : (n : List ℕ) → h n ≡ true → g
     all_wider : (r : Reading) (bs : BranchesV) → all_void r h bs ≡ true → all_void r g bs ≡ true
     all_wider r no_branch p = refl
     all_wider r (branch false x bs) p =
-        let parts = and_cases (is_void r h x) (all_void r h bs) p in
-        both_true (is_void r g x) (all_void r g bs) (void_wider r x parts.0) (all_wider r bs parts.1)
+        let parts = and_parts (is_void r h x) (all_void r h bs) p in
+        and_from (is_void r g x) (all_void r g bs) (void_wider r x parts.0) (all_wider r bs parts.1)
     all_wider r (branch true x bs) p = all_wider r bs p
 
 -- ---- what the test finds is empty, and what is empty is found
@@ -66,7 +67,7 @@ module _ (rules : RulesV) (r : Reading) where
   voids k = level rules (is_void r) k
 
   abbrev pub Names : (List ℕ → Bool) → Type 0
-  Names h = (n : List ℕ) → h n ≡ true → (rule : Rule) × (rule_of rules n ≡ Some rule) × Void rules r rule.body
+  Names h = NamesAre rules (λ x. Void rules r x) h
 
   by_window :
       (h : List ℕ → Bool) (s e : ℕ) (x y : ExprV) (w v : Option WidthV) → width_of x ≡ w → width_of y ≡ v
@@ -82,13 +83,6 @@ module _ (rules : RulesV) (r : Reading) where
       → (a ≡ true → Void rules r x) → (b ≡ true → SomeVoid rules r xs) → SomeVoid rules r (item x xs)
   in_item x xs (inl p) first later = void_here (first p)
   in_item x xs (inr p) first later = void_later (later p)
-
-  in_sides :
-      (h : List ℕ → Bool) (s e : ℕ) (x y : ExprV) (q : Reading) → r ≡ q → form_void q h (sends x y) ≡ true
-      → (is_void r h x ≡ true → Void rules r x) → (is_void r h y ≡ true → Void rules r y)
-      → Void rules r (expr s e (sends x y))
-  in_sides h s e x y Received is p left right = void_received is (left (ap (λ z. is_void z h x) is ∙ p))
-  in_sides h s e x y Sent is p left right = void_sent is (right (ap (λ z. is_void z h y) is ∙ p))
 
   module _ (h : List ℕ → Bool) (names : Names h) where
     by_name :
@@ -116,7 +110,8 @@ module _ (rules : RulesV) (r : Reading) where
       form_found s e (both x y) p =
           by_window h s e x y (width_of x) (width_of y) refl refl p (λ q. void_found x q) (λ q. void_found y q)
       form_found s e (sends x y) p =
-          in_sides h s e x y r refl p (λ q. void_found x q) (λ q. void_found y q)
+          by_reading r (λ q. form_void q h (sends x y)) p (λ is q. void_received is (void_found x (ap (λ z. is_void z h x) is ∙ q)))
+          (λ is q. void_sent is (void_found y (ap (λ z. is_void z h y) is ∙ q)))
 
       pub some_found : (xs : ExprsV) → some_void r h xs ≡ true → SomeVoid rules r xs
       some_found no_item p = cc
@@ -126,21 +121,13 @@ module _ (rules : RulesV) (r : Reading) where
       pub all_found : (bs : BranchesV) → all_void r h bs ≡ true → AllVoid rules r bs
       all_found no_branch p = all_end
       all_found (branch false x bs) p =
-          let parts = and_cases (is_void r h x) (all_void r h bs) p in
+          let parts = and_parts (is_void r h x) (all_void r h bs) p in
           all_next (void_found x parts.0) (all_found bs parts.1)
       all_found (branch true x bs) p = all_error (all_found bs p)
 
   -- the names of a level have rules that are empty of strings
   names_found : (k : ℕ) → Names (voids k)
-  names_found zero n p = cc
-  names_found (suc k) n p = in_rule (rule_of rules n) refl p (names_found k)
-    where
-      in_rule :
-          (o : Option Rule)
-          → rule_of rules n ≡ o → rule_test rules (is_void r) o (voids k) ≡ true → Names (voids k)
-          → (rule : Rule) × (rule_of rules n ≡ Some rule) × Void rules r rule.body
-      in_rule None at p names = cc
-      in_rule (Some rule) at p names = (rule, at, void_found (voids k) names rule.body p)
+  names_found = level_names rules (is_void r) (λ x. Void rules r x) void_found
 
   -- from some level on, the test finds x
   abbrev Found : ExprV → Type 0
@@ -172,16 +159,6 @@ module _ (rules : RulesV) (r : Reading) where
       → n ≡ codes "no string" → (b : Bool) → (same_name n (codes "no string") || b) ≡ true
   no_string_found n is b = ap (λ z. same_name z (codes "no string") || b) is
 
-  pub found_left :
-      (h : List ℕ → Bool) (x y : ExprV)
-      → r ≡ Received → is_void r h x ≡ true → form_void r h (sends x y) ≡ true
-  found_left h x y is p = ap (λ z. form_void z h (sends x y)) is ∙ (sym (ap (λ z. is_void z h x) is) ∙ p)
-
-  pub found_right :
-      (h : List ℕ → Bool) (x y : ExprV)
-      → r ≡ Sent → is_void r h y ≡ true → form_void r h (sends x y) ≡ true
-  found_right h x y is p = ap (λ z. form_void z h (sends x y)) is ∙ (sym (ap (λ z. is_void z h y) is) ∙ p)
-
   mutual
     void_is_found : {x : ExprV} → Void rules r x → Found x
     void_is_found (void_none {n = n} p) = (0, λ m few. no_string_found n p (voids m n))
@@ -195,9 +172,9 @@ module _ (rules : RulesV) (r : Reading) where
     void_is_found (void_seq v) = let at = some_is_found v in (at.0, at.1)
     void_is_found (void_choice v) = let at = all_is_found v in (at.0, at.1)
     void_is_found (void_received {x = x} {y = y} is v) =
-        let at = void_is_found v in (at.0, λ m few. found_left (voids m) x y is (at.1 m few))
+        let at = void_is_found v in (at.0, λ m few. side_taken (λ z. form_void z (voids m) (sends x y)) (λ z. is_void z (voids m) x) is refl (at.1 m few))
     void_is_found (void_sent {x = x} {y = y} is v) =
-        let at = void_is_found v in (at.0, λ m few. found_right (voids m) x y is (at.1 m few))
+        let at = void_is_found v in (at.0, λ m few. side_taken (λ z. form_void z (voids m) (sends x y)) (λ z. is_void z (voids m) y) is refl (at.1 m few))
 
     some_is_found :
         {xs : ExprsV}
@@ -213,7 +190,7 @@ module _ (rules : RulesV) (r : Reading) where
     all_is_found all_end = (0, λ m few. refl)
     all_is_found (all_next {x = x} {bs = bs} v others) =
         let at = void_is_found v in let later = all_is_found others in
-        (at.0 + later.0, λ m few. both_true (is_void r (voids m) x) (all_void r (voids m) bs) (at.1 m (omega (arith, few))) (later.1 m (omega (arith, few))))
+        (at.0 + later.0, λ m few. and_from (is_void r (voids m) x) (all_void r (voids m) bs) (at.1 m (omega (arith, few))) (later.1 m (omega (arith, few))))
     all_is_found (all_error others) = let later = all_is_found others in (later.0, later.1)
 
   pub void_decided : (x : ExprV) → Void rules r x ⊎ (¬ Void rules r x)

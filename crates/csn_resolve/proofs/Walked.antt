@@ -1,5 +1,5 @@
 -- The walk through an expression has one list of steps, and a named rule one list of refusals.
-use Rattle.std.proofs.Common.{◌≡◌, ℕ, Bool, true, false, List, [], ◌∷◌, sym, ◌∙◌, ap, subst, arith, Option, Some, None}
+use Rattle.std.proofs.Common.{◌≡◌, ℕ, Bool, List, [], ◌∷◌, sym, ◌∙◌, ap, subst, arith, Option, Some, None}
 use Rattle.csn_desc.specs.declared.reading.Reading.{Reading}
 use Rattle.csn_desc.specs.Nodes.{DescV}
 use Rattle.csn_grammar.specs.declared.exponent.Exponent.{Exponent}
@@ -17,11 +17,9 @@ use Rattle.csn_desc.specs.Overfull.{IsFirstOverfull}
 use Rattle.csn_resolve.specs.Resolved.{ResolveSteps, asked_unknown, asked_rule, nodes_of, AreRefusals, IsRefused, refused_on_walk, refused_at_last, IsResolved}
 use Rattle.csn_resolve.specs.Counts.{Narrow, CountSteps, count_number, count_unknown, count_wide, count_narrow}
 use Rattle.csn_resolve.specs.Gives.{Placed, start_of}
-use Rattle.csn_resolve.specs.Walk.{Around, inside, in_turn, putting_in, outermost, PartLeft, BranchLeft, TurnLeft, left_void, left_full, left_plain, left_error, left_sendable, left_void_turn, left_full_turn, Walk, ItemsWalk, ComponentsWalk, BranchesWalk, RuleWalk, walk_lits, walk_null, walk_bit, walk_octet, walk_field, walk_rest, walk_built_in, walk_undefined, walk_recursive, walk_name, walk_group, walk_labelled, walk_seq, walk_choice, walk_times, walk_many, walk_cut, walk_window, walk_window_behind, walk_no_window, walk_sends, items_end, items_next, components_end, components_next, branches_end, branches_next, rule_plain, rule_tail}
+use Rattle.csn_resolve.specs.Walk.{Around, inside, in_turn, putting_in, outermost, PartLeft, BranchLeft, TurnLeft, is_refused, is_accepted, left_plain, left_error, left_sendable, Walk, ItemsWalk, ComponentsWalk, BranchesWalk, RuleWalk, walk_lits, walk_null, walk_bit, walk_octet, walk_field, walk_rest, walk_built_in, walk_undefined, walk_recursive, walk_name, walk_group, walk_labelled, walk_seq, walk_choice, walk_times, walk_many, walk_cut, walk_window, walk_window_behind, walk_no_window, walk_sends, items_end, items_next, components_end, components_next, branches_end, branches_next, rule_plain, rule_tail, Refuses}
 use Rattle.csn_resolve.proofs.Once.{same_tail, name_once}
-
-no_both : {b : Bool} → b ≡ true → b ≡ false → ⊥
-no_both p q = cc
+use Rattle.csn_resolve.proofs.Bools.{no_both}
 
 no_none : {o : Option Rule} {rule : Rule} → o ≡ Some rule → o ≡ None → ⊥
 no_none p q = cc
@@ -51,6 +49,12 @@ same_first :
     → (why ≡ other_why) × (place ≡ other_place)
 same_first p = let same = same_head p in (ap (λ z. z.why) same, ap (λ z. z.place) same)
 
+refuses_once : {P : Type 0} {why : Why} {place : ℕ} {steps others : List Step} → Refuses P why place steps → Refuses P why place others → steps ≡ others
+refuses_once (is_refused h p) (is_refused g q) = cc
+refuses_once (is_refused h p) (is_accepted none q) = absurd (none h)
+refuses_once (is_accepted none p) (is_refused g q) = absurd (none g)
+refuses_once (is_accepted none p) (is_accepted other q) = cc
+
 module _ (rules : RulesV) (r : Reading) where
   count_once :
       {seen : Seen ExprV} {place : ℕ} {k : Exponent} {steps others : List Step}
@@ -70,14 +74,6 @@ module _ (rules : RulesV) (r : Reading) where
       absurd (wide (subst P (same_seen seen label is is') narrow))
   count_once (count_narrow x is narrow p) (count_narrow y is' narrow' q) = cc
 
-  pub part_left_once :
-      {x : ExprV} {steps others : List Step}
-      → PartLeft rules r x steps → PartLeft rules r x others → steps ≡ others
-  part_left_once (left_void v p) (left_void v' q) = cc
-  part_left_once (left_void v p) (left_full full q) = absurd (full v)
-  part_left_once (left_full full p) (left_void v q) = absurd (full v)
-  part_left_once (left_full full p) (left_full full' q) = cc
-
   branch_left_once :
       {error : Bool} {x : ExprV} {steps others : List Step}
       → BranchLeft rules r error x steps → BranchLeft rules r error x others → steps ≡ others
@@ -86,14 +82,6 @@ module _ (rules : RulesV) (r : Reading) where
   branch_left_once (left_error v p) (left_sendable full q) = absurd (full v)
   branch_left_once (left_sendable full p) (left_error v q) = absurd (full v)
   branch_left_once (left_sendable full p) (left_sendable full' q) = cc
-
-  turn_left_once :
-      {tail : TailV} {steps others : List Step}
-      → TurnLeft rules r tail steps → TurnLeft rules r tail others → steps ≡ others
-  turn_left_once (left_void_turn v p) (left_void_turn v' q) = cc
-  turn_left_once (left_void_turn v p) (left_full_turn full q) = absurd (full v)
-  turn_left_once (left_full_turn full p) (left_void_turn v q) = absurd (full v)
-  turn_left_once (left_full_turn full p) (left_full_turn full' q) = cc
 
   mutual
     pub walk_once :
@@ -114,13 +102,13 @@ module _ (rules : RulesV) (r : Reading) where
     walk_once (walk_times none c h left p) (walk_field unit d q) = cc
     walk_once (walk_times none c h left p) (walk_rest is q) = elim c [ ]
     walk_once (walk_times none c h left p) (walk_times none' d g left' q) =
-        let counts = count_once c d in let inner = walk_once h g in let lefts = part_left_once left left' in cc
+        let counts = count_once c d in let inner = walk_once h g in let lefts = refuses_once left left' in cc
     walk_once (walk_times none c h left p) (walk_many not g left' q) = elim c [ ]
     walk_once (walk_many not h left p) (walk_field unit d q) = elim d [ ]
     walk_once (walk_many not h left p) (walk_rest is q) = absurd (no_both is not)
     walk_once (walk_many not h left p) (walk_times none d g left' q) = elim d [ ]
     walk_once (walk_many not h left p) (walk_many not' g left' q) =
-        let inner = walk_once h g in let lefts = part_left_once left left' in cc
+        let inner = walk_once h g in let lefts = refuses_once left left' in cc
     walk_once (walk_built_in is p) (walk_built_in is' q) = p ∙ sym q
     walk_once (walk_built_in is p) (walk_undefined not none q) = absurd (no_both is not)
     walk_once (walk_built_in {n = n} is p) (walk_recursive rule at among q) = absurd (no_rule rules n rule is at)
@@ -172,7 +160,7 @@ module _ (rules : RulesV) (r : Reading) where
         → ComponentsWalk rules r a frame xs steps → ComponentsWalk rules r a frame xs others → steps ≡ others
     components_walk_once (components_end p) (components_end q) = p ∙ sym q
     components_walk_once (components_next h left more p) (components_next g left' gmore q) =
-        let first = walk_once h g in let lefts = part_left_once left left' in
+        let first = walk_once h g in let lefts = refuses_once left left' in
         let rest = components_walk_once more gmore in cc
 
     branches_walk_once :
@@ -196,7 +184,7 @@ module _ (rules : RulesV) (r : Reading) where
         let Left : TailV → Type 0 = λ z. TurnLeft rules r z lefts in
         let first = items_walk_once i (subst Items same i') in
         let second = items_walk_once t (subst Turn same t') in
-        let third = turn_left_once left (subst Left same left') in
+        let third = refuses_once left (subst Left same left') in
         cc
 
   steps_once :
@@ -210,7 +198,7 @@ module _ (rules : RulesV) (r : Reading) where
       let Walks : Rule → Type 0 = λ z. RuleWalk rules r (outermost n) z walk in
       let Left : Rule → Type 0 = λ z. PartLeft rules r z.body lefts in
       let first = rule_walk_once h (subst Walks same g) in
-      let second = part_left_once left (subst Left same left') in
+      let second = refuses_once left (subst Left same left') in
       cc
 
   -- a description has one first field with 64 such fields before it

@@ -1,14 +1,11 @@
 -- The width of a field or a window, the side of a window that is its part, and what is one of two.
-use Rattle.std.proofs.Common.{◌≡◌, ℕ, Bool, true, false, List, [], ◌∷◌, inl, inr, sym, ap, subst, Option, Some, None}
+use Rattle.std.proofs.Common.{◌≡◌, ℕ, List, [], ◌∷◌, inl, inr, sym, ap, subst, Option, Some, None}
 use Rattle.std.specs.Option.{option_map}
 use Rattle.csn_desc.specs.Formed.{IsUnit}
 use Rattle.csn_grammar.specs.declared.exponent.Exponent.{Exponent}
 use Rattle.csn_grammar.specs.declared.exponent.Exponent.TheVariants.{Any, Number, Linear}
 use Rattle.csn_grammar.specs.ExprV.{ExprV, expr, bit, octet, power}
 use Rattle.csn_grammar.specs.Forms.{unit_of, WidthV, width_of, window_of}
-
-pub no_both : {b : Bool} → b ≡ true → b ≡ false → ⊥
-no_both p q = cc
 
 pub only_is : {x y : ExprV} {xs : List ExprV} → x ∷ xs ≡ y ∷ [] → x ≡ y
 only_is p = cc

@@ -66,15 +66,32 @@ pub record IsOverfullAt (nodes : List Placed) (why : Why) (place : ℕ) : Type 0
   pub here : slice_get nodes number ≡ Some field
   pub at : place ≡ field.place
 
+-- a walk meets no refusal where `names` names or more are put in round it
+pub record IsQuiet (names : ℕ) (Walks : Around → List Step → Type 0) : Type 0 where
+  pub around : Around
+  pub steps : List Step
+  pub walk : Walks around steps
+  pub quiet : Quiet steps
+  pub below : names ≤ around.depth
+  pub shallow : around.depth ≤ 64
+
+-- nodes are given of which G holds, and there is room for them behind the first `at`
+abbrev pub Few : ℕ → (List Placed → Type 0) → Type 0
+Few at G = (nodes : List Placed) × G nodes × (at + length nodes ≤ 16384)
+
+-- the nodes that are given were added to those before
+abbrev pub AddsGiven : (List Placed → Type 0) → List Placed → List Placed → Type 0
+AddsGiven G before after = (nodes : List Placed) → G nodes → after ≡ before ++ nodes
+
+-- and the numbers of parts to those before
+abbrev pub AddsParts : (List ℕ → List Placed → Type 0) → List ℕ → List ℕ → List Placed → List Placed → Type 0
+AddsParts G parts_before parts_after before after =
+    (parts : List ℕ) (nodes : List Placed)
+    → G parts nodes → (parts_after ≡ parts_before ++ parts) × (after ≡ before ++ nodes)
+
 module _ (rules : RulesV) (r : Reading) where
-  -- the walk through x meets no refusal where `names` names or more are put in round it
-  pub record QuietAt (names : ℕ) (x : ExprV) : Type 0 where
-    pub around : Around
-    pub steps : List Step
-    pub walk : Walk rules r around x steps
-    pub quiet : Quiet steps
-    pub below : names ≤ around.depth
-    pub shallow : around.depth ≤ 64
+  abbrev pub QuietAt : ℕ → ExprV → Type 0
+  QuietAt names x = IsQuiet names (λ a steps. Walk rules r a x steps)
 
   abbrev pub AllQuiet : ℕ → List ExprV → Type 0
   AllQuiet names [] = ⊤
@@ -85,13 +102,8 @@ module _ (rules : RulesV) (r : Reading) where
   BranchesQuiet names (b ∷ bs) = QuietAt names b.body × BranchesQuiet names bs
 
   -- the same of what a rule says
-  pub record RuleQuiet (names : ℕ) (rule : Rule) : Type 0 where
-    pub around : Around
-    pub steps : List Step
-    pub walk : RuleWalk rules r around rule steps
-    pub quiet : Quiet steps
-    pub below : names ≤ around.depth
-    pub shallow : around.depth ≤ 64
+  abbrev pub RuleQuiet : ℕ → Rule → Type 0
+  RuleQuiet names rule = IsQuiet names (λ a steps. RuleWalk rules r a rule steps)
 
   -- an alternative is kept
   pub record IsKept (b : BranchV) : Type 0 where
@@ -108,24 +120,20 @@ module _ (rules : RulesV) (r : Reading) where
         ∷ placed (Lits tail.end.again.run) tail.end.again.at
         ∷ turn
 
-  -- ---- nodes are given, and there is room for them behind the first `at`
+  -- ---- nodes are given, and there is room for them
 
   abbrev pub GivesFew : ExprV → ℕ → Seen ℕ → Type 0
-  GivesFew x at seen = (nodes : List Placed) × Gives rules r x at seen nodes × (at + length nodes ≤ 16384)
+  GivesFew x at seen = Few at (Gives rules r x at seen)
 
   abbrev pub ItemsGiveFew : List ExprV → ℕ → Seen ℕ → Type 0
-  ItemsGiveFew xs at seen =
-      (parts : List ℕ) × (nodes : List Placed) × ItemsGive rules r (exprs_of xs) at [] seen parts nodes
-      × (at + length nodes ≤ 16384)
+  ItemsGiveFew xs at seen = (parts : List ℕ) × Few at (ItemsGive rules r (exprs_of xs) at [] seen parts)
 
   abbrev pub KeptGiveFew : List BranchV → ℕ → Seen ℕ → Type 0
   KeptGiveFew bs at seen =
-      (xs : List ExprV) × (parts : List ℕ) × (nodes : List Placed) × Kept rules r (branches_of bs) xs
-      × EachGives rules r xs at seen parts nodes × (at + length nodes ≤ 16384)
+      (xs : List ExprV) × Kept rules r (branches_of bs) xs × (parts : List ℕ) × Few at (EachGives rules r xs at seen parts)
 
   abbrev pub RuleGivesFew : Rule → ℕ → Seen ℕ → Type 0
-  RuleGivesFew rule at seen =
-      (nodes : List Placed) × RuleGives rules r rule at seen nodes × (at + length nodes ≤ 16384)
+  RuleGivesFew rule at seen = Few at (RuleGives rules r rule at seen)
 
   -- of a rule in this tail form, whose items begin at this place
   abbrev pub TailGivesFew : ℕ → TailV → ℕ → Seen ℕ → Type 0
@@ -133,34 +141,28 @@ module _ (rules : RulesV) (r : Reading) where
       (rule : Rule) × (tail_of rule ≡ Some tail) × (start_of rule.body ≡ place) × RuleGivesFew rule at seen
 
   abbrev pub TurnGivesFew : TailV → ℕ → Seen ℕ → Type 0
-  TurnGivesFew tail many seen =
-      (nodes : List Placed) × TurnGives tail many seen nodes × (many + length nodes ≤ 16384)
+  TurnGivesFew tail many seen = Few many (TurnGives tail many seen)
 
-  -- ---- the nodes that are given were added to those before, and the numbers of parts to those before
+  -- ---- nodes are added
 
   abbrev pub Adds : ExprV → Seen ℕ → List Placed → List Placed → Type 0
-  Adds x seen before after =
-      (nodes : List Placed) → Gives rules r x (length before) seen nodes → after ≡ before ++ nodes
+  Adds x seen before after = AddsGiven (Gives rules r x (length before) seen) before after
 
   abbrev pub AddsItems : List ExprV → Seen ℕ → List ℕ → List ℕ → List Placed → List Placed → Type 0
   AddsItems xs seen parts_before parts_after before after =
-      (parts : List ℕ) (nodes : List Placed) → ItemsGive rules r (exprs_of xs) (length before) [] seen parts nodes
-      → (parts_after ≡ parts_before ++ parts) × (after ≡ before ++ nodes)
+      AddsParts (ItemsGive rules r (exprs_of xs) (length before) [] seen) parts_before parts_after before after
 
   abbrev pub AddsKept : List BranchV → Seen ℕ → List ℕ → List ℕ → List Placed → List Placed → Type 0
   AddsKept bs seen parts_before parts_after before after =
-      (xs : List ExprV) (parts : List ℕ) (nodes : List Placed)
-      → Kept rules r (branches_of bs) xs → EachGives rules r xs (length before) seen parts nodes
-      → (parts_after ≡ parts_before ++ parts) × (after ≡ before ++ nodes)
+      (xs : List ExprV) → Kept rules r (branches_of bs) xs
+      → AddsParts (EachGives rules r xs (length before) seen) parts_before parts_after before after
 
   abbrev pub AddsRule : Rule → Seen ℕ → List Placed → List Placed → Type 0
-  AddsRule rule seen before after =
-      (nodes : List Placed) → RuleGives rules r rule (length before) seen nodes → after ≡ before ++ nodes
+  AddsRule rule seen before after = AddsGiven (RuleGives rules r rule (length before) seen) before after
 
   abbrev pub AddsTail : ℕ → TailV → Seen ℕ → List Placed → List Placed → Type 0
   AddsTail place tail seen before after =
       (rule : Rule) → tail_of rule ≡ Some tail → start_of rule.body ≡ place → AddsRule rule seen before after
 
   abbrev pub AddsTurn : TailV → Seen ℕ → List Placed → List Placed → Type 0
-  AddsTurn tail seen before after =
-      (nodes : List Placed) → TurnGives tail (length before) seen nodes → after ≡ before ++ nodes
+  AddsTurn tail seen before after = AddsGiven (TurnGives tail (length before) seen) before after

@@ -18,6 +18,7 @@ use Rattle.csn_grammar.specs.Forms.{unit_of, is_bit, WidthV, width_of}
 use Rattle.csn_grammar.specs.Environment.{label_of}
 use Rattle.csn_grammar.specs.TailForm.{EndV, TailV, tail_of}
 use Rattle.csn_grammar.specs.Void.{Void, SomeVoid}
+use Rattle.csn_resolve.specs.declared.why.Why.{Why}
 use Rattle.csn_resolve.specs.declared.why.Why.TheVariants.{Undefined, Recursive, IntersectionForm, ErrorBranchForm, NoString, TooDeep}
 use Rattle.csn_resolve.specs.Seen.{Frame, Seen, with_labelled, inner_of}
 use Rattle.csn_resolve.specs.Gives.{start_of}
@@ -68,13 +69,15 @@ turn_begun a end =
     node_at a end.braces
     ++ (entering (inside a) end.braces ++ (node_at (inside (inside a)) end.again.at ++ node_at (in_turn a) end.again.at))
 
+-- one refusal, where P holds
+pub data Refuses (P : Type 0) (why : Why) (place : ℕ) : List Step → Type 0 where
+  is_refused : {steps : List Step} → P → steps ≡ refused why place ∷ [] → Refuses P why place steps
+  is_accepted : {steps : List Step} → ¬ P → steps ≡ [] → Refuses P why place steps
+
 module _ (rules : RulesV) (r : Reading) where
   -- on leaving a part that must not be empty of strings
-  pub data PartLeft : ExprV → List Step → Type 0 where
-    left_void :
-        {x : ExprV} {steps : List Step}
-        → Void rules r x → steps ≡ refused NoString (start_of x) ∷ [] → PartLeft x steps
-    left_full : {x : ExprV} {steps : List Step} → ¬ Void rules r x → steps ≡ [] → PartLeft x steps
+  abbrev pub PartLeft : ExprV → List Step → Type 0
+  PartLeft x steps = Refuses (Void rules r x) NoString (start_of x) steps
 
   -- on leaving an alternative: one behind `!` is empty of strings for a sender, whatever the reading is
   pub data BranchLeft : Bool → ExprV → List Step → Type 0 where
@@ -85,13 +88,8 @@ module _ (rules : RulesV) (r : Reading) where
         → ¬ Void rules Sent x → steps ≡ refused ErrorBranchForm (start_of x) ∷ [] → BranchLeft true x steps
 
   -- on leaving the braces that are repeated in a rule in tail form
-  pub data TurnLeft : TailV → List Step → Type 0 where
-    left_void_turn :
-        {tail : TailV} {steps : List Step}
-        → SomeVoid rules r tail.items → steps ≡ refused NoString tail.end.braces ∷ [] → TurnLeft tail steps
-    left_full_turn :
-        {tail : TailV} {steps : List Step}
-        → ¬ SomeVoid rules r tail.items → steps ≡ [] → TurnLeft tail steps
+  abbrev pub TurnLeft : TailV → List Step → Type 0
+  TurnLeft tail steps = Refuses (SomeVoid rules r tail.items) NoString tail.end.braces steps
 
   mutual
     -- the expression x gives these steps

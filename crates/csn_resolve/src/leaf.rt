@@ -1,23 +1,28 @@
-ghost use Rattle.std.specs.Prelude.{◌≡◌, codes, IfOk};
+ghost use Rattle.std.specs.Prelude.{◌≡◌, true, IfOk};
 ghost use Rattle.csn_desc.specs.declared.symbol.Symbol.TheVariants as symbol;
 ghost use Rattle.csn_desc.specs.declared.node.Node.TheVariants as node;
+ghost use Rattle.csn_grammar.specs.declared.built_in.BuiltIn.TheVariants as built_in;
+ghost use Rattle.csn_grammar.specs.Names.{name_of, is_built_in};
 
 use csn_bits::NoMemory;
 use csn_desc::{Node, Run, Symbol};
+use csn_grammar::BuiltIn;
 use std::alloc::Global;
 
 /// The node of a spare part, by its name.
 pub(crate) fn spare_node(name: &[u8]) -> Node
-    ensures bit { name.now ≡ codes "spare bit" → result ≡ node.Spare symbol.Zero }
-    ensures low { name.now ≡ codes "spare L" → result ≡ node.Spare symbol.Low }
-    ensures padding { name.now ≡ codes "spare padding" → result ≡ node.Pad }
+    requires built_in { is_built_in name.now ≡ true }
+    requires spare { ¬ (name.now ≡ name_of built_in.NoString) }
+    ensures bit { name.now ≡ name_of built_in.SpareBit → result ≡ node.Spare symbol.Zero }
+    ensures low { name.now ≡ name_of built_in.SpareLow → result ≡ node.Spare symbol.Low }
+    ensures padding { name.now ≡ name_of built_in.SparePadding → result ≡ node.Pad }
 {
-    if b"spare bit".as_slice() == name {
-        Node::Spare(Symbol::Zero)
-    } else if b"spare L".as_slice() == name {
-        Node::Spare(Symbol::Low)
-    } else {
-        Node::Pad
+    match BuiltIn::of(name) {
+        Some(BuiltIn::SpareBit) => Node::Spare(Symbol::Zero),
+        Some(BuiltIn::SpareLow) => Node::Spare(Symbol::Low),
+        Some(BuiltIn::SparePadding) => Node::Pad,
+        Some(BuiltIn::NoString) => unreachable!(),
+        None => unreachable!(),
     }
 }
 

@@ -6,7 +6,7 @@ ghost use Rattle.csn_resolve.specs.Numbers.{number_in};
 
 use crate::fault::ResolveFault;
 use crate::why::Why;
-use csn_grammar::{Rule, Rules};
+use csn_grammar::{BuiltIn, Rule, Rules};
 use indexmap::IndexSet;
 use std::alloc::Global;
 use std::marker::Model;
@@ -15,10 +15,7 @@ use std::marker::Model;
 pub(crate) fn is_built_in(name: &[u8]) -> bool
     ensures { result ≡ is_built_in name.now }
 {
-    b"spare bit".as_slice() == name
-        || b"spare L".as_slice() == name
-        || b"spare padding".as_slice() == name
-        || b"no string".as_slice() == name
+    BuiltIn::of(name).is_some()
 }
 
 /// The rules of a description by their names, of which no two are the same and none is built in. A

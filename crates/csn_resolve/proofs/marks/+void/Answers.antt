@@ -1,10 +1,11 @@
 use Rattle.std.proofs.Common.{◌≡◌, false, sym, ◌∙◌, ap, arith, rules}
+use Rattle.std.proofs.lemmas.Bool.{both_ways}
 use Rattle.csn_grammar.specs.ExprV.{BranchV}
 use Rattle.csn_grammar.specs.ExprCode.{expr_size}
 use Rattle.csn_resolve.specs.Tests.{is_void}
 use Rattle.csn_resolve.specs.Marked.{marked}
 use Rattle.csn_resolve.proofs.Parts.{item_size, branch_size_of}
-use Rattle.csn_resolve.proofs.MarkFacts.{some-next, some-here, all-next, all-not, both_ways}
+use Rattle.csn_resolve.proofs.MarkFacts.{some-next, some-here, all-next, all-not}
 use Rattle.csn_resolve.proofs.marks.+void.Goals.{all_void-else-not-branch-via-then-not-branch+else-not-is_void, all_void-else-not-branch-via-else-not-branch}
 use Rattle.csn_resolve.proofs.marks.+void.Goals as goal
 
@@ -40,5 +41,5 @@ all_void-loop-at-preserved t c =
           (λ p. ap (λ (b : BranchV). is_void c.args.reading (marked c.args.names.now c.args.marks.now) b.body) (sym c.branch.view_is) ∙ (sym w.is_void.ensures ∙ w.if-not-is_void.false))
       | all_void-else-not-branch-via-else-not-branch w ↦
           c.loop-at.invariant ∙ all-next c.args.reading (marked c.args.names.now c.args.marks.now) c.args.branches.now c.loop-at.at c.get-branch.result.now c.get-branch.ensures
-          (λ p. absurd (both_ways (ap (λ (b : BranchV). b.error) c.branch.view_is ∙ p) w.if-not-branch.false))
+          (λ p. absurd (both_ways _ (ap (λ (b : BranchV). b.error) c.branch.view_is ∙ p) w.if-not-branch.false))
     ]

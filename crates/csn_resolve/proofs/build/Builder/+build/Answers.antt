@@ -1,11 +1,12 @@
 use Rattle.std.proofs.Common.{◌≡◌, ◌<◌, ◌+◌, ℕ, true, false, List, [], ◌∷◌, ◌++◌, Some, None, take, drop, length, max, refl, sym, ◌∙◌, ap, subst, take_all, append_assoc, length-append, rules, arith}
 use Rattle.std.proofs.lemmas.List.{drop_all}
+use Rattle.std.proofs.lemmas.Bool.{both_ways}
 use Rattle.std.specs.Prelude.{slice_get}
-use Rattle.csn_desc.specs.declared.node.Node.TheVariants.{Lits, Named}
-use Rattle.csn_grammar.specs.ExprV.{ExprV, BranchV, expr, power, both}
+use Rattle.csn_desc.specs.declared.node.Node.TheVariants.{Lits, Named, Seq, Trunc}
+use Rattle.csn_grammar.specs.ExprV.{ExprV, BranchV, expr, power, both, exprs_of}
 use Rattle.csn_grammar.specs.declared.exponent.Exponent.TheVariants.{Any}
 use Rattle.csn_grammar.specs.ExprCode.{expr_size, list_size, branch_list_size}
-use Rattle.csn_grammar.specs.Names.{rule_of}
+use Rattle.csn_grammar.specs.Names.{rule_of, is_built_in}
 use Rattle.csn_grammar.specs.Forms.{unit_of, is_bit, width_of, WindowV}
 use Rattle.csn_grammar.specs.TailForm.{tail_of}
 use Rattle.csn_resolve.specs.declared.shown.Shown as s
@@ -14,15 +15,14 @@ use Rattle.csn_grammar.specs.Environment.{label_of}
 use Rattle.csn_resolve.specs.Gives.{placed}
 use Rattle.csn_resolve.specs.Views.{width_view, tail_view}
 use Rattle.csn_resolve.specs.Made.{frame_before, shown_view, AllQuiet, GivesFew, ItemsGiveFew, Adds, AddsItems, AddsKept}
-use Rattle.csn_resolve.proofs.Parts.{item_size, branch_size_of, take_get, take_short, drop_at}
-use Rattle.csn_resolve.proofs.LeastFacts.{get_within}
+use Rattle.csn_resolve.proofs.Parts.{item_size, branch_size_of, take_get, take_short, drop_at, get_within}
 use Rattle.csn_resolve.proofs.DepthFacts.{in_deepest, entered}
 use Rattle.csn_resolve.proofs.ViewFacts.{known}
-use Rattle.csn_resolve.proofs.MarkFacts.{both_ways}
 use Rattle.csn_resolve.proofs.MadeFacts.{shown-Behind, frame-push, no-nodes, not-bit}
 use Rattle.csn_resolve.proofs.QuietFacts.{quiet-as, quiet-labelled, quiet-group, quiet-left, quiet-right, quiet-seq, quiet-cut, quiet-choice, quiet-count, quiet-times, quiet-many, quiet-window, quiet-behind, quiet-name, quiet-plain, quiet-tail, quiet-at, quiet-branch}
-use Rattle.csn_resolve.proofs.AddFacts.{on-ok, adds-as, few-as, room, adds-lits, adds-null, adds-bit, adds-octet, adds-group, few-group, adds-received, adds-sent, few-received, few-sent, adds-name, few-name, adds-spare, adds-labelled, few-labelled, adds-rest, adds-many, few-many, adds-field, adds-times, few-times, counted-given, left-window, right-window, adds-window, few-window, window-count, some-window, adds-seq, adds-cut, few-seq, few-cut, adds-only, few-only, adds-choice, few-choice, adds-plain, few-plain}
+use Rattle.csn_resolve.proofs.AddFacts.{on-ok, adds-as, few-as, room, adds-lits, adds-null, adds-bit, adds-octet, adds-group, few-group, adds-received, adds-sent, few-received, few-sent, adds-name, few-name, adds-spare, adds-labelled, few-labelled, adds-rest, adds-many, few-many, adds-field, adds-times, few-times, counted-given, adds-window, few-window, window-count, some-window, adds-only, few-only, adds-choice, few-choice, adds-plain, few-plain, seq-gives, cut-gives, adds-row, few-row, spare-named}
 use Rattle.csn_resolve.proofs.BuildFacts.{ItemsLeft, items-begin, items-next, items-few, items-done, parts-room, kept-more, kept-past, kept-few, kept-done, kept-quiet, tail-few, tail-items, items-in, turn-few, parts-fit, stop-room, adds-tail, turn-items, adds-turn, items-longer, kept-longer, tail-longer}
+use Rattle.csn_resolve.proofs.Windows.{left_window, right_window}
 use Rattle.csn_resolve.proofs.build.Builder.+build.Goals as goal
 
 pub build-build_name-requires : goal.build-build_name-requires
@@ -63,7 +63,7 @@ build-build_items-requires t c =
     let all : c.in-Seq.items ≡ take c.len.result c.in-Seq.items = sym (take_all c.len.result c.in-Seq.items (omega (arith, c.len.ensures.len))) in
     let P : List ExprV → Type 0 = λ l. AllQuiet c.args.self.now.names.now c.args.self.now.reading c.args.round.names l in
     let Q : List ExprV → Type 0 = λ l. ItemsGiveFew c.args.self.now.names.now c.args.self.now.reading l (length c.push-in-Seq.new.self) (shown_view c.args.self.now.reading c.args.round.shown.now) in
-    (omega (arith, size, c.decreases), (omega (arith, c.len.ensures.len), (subst P all (quiet-seq c.args.self.now.names.now c.args.self.now.reading c.in-Seq.items (quiet-as c.args.self.now.names.now c.args.self.now.reading is c.requires.quiet)), (subst Q all (few-seq c.args.self.now.names.now c.args.self.now.reading c.in-Seq.items c.args.made.now c.push-in-Seq.new.self _ c.in_ok-push-in-Seq.ensures (few-as c.args.self.now.names.now c.args.self.now.reading is c.requires.gives)), omega (arith, ap length c.new-parts.ensures)))))
+    (omega (arith, size, c.decreases), (omega (arith, c.len.ensures.len), (subst P all (quiet-seq c.args.self.now.names.now c.args.self.now.reading c.in-Seq.items (quiet-as c.args.self.now.names.now c.args.self.now.reading is c.requires.quiet)), (subst Q all (few-row c.args.self.now.names.now c.args.self.now.reading Seq c.in-Seq.items (seq-gives c.args.self.now.names.now c.args.self.now.reading (exprs_of c.in-Seq.items)) c.args.made.now c.push-in-Seq.new.self _ c.in_ok-push-in-Seq.ensures (few-as c.args.self.now.names.now c.args.self.now.reading is c.requires.gives)), omega (arith, ap length c.new-parts.ensures)))))
 
 pub build-build_items-requires-in-Cut : goal.build-build_items-requires-in-Cut
 build-build_items-requires-in-Cut t c =
@@ -72,14 +72,14 @@ build-build_items-requires-in-Cut t c =
     let all : c.in-Cut.items ≡ take c.len-in-Cut.result c.in-Cut.items = sym (take_all c.len-in-Cut.result c.in-Cut.items (omega (arith, c.len-in-Cut.ensures.len))) in
     let P : List ExprV → Type 0 = λ l. AllQuiet c.args.self.now.names.now c.args.self.now.reading c.args.round.names l in
     let Q : List ExprV → Type 0 = λ l. ItemsGiveFew c.args.self.now.names.now c.args.self.now.reading l (length c.push-in-Cut.new.self) (shown_view c.args.self.now.reading c.args.round.shown.now) in
-    (omega (arith, size, c.decreases), (omega (arith, c.len-in-Cut.ensures.len), (subst P all (quiet-cut c.args.self.now.names.now c.args.self.now.reading c.in-Cut.items (quiet-as c.args.self.now.names.now c.args.self.now.reading is c.requires.quiet)), (subst Q all (few-cut c.args.self.now.names.now c.args.self.now.reading c.in-Cut.items c.args.made.now c.push-in-Cut.new.self _ c.in_ok-push-in-Cut.ensures (few-as c.args.self.now.names.now c.args.self.now.reading is c.requires.gives)), omega (arith, ap length c.new-parts-in-Cut.ensures)))))
+    (omega (arith, size, c.decreases), (omega (arith, c.len-in-Cut.ensures.len), (subst P all (quiet-cut c.args.self.now.names.now c.args.self.now.reading c.in-Cut.items (quiet-as c.args.self.now.names.now c.args.self.now.reading is c.requires.quiet)), (subst Q all (few-row c.args.self.now.names.now c.args.self.now.reading Trunc c.in-Cut.items (cut-gives c.args.self.now.names.now c.args.self.now.reading (exprs_of c.in-Cut.items)) c.args.made.now c.push-in-Cut.new.self _ c.in_ok-push-in-Cut.ensures (few-as c.args.self.now.names.now c.args.self.now.reading is c.requires.gives)), omega (arith, ap length c.new-parts-in-Cut.ensures)))))
 
 pub build-set-requires : goal.build-set-requires
 build-set-requires t c =
     let is = known c.args.x.now c.x.inside.span c.x.inside.form _ c.x.view_is c.in-Seq.is in
     let all : c.in-Seq.items ≡ take c.len.result c.in-Seq.items = sym (take_all c.len.result c.in-Seq.items (omega (arith, c.len.ensures.len))) in
     let Q : List ExprV → Type 0 = λ l. ItemsGiveFew c.args.self.now.names.now c.args.self.now.reading l (length c.push-in-Seq.new.self) (shown_view c.args.self.now.reading c.args.round.shown.now) in
-    let few = subst Q all (few-seq c.args.self.now.names.now c.args.self.now.reading c.in-Seq.items c.args.made.now c.push-in-Seq.new.self _ c.in_ok-push-in-Seq.ensures (few-as c.args.self.now.names.now c.args.self.now.reading is c.requires.gives)) in
+    let few = subst Q all (few-row c.args.self.now.names.now c.args.self.now.reading Seq c.in-Seq.items (seq-gives c.args.self.now.names.now c.args.self.now.reading (exprs_of c.in-Seq.items)) c.args.made.now c.push-in-Seq.new.self _ c.in_ok-push-in-Seq.ensures (few-as c.args.self.now.names.now c.args.self.now.reading is c.requires.gives)) in
     let longer = items-longer c.args.self.now.names.now c.args.self.now.reading (take c.len.result c.in-Seq.items) c.new-parts.result c.push-in-Seq.new.self c.build_items.new.made few c.in_ok-build_items-in-Seq.ensures in
     let one = ap length c.in_ok-push-in-Seq.ensures ∙ length-append c.args.made.now _ in
     omega (arith, longer, one, c.len-at.ensures.len)
@@ -89,7 +89,7 @@ build-set-requires-in-Cut t c =
     let is = known c.args.x.now c.x.inside.span c.x.inside.form _ c.x.view_is c.in-Cut.is in
     let all : c.in-Cut.items ≡ take c.len-in-Cut.result c.in-Cut.items = sym (take_all c.len-in-Cut.result c.in-Cut.items (omega (arith, c.len-in-Cut.ensures.len))) in
     let Q : List ExprV → Type 0 = λ l. ItemsGiveFew c.args.self.now.names.now c.args.self.now.reading l (length c.push-in-Cut.new.self) (shown_view c.args.self.now.reading c.args.round.shown.now) in
-    let few = subst Q all (few-cut c.args.self.now.names.now c.args.self.now.reading c.in-Cut.items c.args.made.now c.push-in-Cut.new.self _ c.in_ok-push-in-Cut.ensures (few-as c.args.self.now.names.now c.args.self.now.reading is c.requires.gives)) in
+    let few = subst Q all (few-row c.args.self.now.names.now c.args.self.now.reading Trunc c.in-Cut.items (cut-gives c.args.self.now.names.now c.args.self.now.reading (exprs_of c.in-Cut.items)) c.args.made.now c.push-in-Cut.new.self _ c.in_ok-push-in-Cut.ensures (few-as c.args.self.now.names.now c.args.self.now.reading is c.requires.gives)) in
     let longer = items-longer c.args.self.now.names.now c.args.self.now.reading (take c.len-in-Cut.result c.in-Cut.items) c.new-parts-in-Cut.result c.push-in-Cut.new.self c.build_items-in-Cut.new.made few c.in_ok-build_items-in-Cut.ensures in
     let one = ap length c.in_ok-push-in-Cut.ensures ∙ length-append c.args.made.now _ in
     omega (arith, longer, one, c.len-at-in-Cut.ensures.len)
@@ -101,7 +101,7 @@ build-returns-in_ok-build_items-in-Seq t c =
     let P : List ExprV → Type 0 = λ l. AddsItems c.args.self.now.names.now c.args.self.now.reading l (shown_view c.args.self.now.reading c.args.round.shown.now) c.new-parts.result c.build_items.new.parts c.push-in-Seq.new.self c.build_items.new.made in
     let Q : List ℕ → Type 0 = λ l. AddsItems c.args.self.now.names.now c.args.self.now.reading c.in-Seq.items (shown_view c.args.self.now.reading c.args.round.shown.now) l c.build_items.new.parts c.push-in-Seq.new.self c.build_items.new.made in
     let items : AddsItems c.args.self.now.names.now c.args.self.now.reading c.in-Seq.items (shown_view c.args.self.now.reading c.args.round.shown.now) [] c.build_items.new.parts c.push-in-Seq.new.self c.build_items.new.made = subst Q c.new-parts.ensures (subst P all c.in_ok-build_items-in-Seq.ensures) in
-    adds-as c.args.self.now.names.now c.args.self.now.reading c.args.made.now c.set.new.self is (adds-seq c.args.self.now.names.now c.args.self.now.reading c.in-Seq.items c.args.made.now c.push-in-Seq.new.self c.build_items.new.made c.set.new.self _ c.len-at.result c.in_ok-push-in-Seq.ensures items c.set.ensures c.len-at.ensures.len)
+    adds-as c.args.self.now.names.now c.args.self.now.reading c.args.made.now c.set.new.self is (adds-row c.args.self.now.names.now c.args.self.now.reading Seq c.in-Seq.items (seq-gives c.args.self.now.names.now c.args.self.now.reading (exprs_of c.in-Seq.items)) c.args.made.now c.push-in-Seq.new.self c.build_items.new.made c.set.new.self _ c.len-at.result c.in_ok-push-in-Seq.ensures items c.set.ensures c.len-at.ensures.len)
 
 pub build-returns-in_ok-build_items-in-Cut : goal.build-returns-in_ok-build_items-in-Cut
 build-returns-in_ok-build_items-in-Cut t c =
@@ -110,7 +110,7 @@ build-returns-in_ok-build_items-in-Cut t c =
     let P : List ExprV → Type 0 = λ l. AddsItems c.args.self.now.names.now c.args.self.now.reading l (shown_view c.args.self.now.reading c.args.round.shown.now) c.new-parts-in-Cut.result c.build_items-in-Cut.new.parts c.push-in-Cut.new.self c.build_items-in-Cut.new.made in
     let Q : List ℕ → Type 0 = λ l. AddsItems c.args.self.now.names.now c.args.self.now.reading c.in-Cut.items (shown_view c.args.self.now.reading c.args.round.shown.now) l c.build_items-in-Cut.new.parts c.push-in-Cut.new.self c.build_items-in-Cut.new.made in
     let items : AddsItems c.args.self.now.names.now c.args.self.now.reading c.in-Cut.items (shown_view c.args.self.now.reading c.args.round.shown.now) [] c.build_items-in-Cut.new.parts c.push-in-Cut.new.self c.build_items-in-Cut.new.made = subst Q c.new-parts-in-Cut.ensures (subst P all c.in_ok-build_items-in-Cut.ensures) in
-    adds-as c.args.self.now.names.now c.args.self.now.reading c.args.made.now c.set-in-Cut.new.self is (adds-cut c.args.self.now.names.now c.args.self.now.reading c.in-Cut.items c.args.made.now c.push-in-Cut.new.self c.build_items-in-Cut.new.made c.set-in-Cut.new.self _ c.len-at-in-Cut.result c.in_ok-push-in-Cut.ensures items c.set-in-Cut.ensures c.len-at-in-Cut.ensures.len)
+    adds-as c.args.self.now.names.now c.args.self.now.reading c.args.made.now c.set-in-Cut.new.self is (adds-row c.args.self.now.names.now c.args.self.now.reading Trunc c.in-Cut.items (cut-gives c.args.self.now.names.now c.args.self.now.reading (exprs_of c.in-Cut.items)) c.args.made.now c.push-in-Cut.new.self c.build_items-in-Cut.new.made c.set-in-Cut.new.self _ c.len-at-in-Cut.result c.in_ok-push-in-Cut.ensures items c.set-in-Cut.ensures c.len-at-in-Cut.ensures.len)
 
 pub build-build_choice-requires : goal.build-build_choice-requires
 build-build_choice-requires t c =
@@ -223,7 +223,7 @@ pub build_both-width-count-requires : goal.build_both-width-count-requires
 build_both-width-count-requires t c =
     let wide : width_of c.args.left.now ≡ Some (width_view c.in-Some.width) = sym c.in-Some.ensures in
     let w : WindowV = record { width = width_view c.in-Some.width; part = c.args.right.now } in
-    let window = left-window c.args.self.now.names.now c.args.self.now.reading c.args.left.now c.args.right.now (width_view c.in-Some.width) wide in
+    let window = left_window c.args.left.now c.args.right.now (width_view c.in-Some.width) wide in
     let there = window-count c.args.self.now.names.now c.args.self.now.reading w window c.requires.gives.1.1 in
     record { count = there.0; is = there.1; small = (quiet-window c.args.self.now.names.now c.args.self.now.reading wide c.requires.quiet.1).1 }
 
@@ -232,7 +232,7 @@ build_both-width-count-requires-in-Some-width_of t c =
     let none : width_of c.args.left.now ≡ None = sym c.in_default.ensures in
     let wide : width_of c.args.right.now ≡ Some (width_view c.in-Some-width_of.width) = sym c.in-Some-width_of.ensures in
     let w : WindowV = record { width = width_view c.in-Some-width_of.width; part = c.args.left.now } in
-    let window = right-window c.args.self.now.names.now c.args.self.now.reading c.args.left.now c.args.right.now (width_view c.in-Some-width_of.width) none wide in
+    let window = right_window c.args.left.now c.args.right.now (width_view c.in-Some-width_of.width) none wide in
     let there = window-count c.args.self.now.names.now c.args.self.now.reading w window c.requires.gives.1.1 in
     record { count = there.0; is = there.1; small = (quiet-behind c.args.self.now.names.now c.args.self.now.reading none wide c.requires.quiet.1).1 }
 
@@ -248,7 +248,7 @@ pub build_both-build-requires : goal.build_both-build-requires
 build_both-build-requires t c =
     let wide : width_of c.args.left.now ≡ Some (width_view c.in-Some.width) = sym c.in-Some.ensures in
     let w : WindowV = record { width = width_view c.in-Some.width; part = c.args.right.now } in
-    let window = left-window c.args.self.now.names.now c.args.self.now.reading c.args.left.now c.args.right.now (width_view c.in-Some.width) wide in
+    let window = left_window c.args.left.now c.args.right.now (width_view c.in-Some.width) wide in
     (omega (arith, c.decreases), ((quiet-window c.args.self.now.names.now c.args.self.now.reading wide c.requires.quiet.1).0, few-window c.args.self.now.names.now c.args.self.now.reading c.args.made.now c.push.new.self w _ window c.in_ok-push.ensures c.requires.gives.1))
 
 pub build_both-build-requires-in-Some-width_of : goal.build_both-build-requires-in-Some-width_of
@@ -256,14 +256,14 @@ build_both-build-requires-in-Some-width_of t c =
     let none : width_of c.args.left.now ≡ None = sym c.in_default.ensures in
     let wide : width_of c.args.right.now ≡ Some (width_view c.in-Some-width_of.width) = sym c.in-Some-width_of.ensures in
     let w : WindowV = record { width = width_view c.in-Some-width_of.width; part = c.args.left.now } in
-    let window = right-window c.args.self.now.names.now c.args.self.now.reading c.args.left.now c.args.right.now (width_view c.in-Some-width_of.width) none wide in
+    let window = right_window c.args.left.now c.args.right.now (width_view c.in-Some-width_of.width) none wide in
     (omega (arith, c.decreases), ((quiet-behind c.args.self.now.names.now c.args.self.now.reading none wide c.requires.quiet.1).0, few-window c.args.self.now.names.now c.args.self.now.reading c.args.made.now c.push-in-Some-width_of.new.self w _ window c.in_ok-push-2.ensures c.requires.gives.1))
 
 pub build_both-returns-in-Some : goal.build_both-returns-in-Some
 build_both-returns-in-Some t c =
     let wide : width_of c.args.left.now ≡ Some (width_view c.in-Some.width) = sym c.in-Some.ensures in
     let w : WindowV = record { width = width_view c.in-Some.width; part = c.args.right.now } in
-    let window = left-window c.args.self.now.names.now c.args.self.now.reading c.args.left.now c.args.right.now (width_view c.in-Some.width) wide in
+    let window = left_window c.args.left.now c.args.right.now (width_view c.in-Some.width) wide in
     on-ok c.build.result
     (λ h end. adds-window c.args.self.now.names.now c.args.self.now.reading c.args.made.now c.push.new.self c.build.new.made w (c.len-inner.result + 1) c.width-count.result window c.width-count.ensures (omega (arith, c.len-inner.ensures.len)) c.in_ok-push.ensures h)
     c.build.ensures
@@ -273,7 +273,7 @@ build_both-returns-in-Some-width_of t c =
     let none : width_of c.args.left.now ≡ None = sym c.in_default.ensures in
     let wide : width_of c.args.right.now ≡ Some (width_view c.in-Some-width_of.width) = sym c.in-Some-width_of.ensures in
     let w : WindowV = record { width = width_view c.in-Some-width_of.width; part = c.args.left.now } in
-    let window = right-window c.args.self.now.names.now c.args.self.now.reading c.args.left.now c.args.right.now (width_view c.in-Some-width_of.width) none wide in
+    let window = right_window c.args.left.now c.args.right.now (width_view c.in-Some-width_of.width) none wide in
     on-ok c.build-in-Some-width_of.result
     (λ h end. adds-window c.args.self.now.names.now c.args.self.now.reading c.args.made.now c.push-in-Some-width_of.new.self c.build-in-Some-width_of.new.made w (c.len-inner.result + 1) c.width-count-in-Some-width_of.result window c.width-count-in-Some-width_of.ensures (omega (arith, c.len-inner.ensures.len)) c.in_ok-push-2.ensures h)
     c.build-in-Some-width_of.ensures
@@ -303,7 +303,7 @@ build_branches-build-requires t c =
 pub build_branches-loop-at-preserved-then-not-is_kept : goal.build_branches-loop-at-preserved-then-not-is_kept
 build_branches-loop-at-preserved-then-not-is_kept t c =
     record {
-      left = kept-past c.args.self.now.names.now c.args.self.now.reading c.args.branches.now (drop_at c.args.branches.now c.loop-at.at c.get-branch.result.now c.get-branch.ensures) (λ k. both_ways c.if-not-is_kept.true (c.is_kept.ensures.1 k)) c.loop-at.invariant.left;
+      left = kept-past c.args.self.now.names.now c.args.self.now.reading c.args.branches.now (drop_at c.args.branches.now c.loop-at.at c.get-branch.result.now c.get-branch.ensures) (λ k. both_ways _ c.if-not-is_kept.true (c.is_kept.ensures.1 k)) c.loop-at.invariant.left;
       room = c.loop-at.invariant.room;
     }
 
@@ -436,6 +436,15 @@ pub build_name-returns-in-Some : goal.build_name-returns-in-Some
 build_name-returns-in-Some t c =
     let some : rule_of c.args.self.now.names.now c.args.label.now ≡ Some c.rule.result.now = ap (rule_of c.args.self.now.names.now) (sym c.bytes.ensures.value) ∙ (c.in-Some.ensures.rule ∙ c.rule.ensures) in
     on-ok c.build_rule.result (λ h end. adds-name c.args.self.now.names.now c.args.self.now.reading c.args.made.now c.build_rule.new.made some h) c.build_rule.ensures
+
+pub build_name-spare_node-requires : goal.build_name-spare_node-requires
+build_name-spare_node-requires t c =
+    let none : rule_of c.args.self.now.names.now c.args.label.now ≡ None = ap (rule_of c.args.self.now.names.now) (sym c.bytes.ensures.value) ∙ c.in-None.ensures.rule in
+    let spare = spare-named c.args.self.now.names.now c.args.self.now.reading none c.requires.gives.1.1 in
+    record {
+      built_in = ap is_built_in c.bytes-in-None.ensures.value ∙ spare.0;
+      spare = λ p. spare.1 (sym c.bytes-in-None.ensures.value ∙ p);
+    }
 
 pub build_name-returns-in-None : goal.build_name-returns-in-None
 build_name-returns-in-None t c =

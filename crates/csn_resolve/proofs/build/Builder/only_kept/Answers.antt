@@ -1,8 +1,8 @@
 use Rattle.std.proofs.Common.{ap, arith}
 use Rattle.std.proofs.lemmas.List.{drop_all}
+use Rattle.std.proofs.lemmas.Bool.{both_ways}
 use Rattle.csn_grammar.specs.ExprV.{BranchV}
 use Rattle.csn_resolve.proofs.Parts.{drop_at}
-use Rattle.csn_resolve.proofs.MarkFacts.{both_ways}
 use Rattle.csn_resolve.proofs.KeptFacts.{only-first, only-past, only-second, only-all}
 use Rattle.csn_resolve.proofs.build.Builder.only_kept.Goals as goal
 
@@ -14,7 +14,7 @@ returns-then-is_some c =
 pub loop-at-preserved-then-not-is_kept : goal.loop-at-preserved-then-not-is_kept
 loop-at-preserved-then-not-is_kept c =
     only-past c.args.self.now.names.now c.args.self.now.reading c.args.branches.now
-    (drop_at c.args.branches.now c.loop-at.at c.get-branch.result.now c.get-branch.ensures) (λ k. both_ways c.if-not-is_kept.true (c.is_kept.ensures.1 k)) c.loop-at.invariant
+    (drop_at c.args.branches.now c.loop-at.at c.get-branch.result.now c.get-branch.ensures) (λ k. both_ways _ c.if-not-is_kept.true (c.is_kept.ensures.1 k)) c.loop-at.invariant
 
 pub loop-at-preserved : goal.loop-at-preserved
 loop-at-preserved c =

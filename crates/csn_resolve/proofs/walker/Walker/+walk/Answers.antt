@@ -9,8 +9,7 @@ use Rattle.csn_resolve.specs.Gives.{start_of}
 use Rattle.csn_resolve.specs.Walk.{is_among, entering, node_at, turn_begun}
 use Rattle.csn_resolve.specs.Going.{way, stopped, LeafGoes}
 use Rattle.csn_resolve.specs.Views.{around_view, entered_view, seen_view, width_view, tail_view, end_view}
-use Rattle.csn_resolve.proofs.Parts.{item_size, branch_size_of, take_get, take_short}
-use Rattle.csn_resolve.proofs.LeastFacts.{get_within}
+use Rattle.csn_resolve.proofs.Parts.{item_size, branch_size_of, take_get, take_short, get_within}
 use Rattle.csn_resolve.proofs.DepthFacts.{in_deepest, entered}
 use Rattle.csn_resolve.proofs.ViewFacts.{known, frame-more}
 use Rattle.csn_resolve.proofs.GoingFacts.{stops-same, stops-in, stops-first, stops-later, stops-second, stops-third, goes-same, goes-after, goes-on, goes-third, way-on, way-third, refused-after}
