@@ -6,7 +6,7 @@ use Rattle.csn_desc.specs.Nodes.{DescV}
 use Rattle.csn_desc.specs.Means.{NMeans}
 use Rattle.csn_desc.specs.Follows.{NFollow}
 use Rattle.csn_desc.specs.Follows as desc
-use Rattle.csn_desc.specs.Formed.{Spans}
+use Rattle.csn_desc.specs.Formed.{Spans, IsDescription}
 use Rattle.csn_grammar.specs.declared.rules.Rule.{Rule}
 use Rattle.csn_grammar.specs.ExprV.{ExprV}
 use Rattle.csn_grammar.specs.RulesV.{RulesV}
@@ -99,6 +99,24 @@ abbrev pub NodesAreNumbered : Type 0
 NodesAreNumbered =
     (rules : RulesV) (r : Reading) (n : List ℕ) (nodes : List Placed)
     → NameGives rules n r nodes → Spans (nodes_of nodes) 0 (length nodes)
+
+-- by rules that are shaped, every name is refused or has a description
+abbrev pub NamesAreAnswered : Type 0
+NamesAreAnswered =
+    (rules : RulesV) (r : Reading) (n : List ℕ) → AreShaped rules
+    → ((why : Why) × (place : ℕ) × IsRefused rules n r why place) ⊎ ((d : DescV) × IsResolved rules n r d)
+
+-- what a named rule has is a description
+abbrev pub ResolvedAreDescriptions : Type 0
+ResolvedAreDescriptions =
+    (rules : RulesV) (r : Reading) (n : List ℕ) (d : DescV) → AreShaped rules → IsResolved rules n r d
+    → IsDescription d
+
+-- where nothing is refused, the empty bits are followed
+abbrev pub EmptyBitsAreFollowed : Type 0
+EmptyBitsAreFollowed =
+    (rules : RulesV) (r : Reading) (n : List ℕ) → AreShaped rules
+    → ((why : Why) (place : ℕ) → ¬ IsRefused rules n r why place) → Followed rules n r []
 
 -- the rules of a text have no empty word, sequence, choice or truncation
 abbrev pub RulesOfTextsAreShaped : Type 0

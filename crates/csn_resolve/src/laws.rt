@@ -1,6 +1,6 @@
 //! Laws over the definitions, each the contract of a function that does nothing.
 
-ghost use Rattle.csn_resolve.specs.Laws.{NodesAreGivenOnce, VoidGivesNothing, StepsAreWalkedOnce, ResolvedOnce, RefusalsAreOneList, RefusedOnce, RefusedOrResolved, EmptinessIsDecided, WidthsAreDecided, WalksEnd, RefusalsEnd, NodesAreGiven, NodesAreNumbered, RulesOfTextsAreShaped, MeaningsAreKept, FollowedAreKept, StringsAreKept, BlocksAreFollowedAlike, PlacesAreKept};
+ghost use Rattle.csn_resolve.specs.Laws.{NodesAreGivenOnce, VoidGivesNothing, StepsAreWalkedOnce, ResolvedOnce, RefusalsAreOneList, RefusedOnce, RefusedOrResolved, EmptinessIsDecided, WidthsAreDecided, WalksEnd, RefusalsEnd, NodesAreGiven, NodesAreNumbered, RulesOfTextsAreShaped, NamesAreAnswered, ResolvedAreDescriptions, EmptyBitsAreFollowed, MeaningsAreKept, FollowedAreKept, StringsAreKept, BlocksAreFollowedAlike, PlacesAreKept};
 
 /// An expression gives one list of nodes, at one number; so a named rule has one description.
 pub fn descriptions_are_one()
@@ -53,3 +53,20 @@ pub fn resolving_keeps_meanings()
     ensures followed { BlocksAreFollowedAlike }
     ensures places { PlacesAreKept }
 {}
+
+/// By rules that are shaped as those of a text, every name is refused or has a description.
+pub fn names_are_answered()
+    ensures { NamesAreAnswered }
+{}
+
+/// What a named rule has is a description: its nodes are few, numbered through and well formed.
+pub fn resolved_are_descriptions()
+    ensures { ResolvedAreDescriptions }
+{}
+
+/// Where nothing is refused, the named rule follows the empty bits.
+pub fn empty_bits_are_followed()
+    ensures { EmptyBitsAreFollowed }
+{
+    csn_desc::laws::empty_bits_are_followed();
+}
