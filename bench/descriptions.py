@@ -73,13 +73,6 @@ fn main(rt: HostRuntime) -> ExitCode {
 }
 """
 
-PROOF = """use Rattle.csn_resolve.proofs.ShapedFacts.{text_shaped}
-use Rattle.bench_rules.proofs.made.Goals as goal
-
-pub resolve-requires : goal.resolve-requires
-resolve-requires c = record { shaped = text_shaped _ c.in-Ok.rules c.in-Ok.ensures.rules }
-"""
-
 
 def built(folder, file):
     """The program, built in a copy of the repository."""
@@ -91,8 +84,6 @@ def built(folder, file):
     home = folder / "crates" / "bench_rules"
     (home / "src").mkdir(parents=True)
     (home / "src" / "main.rt").write_text(MAIN)
-    (home / "proofs" / "made").mkdir(parents=True)
-    (home / "proofs" / "made" / "Answers.antt").write_text(PROOF)
     subprocess.run(["rt", "run", "--", "resolve", file, "D0"], cwd=home, check=True, stdout=subprocess.DEVNULL)
     return home / "out" / "bench_rules"
 

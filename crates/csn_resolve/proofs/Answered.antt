@@ -14,7 +14,7 @@ use Rattle.csn_grammar.specs.RulesV.{RulesV}
 use Rattle.csn_grammar.specs.Strings.{Followed}
 use Rattle.csn_resolve.specs.declared.why.Why.{Why}
 use Rattle.csn_resolve.specs.Why.{Refusal}
-use Rattle.csn_resolve.specs.Shaped.{AreShaped}
+use Rattle.csn_grammar.specs.Shaped.{AreShaped}
 use Rattle.csn_resolve.specs.Gives.{Placed}
 use Rattle.csn_resolve.specs.Resolved.{NameGives, nodes_of, AreRefusals, IsRefused, refused_on_walk, refused_at_last, IsResolved}
 use Rattle.csn_resolve.proofs.Parts.{get_within}

@@ -22,7 +22,7 @@ use Rattle.csn_resolve.specs.Walk.{Around, inside, putting_in, behind, outermost
 use Rattle.csn_resolve.specs.Walk as walk
 use Rattle.csn_resolve.specs.Gives.{Placed, placed, start_of, count_at, Gives, ItemsGive, EachGives, RuleGives, gives_lits, gives_null, gives_bit, gives_octet, gives_field, gives_rest, gives_spare_bit, gives_spare_low, gives_padding, gives_seq, gives_choice, gives_only, gives_times, gives_many, gives_cut, gives_window, gives_labelled, gives_name, gives_group, gives_received, gives_sent, items_end, items_next, each_end, each_next, rule_plain, rule_tail}
 use Rattle.csn_resolve.specs.Resolved.{ResolveSteps, asked_unknown, asked_rule, NameGives, AreRefusals, nodes_of, twice_steps}
-use Rattle.csn_resolve.specs.Shaped.{IsShaped, ItemsShaped, BranchesShaped, AreShaped}
+use Rattle.csn_grammar.specs.Shaped.{IsShaped, ItemsShaped, BranchesShaped, AreShaped}
 use Rattle.csn_resolve.proofs.Once.{same_tail}
 use Rattle.csn_resolve.proofs.Quiet.{Quiet, quiet_along, first_of, rest_of, quiet_from, tail_quiet}
 use Rattle.csn_resolve.proofs.Holding.{Holds, holds_along, holds_from, holds_first, holds_rest, inner_holds, holds_behind}

@@ -24,7 +24,7 @@ use Rattle.csn_grammar.specs.Strings.{Strings, Followed}
 use Rattle.csn_grammar.specs.Strings as blocks
 use Rattle.csn_grammar.proofs.VoidFacts.{same_rule}
 use Rattle.csn_resolve.specs.Seen.{Frame, Seen}
-use Rattle.csn_resolve.specs.Shaped.{IsShaped, AreShaped}
+use Rattle.csn_grammar.specs.Shaped.{IsShaped, AreShaped}
 use Rattle.csn_resolve.specs.Gives.{Placed, placed, Gives, ItemsGive, EachGives, RuleGives, gives_lits, gives_null, gives_bit, gives_octet, gives_field, gives_rest, gives_spare_bit, gives_spare_low, gives_padding, gives_seq, gives_choice, gives_only, gives_times, gives_many, gives_cut, gives_window, gives_labelled, gives_name, gives_group, gives_received, gives_sent, items_end, items_next, each_end, each_next, rule_plain, rule_tail}
 use Rattle.csn_resolve.specs.Resolved.{nodes_of, IsResolved}
 use Rattle.csn_resolve.proofs.Full.{gives_full}

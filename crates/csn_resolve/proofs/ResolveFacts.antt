@@ -13,7 +13,7 @@ use Rattle.csn_resolve.specs.declared.fault.ResolveFault.{ResolveFault}
 use Rattle.csn_resolve.specs.declared.fault.ResolveFault.TheVariants.{Refused, NoMemory}
 use Rattle.csn_resolve.specs.declared.why.Why.{Why}
 use Rattle.csn_resolve.specs.declared.why.Why.TheVariants.{Undefined, TooManyVals}
-use Rattle.csn_resolve.specs.Shaped.{AreShaped}
+use Rattle.csn_grammar.specs.Shaped.{AreShaped}
 use Rattle.csn_resolve.specs.Gives.{Placed, RuleGives}
 use Rattle.csn_resolve.specs.Going.{IsFirst}
 use Rattle.csn_resolve.specs.Made.{RuleQuiet, RuleGivesFew, AddsRule, IsOverfullAt}

@@ -8,7 +8,7 @@ use Rattle.csn_grammar.specs.ExprV.{ExprV, expr, lits, name, group, seq, choice,
 use Rattle.csn_grammar.specs.RulesV.{RulesV}
 use Rattle.csn_grammar.specs.Names.{same_name, is_built_in, rule_of}
 use Rattle.csn_grammar.specs.TailForm.{WordV, EndV, TailV, word_of, again_of, end_with, end_of, last_item, front_items, tail_of_body, tail_of}
-use Rattle.csn_resolve.specs.Shaped.{IsShaped, ItemsShaped, AreShaped}
+use Rattle.csn_grammar.specs.Shaped.{IsShaped, ItemsShaped, AreShaped}
 
 -- a word, where there is one, is not empty
 abbrev WordShaped : Option WordV → Type 0

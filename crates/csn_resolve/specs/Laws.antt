@@ -16,11 +16,10 @@ use Rattle.csn_grammar.specs.Meaning.{RuleMeans}
 use Rattle.csn_grammar.specs.Follow.{RuleFollows}
 use Rattle.csn_grammar.specs.Strings.{Strings, Followed}
 use Rattle.csn_grammar.specs.Strings as grammar
-use Rattle.csn_grammar.specs.Place.{HasRules}
 use Rattle.csn_resolve.specs.declared.why.Why.{Why}
 use Rattle.csn_resolve.specs.Why.{Refusal}
 use Rattle.csn_resolve.specs.Seen.{Seen}
-use Rattle.csn_resolve.specs.Shaped.{AreShaped}
+use Rattle.csn_grammar.specs.Shaped.{AreShaped}
 use Rattle.csn_resolve.specs.Gives.{Placed, Gives}
 use Rattle.csn_resolve.specs.Steps.{Step}
 use Rattle.csn_resolve.specs.Counts.{Narrow}
@@ -117,10 +116,6 @@ abbrev pub EmptyBitsAreFollowed : Type 0
 EmptyBitsAreFollowed =
     (rules : RulesV) (r : Reading) (n : List ℕ) → AreShaped rules
     → ((why : Why) (place : ℕ) → ¬ IsRefused rules n r why place) → Followed rules n r []
-
--- the rules of a text have no empty word, sequence, choice or truncation
-abbrev pub RulesOfTextsAreShaped : Type 0
-RulesOfTextsAreShaped = (text : List ℕ) (rules : RulesV) → HasRules text rules → AreShaped rules
 
 -- what a named rule means is what its description means, where the rules are shaped as those of a text. (By a
 -- word without symbols before its own name a rule could go round without a bit, and have a tree for it; a turn

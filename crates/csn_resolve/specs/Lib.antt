@@ -11,7 +11,6 @@ pub mod Numbers
 pub mod Depths
 pub mod Tests
 pub mod Marked
-pub mod Shaped
 pub mod Made
 pub mod Laws
 pub mod Examples

@@ -1,6 +1,6 @@
 //! Laws over the definitions, each the contract of a function that does nothing.
 
-ghost use Rattle.csn_resolve.specs.Laws.{NodesAreGivenOnce, VoidGivesNothing, StepsAreWalkedOnce, ResolvedOnce, RefusalsAreOneList, RefusedOnce, RefusedOrResolved, EmptinessIsDecided, WidthsAreDecided, WalksEnd, RefusalsEnd, NodesAreGiven, NodesAreNumbered, RulesOfTextsAreShaped, NamesAreAnswered, ResolvedAreDescriptions, EmptyBitsAreFollowed, MeaningsAreKept, FollowedAreKept, StringsAreKept, BlocksAreFollowedAlike, PlacesAreKept};
+ghost use Rattle.csn_resolve.specs.Laws.{NodesAreGivenOnce, VoidGivesNothing, StepsAreWalkedOnce, ResolvedOnce, RefusalsAreOneList, RefusedOnce, RefusedOrResolved, EmptinessIsDecided, WidthsAreDecided, WalksEnd, RefusalsEnd, NodesAreGiven, NodesAreNumbered, NamesAreAnswered, ResolvedAreDescriptions, EmptyBitsAreFollowed, MeaningsAreKept, FollowedAreKept, StringsAreKept, BlocksAreFollowedAlike, PlacesAreKept};
 
 /// An expression gives one list of nodes, at one number; so a named rule has one description.
 pub fn descriptions_are_one()
@@ -36,12 +36,6 @@ pub fn walks_end()
 pub fn nodes_are_given()
     ensures given { NodesAreGiven }
     ensures numbered { NodesAreNumbered }
-{}
-
-/// The rules of a text have what nodes need: no empty word, two items or alternatives at least, and one
-/// component at least.
-pub fn rules_of_texts_are_shaped()
-    ensures { RulesOfTextsAreShaped }
 {}
 
 /// A named rule means what its description means, and follows what that follows, where the rules are shaped

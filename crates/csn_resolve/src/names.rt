@@ -1,5 +1,6 @@
 ghost use Rattle.std.specs.Prelude.{◌≡◌, ◌<◌, length, slice_get, Some, None, IfOk, IfSome, MatchOption, MatchResult};
 ghost use Rattle.csn_grammar.specs.Names.{built_in_names, is_built_in, rule_of};
+ghost use Rattle.csn_grammar.specs.Shaped.{AreShaped};
 ghost use Rattle.csn_resolve.specs.Resolved.{twice_steps};
 ghost use Rattle.csn_resolve.specs.Going.{Way, way, gone, Stops};
 ghost use Rattle.csn_resolve.specs.Numbers.{number_in};
@@ -44,6 +45,7 @@ impl<'a> Names<'a> {
     /// refused, and nothing else is.
     pub(crate) fn list(alloc: Global, rules: &'a Rules) -> Result<Names<'a>, ResolveFault>
         ensures names { IfOk result (λ names. names ≡ rules.now) }
+        ensures shaped { AreShaped rules.now }
         ensures twice { MatchResult result
             (λ names. way 0 (twice_steps built_in_names rules.now) ≡ gone 0)
             (λ fault. Stops (way 0 (twice_steps built_in_names rules.now)) fault) }

@@ -2,7 +2,7 @@ ghost use Rattle.std.specs.Prelude.{◌≡◌, ℕ, [], Err, IfOk};
 ghost use Rattle.csn_grammar.specs.Names.{built_in_names};
 ghost use Rattle.csn_resolve.specs.declared.why.Why.{Why as WhyV};
 ghost use Rattle.csn_resolve.specs.Saying.{SaysTheSame};
-ghost use Rattle.csn_resolve.specs.Shaped.{AreShaped};
+ghost use Rattle.csn_grammar.specs.Shaped.{AreShaped};
 ghost use Rattle.csn_resolve.specs.Resolved.{IsResolved, IsRefused, twice_steps};
 
 use crate::build::Builder;
@@ -16,15 +16,13 @@ use csn_desc::{Desc, Reading};
 use csn_grammar::Rules;
 use std::alloc::Global;
 
-/// The description that a named rule gives in one reading, or why and where the rules are refused. Rules of a
-/// text are shaped as is asked here.
+/// The description that a named rule gives in one reading, or why and where the rules are refused.
 pub fn resolve(
     alloc: Global,
     rules: &Rules,
     name: &[u8],
     reading: Reading,
 ) -> Result<Desc, ResolveFault>
-    requires shaped { AreShaped rules.now }
     ensures resolved { IfOk result (λ desc. IsResolved rules.now name.now reading desc) }
     ensures says { IfOk result (λ desc. SaysTheSame rules.now name.now reading desc) }
     ensures refused { (why : WhyV) (place : ℕ) → result ≡ Err (ResolveFault.Refused why place) → IsRefused rules.now name.now reading why place }

@@ -39,7 +39,7 @@ returns-clause-says c =
     let P : RulesV → Type 0 = λ rs. IfOk c.resolve_name.result (λ d. IsResolved rs n r d) in
     if_ok_more c.resolve_name.result (λ d. IsResolved rules n r d) (λ d. SaysTheSame rules n r d)
     (λ d h. record {
-      means = λ rule found. (named_same rules r rule c.requires.shaped h found).means;
-      follows = λ rule found. (named_same rules r rule c.requires.shaped h found).follows;
+      means = λ rule found. (named_same rules r rule c.list.ensures.shaped h found).means;
+      follows = λ rule found. (named_same rules r rule c.list.ensures.shaped h found).follows;
     })
     (subst P c.in_ok-names.ensures.names c.resolve_name.ensures.resolved)

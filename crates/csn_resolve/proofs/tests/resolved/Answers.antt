@@ -1,5 +1,0 @@
-use Rattle.csn_resolve.proofs.ShapedFacts.{text_shaped}
-use Rattle.csn_resolve.proofs.tests.resolved.Goals as goal
-
-pub resolve-requires : goal.resolve-requires
-resolve-requires c = record { shaped = text_shaped _ c.in-Ok.rules c.in-Ok.ensures.rules }
