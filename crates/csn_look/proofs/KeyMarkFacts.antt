@@ -123,7 +123,7 @@ key_mark-same a b false false h i e = (place_of-same a b h.bits i.bits (omega (a
 key_mark-same a b true false h i e = absurd (omega (arith, e, place_of-small a h))
 key_mark-same a b false true h i e = absurd (omega (arith, e, place_of-small b i))
 
-key_mark-low : (a : List ℕ) (j : Bool) → IsWord a → key_mark (place_of a) j < 16384
+pub key_mark-low : (a : List ℕ) (j : Bool) → IsWord a → key_mark (place_of a) j < 16384
 key_mark-low a true h = omega (arith, place_of-small a h)
 key_mark-low a false h = omega (arith, place_of-small a h)
 

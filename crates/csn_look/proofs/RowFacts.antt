@@ -85,6 +85,24 @@ same_tables old new row marks P are h = record {
   };
 }
 
+pub makes_same : (old new : List (List ℕ)) (row : List ℕ) (at : ℕ) (P : ℕ → List ℕ → Bool → Type 0) → length row ≡ 8 → ((o : ℕ) → o ≤ 7 → get_or row o 0 ≡ at) → IsMore old new → ((o : ℕ) → o ≤ 7 → HasTable new at (P o)) → Makes old new row P
+makes_same old new row at P eight same more has = record {
+  more = more;
+  has = record {
+    eight = eight;
+    keys = λ o low. let Q : ℕ → Type 0 = λ n. HasTable new n (P o) in subst Q (sym (same o low)) (has o low);
+  };
+}
+
+-- what a row of one table has at its first place it has everywhere
+pub row_alike : (tables : List (List ℕ)) (row : List ℕ) (P : ℕ → List ℕ → Bool → Type 0) → HasRow tables row P → ((o : ℕ) → o ≤ 7 → get_or row o 0 ≡ get_or row 0 0)
+    → (o : ℕ) (word : List ℕ) (mark : Bool) → o ≤ 7 → IsWord word → P 0 word mark ↔ P o word mark
+row_alike tables row P has same o word mark low is =
+    let Q : ℕ → Type 0 = λ n. KeysAre (table_of tables n) (P o) in
+    let first = (has.keys 0 (omega arith)).keys word mark is in
+    let here = subst Q (same o low) (has.keys o low).keys word mark is in
+    (λ h. here.0 (first.1 h), λ h. first.0 (here.1 h))
+
 -- ---- a row that is filled from its first place on
 
 pub record RowBelow (old new : List (List ℕ)) (row : List ℕ) (end : ℕ) (P : ℕ → List ℕ → Bool → Type 0) : Type 0 where
@@ -168,6 +186,26 @@ after_at start mid new first rest turned o at low more one two seen h = record {
         let place : (o + size % 8) % 8 ≡ (o + size) % 8 = omega arith in
         ap (λ n. table_of mid n) (seen (size % 8) small ∙ ap (λ p. get_or rest p 0) place)
         ∙ table_stays start mid (get_or rest ((o + size) % 8) 0) more (two ((o + size) % 8) (omega arith))
+
+-- the product of two rows of one table is one table
+pub after_same :
+    (old new : List (List ℕ)) (first rest : List ℕ) (at o : ℕ) → o ≤ 7 → ((p : ℕ) → p ≤ 7 → get_or first p 0 ≡ get_or first 0 0) → ((p : ℕ) → p ≤ 7 → get_or rest p 0 ≡ get_or rest 0 0)
+    → HasTable new at (AfterKeys (table_of old (get_or first 0 0)) (λ size. table_of old (get_or rest (size % 8) 0))) → HasTable new at (RowAfter old first rest o)
+after_same old new first rest at o low one two h = record {
+  within = h.within;
+  keys =
+      keys_as (table_of new at) (AfterKeys (table_of old (get_or first 0 0)) (λ size. table_of old (get_or rest (size % 8) 0))) (RowAfter old first rest o) h.keys
+      (λ word mark is. (
+        (λ k. after_as (table_of old (get_or first 0 0)) (table_of old (get_or first o 0)) (λ size. table_of old (get_or rest (size % 8) 0)) (λ size. table_of old (get_or rest ((o + size) % 8) 0)) same each k),
+        (λ k. after_as (table_of old (get_or first o 0)) (table_of old (get_or first 0 0)) (λ size. table_of old (get_or rest ((o + size) % 8) 0)) (λ size. table_of old (get_or rest (size % 8) 0)) (sym same) (λ size. sym (each size)) k),
+      ));
+}
+  where
+    same : table_of old (get_or first 0 0) ≡ table_of old (get_or first o 0)
+    same = ap (λ n. table_of old n) (sym (one o low))
+
+    each : (size : ℕ) → table_of old (get_or rest (size % 8) 0) ≡ table_of old (get_or rest ((o + size) % 8) 0)
+    each size = ap (λ n. table_of old n) (two (size % 8) (omega arith) ∙ sym (two ((o + size) % 8) (omega arith)))
 
 pub tables_stay : (old new : List (List ℕ)) (row : List ℕ) → IsMore old new → AreTables old row → AreTables new row
 tables_stay old new row more are = λ o low. let inside = are o low in let longer = more_length old new more in omega arith

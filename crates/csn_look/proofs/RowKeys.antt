@@ -17,10 +17,10 @@ use Rattle.csn_desc.specs.Nodes.{DescV}
 use Rattle.csn_desc.specs.Spelled.{symbol_bit, spelled, IsSpare}
 use Rattle.csn_look.specs.Keys.{Cut, kept, cut, InKeys, NodeKeys, PartsKeys, TimesKeys, keys_lits, keys_spare, keys_field, keys_pad, keys_null, keys_rest, keys_many, keys_trunc, keys_window, keys_counted_field, keys_counted_times, keys_seq, keys_times, keys_choice, keys_named, parts_none, times_none, times_cut, times_whole}
 use Rattle.csn_look.specs.KeyMarks.{IsWord, has_key, KeysAre, Adds}
-use Rattle.csn_look.specs.KeyRows.{table_of, HasRow, RowAfter, IsSpareKey}
+use Rattle.csn_look.specs.KeyRows.{table_of, HasRow, RowAfter, IsSpareKey, AreAlike}
 use Rattle.csn_look.proofs.StartFacts.{symbol_bit-octet}
 use Rattle.csn_look.proofs.NodeKeys.{after_is_parts, after_is_times}
-use Rattle.csn_look.proofs.RowFacts.{keys_as, keys_added}
+use Rattle.csn_look.proofs.RowFacts.{keys_as, keys_added, row_alike}
 use Rattle.csn_desc.proofs.BitFacts.{length-spelled}
 
 -- ---- what is cut of a whole word
@@ -311,6 +311,12 @@ module _ (d : DescV) (tables : List (List ℕ)) (first rest : List ℕ) (i : ℕ
 
 -- ---- one of some parts
 
+-- parts before a place are alike
+abbrev pub AreAlikeBelow : DescV → List ℕ → ℕ → Type 0
+AreAlikeBelow d parts limit =
+    (j i o : ℕ) (word : List ℕ) (mark : Bool) → j < limit → slice_get parts j ≡ Some i → o ≤ 7 → IsWord word
+    → InKeys d 12 i 0 word mark ↔ InKeys d 12 i o word mark
+
 module _ (d : DescV) (parts : List ℕ) (o : ℕ) where
   -- keys of a part before a place
   pub record ChoiceBelow (limit : ℕ) (word : List ℕ) (mark : Bool) : Type 0 where
@@ -353,3 +359,30 @@ module _ (d : DescV) (parts : List ℕ) (o : ℕ) where
     where
       from : (word : List ℕ) (mark : Bool) → NodeKeys d 12 (Choice parts) o word mark → ChoiceBelow limit word mark
       from word mark (keys_choice {i = i} j at key) = let inside = slice_get_within parts j i at in record { place = j; part = i; below = omega arith; at = at; key = key }
+
+-- parts that are alike at all octet positions make one that is
+pub choice_alike : (d : DescV) (parts marks : List ℕ) → AreAlike d parts → KeysAre marks (NodeKeys d 12 (Choice parts) 0) → (o : ℕ) → o ≤ 7 → KeysAre marks (NodeKeys d 12 (Choice parts) o)
+choice_alike d parts marks alike are o low =
+    keys_as marks (NodeKeys d 12 (Choice parts) 0) (NodeKeys d 12 (Choice parts) o) are (λ word mark is. (to word mark is, from word mark is))
+  where
+    to : (word : List ℕ) (mark : Bool) → IsWord word → NodeKeys d 12 (Choice parts) 0 word mark → NodeKeys d 12 (Choice parts) o word mark
+    to word mark is (keys_choice {i = i} j at key) = keys_choice j at ((alike j i o word mark at low is).0 key)
+
+    from : (word : List ℕ) (mark : Bool) → IsWord word → NodeKeys d 12 (Choice parts) o word mark → NodeKeys d 12 (Choice parts) 0 word mark
+    from word mark is (keys_choice {i = i} j at key) = keys_choice j at ((alike j i o word mark at low is).1 key)
+
+-- one part more is alike
+pub alike_next : (d : DescV) (tables : List (List ℕ)) (parts row : List ℕ) (at part : ℕ) → slice_get parts at ≡ Some part → HasRow tables row (InKeys d 12 part) → ((o : ℕ) → o ≤ 7 → get_or row o 0 ≡ get_or row 0 0)
+    → AreAlikeBelow d parts at → AreAlikeBelow d parts (at + 1)
+alike_next d tables parts row at part there has same before = λ j i o word mark below is_part low is.
+    elim (last j at below) [
+      | inl earlier ↦ before j i o word mark earlier is_part low is
+      | inr here ↦
+          let found : slice_get parts at ≡ Some i = ap (λ p. slice_get parts p) (sym here) ∙ is_part in
+          let one : part ≡ i = cc (there, found) in
+          let P : ℕ → Type 0 = λ p. InKeys d 12 p 0 word mark ↔ InKeys d 12 p o word mark in
+          subst P one (row_alike tables row (InKeys d 12 part) has same o word mark low is)
+    ]
+  where
+    last : (m n : ℕ) → m < n + 1 → (m < n) ⊎ (m ≡ n)
+    last m n h = grind arith

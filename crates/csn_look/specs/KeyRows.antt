@@ -1,11 +1,11 @@
 -- Numbers of tables of keys, for the eight octet positions, in rows of eight; and what is said of them while the
 -- tables are made.
-use Rattle.std.specs.Prelude.{◌≡◌, ℕ, ◌+◌, ◌%◌, ◌<◌, ◌≤◌, Bool, List, [], ◌++◌, length, slice_get, slice_index, slice_index_or, Some}
+use Rattle.std.specs.Prelude.{◌≡◌, ℕ, ◌+◌, ◌%◌, ◌<◌, ◌≤◌, ◌↔◌, Bool, List, [], ◌++◌, length, slice_get, slice_index, slice_index_or, Some}
 use Rattle.csn_desc.specs.declared.reading.Reading.{Reading}
 use Rattle.csn_desc.specs.declared.symbol.Symbol.{Symbol}
 use Rattle.csn_desc.specs.Nodes.{DescV}
 use Rattle.csn_desc.specs.Spelled.{IsSpare}
-use Rattle.csn_look.specs.KeyMarks.{KeysAre}
+use Rattle.csn_look.specs.KeyMarks.{IsWord, KeysAre}
 use Rattle.csn_look.specs.KeyProducts.{AfterKeys}
 use Rattle.csn_look.specs.Keys.{InKeys}
 
@@ -56,6 +56,12 @@ RowAfter tables first rest o =
 -- the word is one spare bit
 abbrev pub IsSpareKey : Reading → Symbol → Bool → ℕ → List ℕ → Bool → Type 0
 IsSpareKey reading symbol whole o word mark = (length word ≡ 1) × IsSpare reading symbol o word × (mark ≡ whole)
+
+-- each of the parts has the same keys at all octet positions
+abbrev pub AreAlike : DescV → List ℕ → Type 0
+AreAlike d parts =
+    (j i o : ℕ) (word : List ℕ) (mark : Bool) → slice_get parts j ≡ Some i → o ≤ 7 → IsWord word
+    → InKeys d 12 i 0 word mark ↔ InKeys d 12 i o word mark
 
 module _ (d : DescV) (tables : List (List ℕ)) (rows : List (List ℕ)) where
   -- node i has a row of its keys, and some parts have theirs

@@ -1,12 +1,12 @@
 //! The tables of keys of nodes: for each node a row of eight numbers of tables, for the octet positions from 0 to 7.
 
-ghost use Rattle.std.specs.Prelude.{◌≡◌, ℕ, ◌+◌, ◌%◌, ◌<◌, ◌≤◌, List, [], true, length, take, slice_get, slice_index, slice_index_or, IfOk};
+ghost use Rattle.std.specs.Prelude.{◌≡◌, ℕ, ◌+◌, ◌%◌, ◌<◌, ◌≤◌, List, [], true, length, take, slice_get, slice_index, slice_index_or, IsTrue, IfOk};
 ghost use Rattle.csn_bits.specs.Octets.{IsBits};
 ghost use Rattle.csn_desc.specs.Nodes.{DescV, parts_of};
 ghost use Rattle.csn_desc.specs.Spelled.{spelled};
 ghost use Rattle.csn_look.specs.Keys.{Cut, InKeys, NodeKeys, PartsKeys, TimesKeys};
 ghost use Rattle.csn_look.specs.KeyMarks.{KeysAre};
-ghost use Rattle.csn_look.specs.KeyRows.{table_of, HasRow, IsMore, Makes, AreTables, IsSameRow, RowAfter, IsSpareKey, IsRowed, AreRowed, HasRows};
+ghost use Rattle.csn_look.specs.KeyRows.{table_of, HasTable, HasRow, IsMore, Makes, AreTables, IsSameRow, RowAfter, IsSpareKey, IsRowed, AreRowed, AreAlike, HasRows};
 
 use crate::key_table::KeyTable;
 use crate::known::{bit_of_symbol, spare_starts};
@@ -115,12 +115,29 @@ impl Rowed<'_> {
         requires { AreRowed self.now.desc.now tables.old self.now.rows.now parts.now }
         ensures { IfOk result (λ row. Makes tables.old tables.new row (NodeKeys self.now.desc.now 12 (Node.Choice parts.now))) }
     {
+        if self.are_same(tables, parts) {
+            let table = self.union(tables, parts, 0)?;
+            return same_row(tables, table);
+        }
         let mut row = [0; 8];
         for octet in 0..8 {
             let table = self.union(tables, parts, octet)?;
             row[octet] = tables.keep(table)?;
         }
         Ok(row)
+    }
+
+    /// Whether each of the parts has one table at all octet positions.
+    fn are_same(&self, tables: &TableMaker, parts: &Parts) -> bool
+        requires { AreRowed self.now.desc.now tables.now self.now.rows.now parts.now }
+        ensures { IsTrue result → AreAlike self.now.desc.now parts.now }
+    {
+        for at in 0..parts.len() {
+            if !is_same(&self.of(tables, parts.get(at))) {
+                return false;
+            }
+        }
+        true
     }
 
     /// The keys of one of some parts at an octet position.
@@ -193,11 +210,27 @@ fn row_after(
     requires rest { AreTables tables.old rest.now }
     ensures { IfOk result (λ row. Makes tables.old tables.new row (RowAfter tables.old first.now rest.now)) }
 {
+    if is_same(first) && is_same(rest) {
+        let at = tables.keep_after(alloc, first[0], rest)?;
+        return Ok(same(at));
+    }
     let mut row = [0; 8];
     for octet in 0..8 {
         row[octet] = tables.keep_after(alloc, first[octet], &turned(rest, octet))?;
     }
     Ok(row)
+}
+
+/// Whether the row has one table at all octet positions.
+fn is_same(row: &[usize; 8]) -> bool
+    ensures { IsTrue result → (o : ℕ) → o ≤ 7 → slice_index row.now o ≡ slice_index row.now 0 }
+{
+    for octet in 1..8 {
+        if row[octet] != row[0] {
+            return false;
+        }
+    }
+    true
 }
 
 /// The row as it is seen from an octet position on.
@@ -216,22 +249,12 @@ fn turned(row: &[usize; 8], octet: usize) -> [usize; 8]
 fn literal_row(alloc: Global, tables: &mut TableMaker, run: &Run) -> Result<[usize; 8], NoMemory>
     ensures { (d : DescV) → IfOk result (λ row. Makes tables.old tables.new row (NodeKeys d 12 (Node.Lits run.now))) }
 {
+    let whole = run.len() <= 12;
     let mut row = [0; 8];
     for octet in 0..8u8 {
-        let table = literal_table(alloc, run, octet)?;
-        row[octet as usize] = tables.keep(table)?;
+        row[octet as usize] = tables.keep_key(alloc, &literal_word(run, octet), whole)?;
     }
     Ok(row)
-}
-
-/// The key of a literal word at an octet position.
-fn literal_table(alloc: Global, run: &Run, octet: u8) -> Result<KeyTable, NoMemory>
-    requires { octet ≤ 7 }
-    ensures { (d : DescV) → IfOk result (λ table. KeysAre table (NodeKeys d 12 (Node.Lits run.now) octet)) }
-{
-    let mut table = KeyTable::new(alloc)?;
-    table.add(&literal_word(run, octet), run.len() <= 12);
-    Ok(table)
 }
 
 /// The first bits of a literal word at an octet position, as many as are looked at.
@@ -299,8 +322,8 @@ fn field_row(
 {
     match count {
         Count::Fixed(n) => {
-            let table = field_table(alloc, unit as u64 * n as u64)?;
-            same_row(tables, table)
+            let at = field_table(alloc, tables, unit as u64 * n as u64)?;
+            Ok(same(at))
         }
         Count::Counted {
             m: _,
@@ -310,26 +333,24 @@ fn field_row(
     }
 }
 
-/// The keys of a field of so many bits.
-fn field_table(alloc: Global, width: u64) -> Result<KeyTable, NoMemory>
-    ensures { IfOk result (λ table. KeysAre table (λ word mark. (w : List ℕ) × (length w ≡ width) × IsBits w × Cut 12 w true word mark)) }
+/// The table of a field of so many bits.
+fn field_table(alloc: Global, tables: &mut TableMaker, width: u64) -> Result<usize, NoMemory>
+    ensures kept { IfOk result (λ at. HasTable tables.new at (λ word mark. (w : List ℕ) × (length w ≡ width) × IsBits w × Cut 12 w true word mark)) }
+    ensures more { IsMore tables.old tables.new }
 {
-    let mut table = KeyTable::new(alloc)?;
     if width > 12 {
-        table.add_words(MOST_WORD, false);
+        tables.keep_words(alloc, MOST_WORD, false)
     } else {
-        table.add_words(width as usize, true);
+        tables.keep_words(alloc, width as usize, true)
     }
-    Ok(table)
 }
 
 /// The row of the empty word alone.
 fn empty_row(alloc: Global, tables: &mut TableMaker, whole: bool) -> Result<[usize; 8], NoMemory>
     ensures { IfOk result (λ row. Makes tables.old tables.new row (λ o word mark. (word ≡ []) × (mark ≡ whole))) }
 {
-    let mut table = KeyTable::new(alloc)?;
-    table.add(&Word::new(), whole);
-    same_row(tables, table)
+    let at = tables.keep_key(alloc, &Word::new(), whole)?;
+    Ok(same(at))
 }
 
 /// One table for each octet position.
@@ -337,5 +358,13 @@ fn same_row(tables: &mut TableMaker, table: KeyTable) -> Result<[usize; 8], NoMe
     ensures { IfOk result (λ row. IsSameRow tables.old tables.new row table) }
 {
     let at = tables.keep(table)?;
-    Ok([at; 8])
+    Ok(same(at))
+}
+
+/// The number for each octet position.
+fn same(at: usize) -> [usize; 8]
+    ensures eight { length result ≡ 8 }
+    ensures same { (o : ℕ) → o ≤ 7 → slice_index result o ≡ at }
+{
+    [at; 8]
 }

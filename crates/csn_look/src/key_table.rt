@@ -1,4 +1,9 @@
-ghost use Rattle.std.specs.Prelude.{◌≡◌, ℕ, ◌<◌, ◌≤◌, ◌%◌, [], length, IsTrue, IfOk, slice_index, slice_index_or};
+ghost use Rattle.std.specs.Prelude.{◌≡◌, ℕ, ◌<◌, ◌≤◌, ◌%◌, [], length, nat_eq, IsTrue, IfOk, slice_index, slice_index_or};
+ghost use Rattle.std.specs.Cmp.{partial_equiv_from_equiv};
+ghost use Rattle.std.specs.Cmp.Lexicographic.{nat_list_eq_equiv, pointwise};
+ghost use Rattle.std.specs.Cmp.Rules.{hashing};
+ghost use Rattle.std.specs.Hash as fed;
+ghost use Rattle.std.proofs.Common.{rules};
 ghost use Rattle.csn_look.specs.KeyMarks.{has_key, KeysAre, Adds, IsBeginning, IsStanding};
 ghost use Rattle.csn_look.specs.KeyLists.{IsKeyList};
 ghost use Rattle.csn_look.specs.KeyProducts.{AfterKeys};
@@ -11,6 +16,7 @@ use crate::marks::{is_marked, join_marks};
 use crate::word::{MOST_WORD, Word};
 use csn_bits::NoMemory;
 use std::alloc::Global;
+use std::hash::{Hash, Hasher};
 use std::marker::Model;
 
 /// How some bits stand to a set of keys.
@@ -129,24 +135,6 @@ impl KeyTable {
         add_words(&mut self.marks, words_of(size), whole);
     }
 
-    /// Whether both have the same keys.
-    pub(crate) fn is_same(&self, other: &KeyTable) -> bool
-        ensures { IsTrue result → self.now ≡ other.now }
-    {
-        self.marks.as_slice() == other.marks.as_slice()
-    }
-
-    /// A number that is the same for the same keys, and mostly another for others.
-    pub(crate) fn digest(&self) -> u64 {
-        let mut digest: u64 = 0xCBF2_9CE4_8422_2325;
-        for marks in &self.marks {
-            digest = (digest ^ *marks)
-                .wrapping_mul(0x0100_0000_01B3)
-                .rotate_left(29);
-        }
-        digest
-    }
-
     /// The keys of a first part and of what comes after it, which is in a table of its own for each number of
     /// bits modulo 8 that the first part may have.
     pub fn add_after(&mut self, first: &KeyTable, tables: &[KeyTable], rests: &[usize; 8])
@@ -167,5 +155,29 @@ fn add_after(marks: &mut [u64], first: &[u64], tables: &[KeyTable], rests: &[usi
     for size in 0..13 {
         let rest = &tables[rests[size % 8]];
         add_after_size(marks, first, &rest.marks, size);
+    }
+}
+
+impl PartialEq for KeyTable {
+    ghost eq = { λ a b. pointwise nat_eq a b };
+
+    ghost laws = { partial_equiv_from_equiv nat_list_eq_equiv };
+
+    fn eq(&self, other: &KeyTable) -> bool {
+        self.marks.as_slice() == other.marks.as_slice()
+    }
+}
+
+impl Eq for KeyTable {
+    ghost laws = { nat_list_eq_equiv };
+}
+
+impl Hash for KeyTable {
+    ghost hash_input = { fed.slice fed.u64 };
+
+    ghost respects_eq = { Prim.search (hashing, rules) };
+
+    fn hash<H: Hasher>(&self, state: &mut H) {
+        self.marks.as_slice().hash(state);
     }
 }

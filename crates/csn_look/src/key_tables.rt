@@ -1,19 +1,18 @@
 ghost use Rattle.std.specs.Prelude.{◌≡◌, ◌<◌, ◌≤◌, ◌+◌, ◌%◌, ◌++◌, [], List, ℕ, length, slice_index, slice_index_or, IfOk, OnErr};
 ghost use Rattle.csn_look.specs.KeyProducts.{AfterKeys};
+ghost use Rattle.csn_look.specs.KeyTables.{AreOnce};
 ghost use Rattle.csn_look.specs.KeyRows.{table_of, HasTable};
 
 use crate::key_table::KeyTable;
 use csn_bits::NoMemory;
+use indexmap::IndexSet;
 use std::alloc::Global;
-use std::collections::BTreeMap;
 use std::marker::Model;
 
 /// Tables of keys, each kept once. A contract sees the list of them.
 #[derive(Drop)]
 pub struct KeyTables {
-    tables: Vec<KeyTable>,
-    // where a table with this digest is likely to stand
-    likely: BTreeMap<u64, usize>,
+    tables: IndexSet<KeyTable>,
 }
 
 impl Model for KeyTables {
@@ -21,7 +20,7 @@ impl Model for KeyTables {
 
     ghost Value = { List (List ℕ) };
 
-    ghost view = { λ t. t.tables.items };
+    ghost view = { λ t. t.tables.keys };
 }
 
 impl KeyTables {
@@ -30,8 +29,7 @@ impl KeyTables {
         ensures { result ≡ [] }
     {
         KeyTables {
-            tables: Vec::new(alloc),
-            likely: BTreeMap::new(alloc),
+            tables: IndexSet::new(alloc),
         }
     }
 
@@ -47,24 +45,16 @@ impl KeyTables {
         requires { at < length self.now }
         ensures { result.now ≡ slice_index_or self.now at [] }
     {
-        &self.tables[at]
+        &self.tables.as_slice()[at]
     }
 
-    /// Keeps a table, and answers its number: that of one with the same keys, where it is known.
+    /// Keeps a table, and answers its number: that of the one with the same keys, where there is one.
     pub fn keep(&mut self, table: KeyTable) -> Result<usize, NoMemory>
         ensures kept { IfOk result (λ at. (at < length self.new) × (slice_index_or self.new at [] ≡ table)) }
         ensures more { (more : List (List ℕ)) × (self.new ≡ self.old ++ more) }
+        ensures once { AreOnce self.new }
     {
-        let digest = table.digest();
-        if let Some(at) = self.likely.get(&digest) {
-            let at = *at;
-            if at < self.tables.len() && self.tables[at].is_same(&table) {
-                return Ok(at);
-            }
-        }
-        let at = self.tables.len();
-        self.tables.push(table)?;
-        self.likely.insert(digest, at)?;
+        let (at, _added) = self.tables.insert_full(table)?;
         Ok(at)
     }
 
@@ -82,7 +72,7 @@ impl KeyTables {
         ensures more { (more : List (List ℕ)) × (self.new ≡ self.old ++ more) }
     {
         let mut table = KeyTable::new(alloc)?;
-        table.add_after(&self.tables[first], self.tables.as_slice(), rests);
+        table.add_after(self.get(first), self.tables.as_slice(), rests);
         self.keep(table)
     }
 }

@@ -1,11 +1,15 @@
-ghost use Rattle.std.specs.Prelude.{◌≡◌, ◌<◌, ◌%◌, ◌++◌, [], List, ℕ, length, slice_index, slice_index_or, IfOk, IfSome};
+ghost use Rattle.std.specs.Prelude.{◌≡◌, ◌<◌, ◌%◌, ◌≤◌, ◌++◌, [], List, ℕ, length, slice_index, slice_index_or, IfOk, IfSome};
 ghost use Rattle.csn_look.specs.KeyProducts.{AfterKeys};
 ghost use Rattle.csn_look.specs.KeyRows.{table_of, HasTable};
-ghost use Rattle.csn_look.specs.MadeProducts.{IsProduct};
+ghost use Rattle.csn_look.specs.KeyMarks.{KeysAre};
+ghost use Rattle.csn_look.specs.MadeProducts.{IsProduct, LeafKeys, leaf_of_size};
 
+use crate::key_marks::{STARTS, key_mark};
 use crate::key_table::KeyTable;
 use crate::key_tables::KeyTables;
+use crate::word::{MOST_WORD, Word};
 use csn_bits::NoMemory;
+use indexmap::IndexMap;
 use std::alloc::Global;
 use std::collections::BTreeMap;
 use std::marker::Model;
@@ -26,6 +30,8 @@ pub(crate) struct TableMaker {
     products: Vec<Product>,
     // where a product with this digest is likely to stand
     likely: BTreeMap<u64, usize>,
+    // which table has one key, or all words of a size
+    leaves: IndexMap<usize, usize>,
 }
 
 impl Model for TableMaker {
@@ -33,11 +39,11 @@ impl Model for TableMaker {
 
     ghost Value = { List (List ℕ) };
 
-    ghost use Rattle.csn_look.specs.MadeProducts.{AreProducts};
+    ghost use Rattle.csn_look.specs.MadeProducts.{AreMade};
 
     ghost view = { λ m. m.tables };
 
-    ghost invariant = { λ m. AreProducts m.tables m.products.items };
+    ghost invariant = { λ m. AreMade m.tables m.products.items m.leaves };
 }
 
 impl TableMaker {
@@ -49,6 +55,7 @@ impl TableMaker {
             tables: KeyTables::new(alloc),
             products: Vec::new(alloc),
             likely: BTreeMap::new(alloc),
+            leaves: IndexMap::new(alloc),
         }
     }
 
@@ -102,6 +109,54 @@ impl TableMaker {
         Ok(at)
     }
 
+    /// Keeps the table of one key, and answers its number.
+    pub fn keep_key(&mut self, alloc: Global, word: &Word, whole: bool) -> Result<usize, NoMemory>
+        ensures kept { IfOk result (λ at. HasTable self.new at (λ key mark. (key ≡ word.now) × (mark ≡ whole))) }
+        ensures more { (more : List (List ℕ)) × (self.new ≡ self.old ++ more) }
+    {
+        let leaf = key_mark(word.place(), whole);
+        if let Some(at) = self.leaf(leaf) {
+            return Ok(at);
+        }
+        let mut table = KeyTable::new(alloc)?;
+        table.add(word, whole);
+        self.keep_leaf(leaf, table)
+    }
+
+    /// Keeps the table of all words of so many bits, and answers its number.
+    pub fn keep_words(&mut self, alloc: Global, size: usize, whole: bool) -> Result<usize, NoMemory>
+        requires { size ≤ MOST_WORD }
+        ensures kept { IfOk result (λ at. HasTable self.new at (λ key mark. (length key ≡ size) × (mark ≡ whole))) }
+        ensures more { (more : List (List ℕ)) × (self.new ≡ self.old ++ more) }
+    {
+        let leaf = leaf_of_size(size, whole);
+        if let Some(at) = self.leaf(leaf) {
+            return Ok(at);
+        }
+        let mut table = KeyTable::new(alloc)?;
+        table.add_words(size, whole);
+        self.keep_leaf(leaf, table)
+    }
+
+    /// The table that is looked up by this number, where it was made.
+    fn leaf(&self, leaf: usize) -> Option<usize>
+        ensures { IfSome result (λ at. HasTable self.now at (LeafKeys leaf)) }
+    {
+        let at = self.leaves.get(&leaf)?;
+        Some(*at)
+    }
+
+    /// Keeps the table that is looked up by this number, and answers its own.
+    fn keep_leaf(&mut self, leaf: usize, table: KeyTable) -> Result<usize, NoMemory>
+        requires { KeysAre table (LeafKeys leaf) }
+        ensures kept { IfOk result (λ at. HasTable self.new at (LeafKeys leaf)) }
+        ensures more { (more : List (List ℕ)) × (self.new ≡ self.old ++ more) }
+    {
+        let at = self.tables.keep(table)?;
+        self.leaves.insert(leaf, at)?;
+        Ok(at)
+    }
+
     /// The table that was made of these, where it is known.
     fn made(&self, digest: u64, first: usize, rests: &[usize; 8]) -> Option<usize>
         ensures { IfSome result (λ at. IsProduct self.now first rests.now at) }
@@ -130,6 +185,15 @@ impl TableMaker {
         self.likely.insert(digest, at)?;
         Ok(())
     }
+}
+
+/// What the table of all words of so many bits is looked up by.
+fn leaf_of_size(size: usize, whole: bool) -> usize
+    requires { size ≤ MOST_WORD }
+    ensures { result ≡ leaf_of_size size whole }
+{
+    let leaf = STARTS + size;
+    if whole { leaf } else { leaf + MOST_WORD + 1 }
 }
 
 /// A number that is the same for the same numbers, and mostly another for others.

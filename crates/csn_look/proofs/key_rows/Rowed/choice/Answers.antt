@@ -1,10 +1,25 @@
+use Rattle.std.proofs.Common.{List, ℕ}
+use Rattle.std.proofs.lemmas.Result.{IfOk-weaker}
 use Rattle.csn_desc.specs.declared.node.Node.TheVariants.{Choice}
 use Rattle.csn_look.specs.Keys.{NodeKeys}
-use Rattle.csn_look.proofs.RowFacts.{row_next, kept_table}
+use Rattle.csn_look.specs.KeyRows.{IsSameRow, Makes}
+use Rattle.csn_look.proofs.RowFacts.{row_next, kept_table, same_tables}
+use Rattle.csn_look.proofs.RowKeys.{choice_alike}
 use Rattle.csn_look.proofs.key_rows.Rowed.choice.Goals as goal
+
+pub returns-then-are_same : goal.returns-then-are_same
+returns-then-are_same c =
+    let d = c.args.self.now.desc.now in
+    let old = c.args.tables.now in
+    let new = c.same_row.new.tables in
+    let marks = c.in_ok-table.table in
+    let keys = NodeKeys d 12 (Choice c.args.parts.now) in
+    IfOk-weaker c.same_row.result (λ (row : List ℕ). IsSameRow old new row marks) (λ (row : List ℕ). Makes old new row keys)
+    (λ row h. same_tables old new row marks keys (choice_alike d c.args.parts.now marks (c.are_same.ensures c.if-are_same.true) c.in_ok-table.ensures) h)
+    c.same_row.ensures
 
 pub loop-octet-preserved : goal.loop-octet-preserved
 loop-octet-preserved c =
     let keys = NodeKeys c.args.self.now.desc.now 12 (Choice c.args.parts.now) in
     row_next c.args.tables.now c.loop-octet.tables c.keep.new.self c.loop-octet.row c.loop-octet.octet c.in_ok-row.field-0 keys c.loop-octet-test.true c.loop-octet.invariant
-    (kept_table c.loop-octet.tables c.keep.new.self c.in_ok-row.field-0 c.in_ok-table.table (keys c.loop-octet.octet) c.in_ok-row.ensures.more c.in_ok-row.ensures.kept.0 c.in_ok-row.ensures.kept.1 c.in_ok-table.ensures)
+    (kept_table c.loop-octet.tables c.keep.new.self c.in_ok-row.field-0 c.in_ok-table-2.table (keys c.loop-octet.octet) c.in_ok-row.ensures.more c.in_ok-row.ensures.kept.0 c.in_ok-row.ensures.kept.1 c.in_ok-table-2.ensures)

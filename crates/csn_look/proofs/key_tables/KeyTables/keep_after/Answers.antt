@@ -1,5 +1,4 @@
-use Rattle.std.proofs.Common.{ℕ, ◌%◌, ◌≡◌, ◌<◌, List, [], length, get_or, ap, subst, sym, ◌∙◌}
-use Rattle.std.proofs.lemmas.List.{get_or_read}
+use Rattle.std.proofs.Common.{ℕ, ◌%◌, ◌≡◌, ◌<◌, List, [], length, get_or, subst, ◌∙◌}
 use Rattle.std.proofs.lemmas.Result.{IfOk-weaker}
 use Rattle.csn_look.specs.KeyMarks.{Adds}
 use Rattle.csn_look.specs.KeyProducts.{AfterKeys}
@@ -14,11 +13,8 @@ returns-clause-kept c =
     let marks = c.add_after.new.self in
     let one = get_or old c.args.first [] in
     let rests = λ (l : List (List ℕ)) (size : ℕ). get_or l (get_or c.args.rests.now (size % 8) 0) [] in
-    let Inside : List (List ℕ) → Type 0 = λ l. c.args.first < length l in
-    let read : c.index.result.now ≡ one =
-    get_or_read c.self.inside.tables.items c.args.first c.index.result.now (subst Inside (sym c.self.view_is) c.requires.first) c.index.ensures []
-    ∙ ap (λ l. get_or l c.args.first []) c.self.view_is in
-    let all : c.as_slice.result.now ≡ old = c.as_slice.ensures.value ∙ c.self.view_is in
+    let read : c.get.result.now ≡ one = c.get.ensures in
+    let all : c.as_slice.result.now ≡ old = c.as_slice.ensures.keys ∙ c.self.view_is in
     let P : List ℕ → Type 0 = λ f. Adds c.in_ok-table.table marks (AfterKeys f (rests c.as_slice.result.now)) in
     let Q : List (List ℕ) → Type 0 = λ l. Adds c.in_ok-table.table marks (AfterKeys one (rests l)) in
     let adds = subst Q all (subst P read c.add_after.ensures) in

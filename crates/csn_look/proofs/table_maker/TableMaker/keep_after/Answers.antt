@@ -1,14 +1,14 @@
 use Rattle.std.proofs.Common.{◌<◌, ◌%◌, ℕ, List, length, get_or, sym, subst}
 use Rattle.csn_look.specs.KeyProducts.{AfterKeys}
 use Rattle.csn_look.specs.KeyRows.{table_of, HasTable}
-use Rattle.csn_look.proofs.ProductsMade.{product_of, products_stay}
+use Rattle.csn_look.proofs.ProductsMade.{product_of, made_stays}
 use Rattle.csn_look.proofs.table_maker.TableMaker.keep_after.Goals as goal
 
 pub invariant_of-self : goal.invariant_of-self
-invariant_of-self c = products_stay c.self.inside.tables c.keep_after.new.self c.self.inside.products.items c.keep_after.ensures.more c.self.invariant
+invariant_of-self c = made_stays c.self.inside.tables c.keep_after.new.self c.self.inside.products.items c.self.inside.leaves c.keep_after.ensures.more c.self.invariant
 
 pub invariant_of-self-2 : goal.invariant_of-self-2
-invariant_of-self-2 c = products_stay c.self.inside.tables c.keep_after.new.self c.self.inside.products.items c.keep_after.ensures.more c.self.invariant
+invariant_of-self-2 c = made_stays c.self.inside.tables c.keep_after.new.self c.self.inside.products.items c.self.inside.leaves c.keep_after.ensures.more c.self.invariant
 
 pub remember-requires : goal.remember-requires
 remember-requires c =

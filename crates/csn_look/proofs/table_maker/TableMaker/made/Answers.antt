@@ -17,4 +17,4 @@ returns-then-eq c =
     let P : ℕ → Type 0 = λ first. IsProduct c.self.inside.tables first product.rests product.at in
     let Q : List ℕ → Type 0 = λ l. IsProduct c.self.inside.tables c.args.first l product.at in
     let R : List (List ℕ) → Type 0 = λ tables. IsProduct tables c.args.first c.args.rests.now product.at in
-    subst R c.self.view_is (subst Q rests (subst P c.if-product-first.true (c.self.invariant at product there)))
+    subst R c.self.view_is (subst Q rests (subst P c.if-product-first.true (c.self.invariant.right_products at product there)))

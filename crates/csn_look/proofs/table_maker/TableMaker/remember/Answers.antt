@@ -12,9 +12,13 @@ kept tables now products new p same e are is =
     subst P (sym e) (product_kept tables products p are (subst Q (sym same) is))
 
 pub invariant_of-self-in_err-insert : goal.invariant_of-self-in_err-insert
-invariant_of-self-in_err-insert c =
-    kept c.self.inside.tables c.args.self.now c.self.inside.products.items c.push.new.self.items c.args.product c.self.view_is c.in_ok-push.ensures.items c.self.invariant c.requires
+invariant_of-self-in_err-insert c = record {
+  right_products = kept c.self.inside.tables c.args.self.now c.self.inside.products.items c.push.new.self.items c.args.product c.self.view_is c.in_ok-push.ensures.items c.self.invariant.right_products c.requires;
+  right_leaves = c.self.invariant.right_leaves;
+}
 
 pub invariant_of-self-2 : goal.invariant_of-self-2
-invariant_of-self-2 c =
-    kept c.self.inside.tables c.args.self.now c.self.inside.products.items c.push.new.self.items c.args.product c.self.view_is c.in_ok-push.ensures.items c.self.invariant c.requires
+invariant_of-self-2 c = record {
+  right_products = kept c.self.inside.tables c.args.self.now c.self.inside.products.items c.push.new.self.items c.args.product c.self.view_is c.in_ok-push.ensures.items c.self.invariant.right_products c.requires;
+  right_leaves = c.self.invariant.right_leaves;
+}
