@@ -7,13 +7,14 @@ use Rattle.csn_desc.specs.declared.symbol.Symbol.TheVariants.{Low}
 use Rattle.csn_desc.specs.declared.node.Node.{Node}
 use Rattle.csn_desc.specs.TreeV.{TreeV, Trees, none}
 use Rattle.csn_desc.specs.Nodes.{DescV}
-use Rattle.csn_desc.specs.Spelled.{spelled, IsSpare}
+use Rattle.csn_desc.specs.Spelled.{IsSpare}
 use Rattle.csn_desc.specs.Values.{Values}
 use Rattle.csn_desc.specs.Means.{NMeans, NodeMeans, PartsMean, TimesMean, ManyMean, LeadMean, means_lits, means_spare, means_pad, means_null, means_field, means_rest, means_seq, means_choice, means_times, means_many, means_cut, means_trunc, means_window, means_named, parts_end, parts_next, times_end, times_next, many_end, many_next, lead_last, lead_next}
-use Rattle.csn_encode.specs.declared.misfit.MisfitWhy.{MisfitWhy}
-use Rattle.csn_encode.specs.Misfits.{has_kind, tree_count, kept_with, kept_count, HavePieces, pieces_end, pieces_next, MissesNode, wrong_kind, wrong_label, wrong_seq, wrong_times, wrong_trunc, idle_trunc, wrong_field, wide_spare, no_pad, wrong_spare, wrong_pad, no_alternative, wrong_window, past_lits, past_field, past_rest, past_spare, past_pad, Misses, MissesIn, MissesParts, MissesRepeats, misses_at, misses_here, misses_named, misses_choice, misses_window, misses_seq, misses_trunc, misses_times, misses_many, parts_here, parts_later, repeats_here, repeats_later}
-use Rattle.csn_encode.proofs.OneBits.{one_bits, at_node}
 use Rattle.csn_desc.proofs.BitFacts.{length-spelled}
+use Rattle.csn_desc.proofs.Nodewise.{meaning_at}
+use Rattle.csn_encode.specs.declared.misfit.MisfitWhy.{MisfitWhy}
+use Rattle.csn_encode.specs.Misfits.{has_kind, tree_count, IsWithin, kept_with, kept_count, HavePieces, pieces_end, pieces_next, MissesNode, wrong_kind, wrong_label, wrong_seq, wrong_times, wrong_trunc, idle_trunc, wrong_field, wide_spare, no_pad, wrong_spare, wrong_pad, no_alternative, wrong_window, past_lits, past_field, past_rest, past_spare, past_pad, Misses, MissesIn, MissesParts, MissesRepeats, misses_at, misses_here, misses_named, misses_choice, misses_window, misses_seq, misses_trunc, misses_times, misses_many, parts_here, parts_later, repeats_here, repeats_later}
+use Rattle.csn_encode.proofs.OneBits.{one_bits}
 
 pub spare_in : {r q : Reading} (s : Symbol) {o p : ℕ} {b c : List ℕ} → r ≡ q → o ≡ p → b ≡ c → IsSpare r s o b → IsSpare q s p c
 spare_in {r} {q} s {o} {p} {b} {c} reading place same h =
@@ -33,14 +34,14 @@ last_kept [] h = absurd (omega arith)
 last_kept (x ∷ b) h = (refl, omega arith)
 
 -- the first of two pieces ends where both do, or before
-first_within : {b : List ℕ} (o most : ℕ) (b1 b2 : List ℕ) → b ≡ b1 ++ b2 → o + length b ≤ most → o + length b1 ≤ most
-first_within o most b1 b2 cut within =
+first_within : {b : List ℕ} (o : ℕ) (b1 b2 : List ℕ) → b ≡ b1 ++ b2 → IsWithin o b → IsWithin o b1
+first_within o b1 b2 cut within =
     let long = ap length cut in
     let sum = length-append b1 b2 in
     omega (arith, long, sum)
 
-rest_within : {b : List ℕ} (o most : ℕ) (b1 b2 : List ℕ) → b ≡ b1 ++ b2 → o + length b ≤ most → (o + length b1) + length b2 ≤ most
-rest_within o most b1 b2 cut within =
+rest_within : {b : List ℕ} (o : ℕ) (b1 b2 : List ℕ) → b ≡ b1 ++ b2 → IsWithin o b → IsWithin (o + length b1) b2
+rest_within o b1 b2 cut within =
     let long = ap length cut in
     let sum = length-append b1 b2 in
     omega (arith, long, sum)
@@ -75,10 +76,6 @@ module _ (d : DescV) where
   lead_count (lead_last least h) = omega arith
   lead_count (lead_next b1 b2 cut h hs) = let k = lead_count hs in omega arith
 
-  lead_tree : {parts : List ℕ} {o : ℕ} {v : Values} {b : List ℕ} {ts : Trees} → LeadMean d parts o v b ts → ts ≡ none → ⊥
-  lead_tree (lead_last least h) same = cc
-  lead_tree (lead_next b1 b2 cut h hs) same = cc
-
   no_pieces : {parts : List ℕ} {o : ℕ} {v : Values} {ts : Trees} {pieces : List (List ℕ)} → HavePieces d parts o v ts pieces → ts ≡ none → pieces ≡ []
   no_pieces (pieces_end e) same = e
   no_pieces (pieces_next b later e h within hs) same = absurd (cc)
@@ -107,7 +104,7 @@ module _ (d : DescV) where
   no_part (parts_later b m within hs) same = cc
 
   -- a node that is missed itself
-  clash_node : {n : Node} {o p : ℕ} {v w : Values} {t u : TreeV} {why : MisfitWhy} {b : List ℕ} → MissesNode d n o v t why → NodeMeans d n p w b u → o ≡ p → v ≡ w → t ≡ u → p + length b ≤ 524288 → ⊥
+  clash_node : {n : Node} {o p : ℕ} {v w : Values} {t u : TreeV} {why : MisfitWhy} {b : List ℕ} → MissesNode d n o v t why → NodeMeans d n p w b u → o ≡ p → v ≡ w → t ≡ u → IsWithin p b → ⊥
   clash_node (wrong_kind h e) m place seen same within = let k = kind_of m in cc
   clash_node (wrong_label h e) (means_named m) place seen same within = h (cc)
   clash_node (wrong_seq h e) (means_seq m) place seen same within = let k = parts_count m in h (cc)
@@ -139,10 +136,10 @@ module _ (d : DescV) where
       let one_string : b ≡ c = cc in let long = ap length one_string in omega (arith, long)
 
   mutual
-    pub clash : {i k o p : ℕ} {v w : Values} {t u : TreeV} {path : List ℕ} {why : MisfitWhy} {b : List ℕ} → Misses d i o v t path why → NMeans d k p w b u → i ≡ k → o ≡ p → v ≡ w → t ≡ u → p + length b ≤ 524288 → ⊥
-    clash (misses_at n at h) m node place seen same within = clash_in h (at_node d n at node m) place seen same within
+    pub clash : {i k o p : ℕ} {v w : Values} {t u : TreeV} {path : List ℕ} {why : MisfitWhy} {b : List ℕ} → Misses d i o v t path why → NMeans d k p w b u → i ≡ k → o ≡ p → v ≡ w → t ≡ u → IsWithin p b → ⊥
+    clash (misses_at n at h) m node place seen same within = clash_in h (meaning_at d (cc) m) place seen same within
 
-    clash_in : {n : Node} {o p : ℕ} {v w : Values} {t u : TreeV} {path : List ℕ} {why : MisfitWhy} {b : List ℕ} → MissesIn d n o v t path why → NodeMeans d n p w b u → o ≡ p → v ≡ w → t ≡ u → p + length b ≤ 524288 → ⊥
+    clash_in : {n : Node} {o p : ℕ} {v w : Values} {t u : TreeV} {path : List ℕ} {why : MisfitWhy} {b : List ℕ} → MissesIn d n o v t path why → NodeMeans d n p w b u → o ≡ p → v ≡ w → t ≡ u → IsWithin p b → ⊥
     clash_in (misses_here e h) m place seen same within = clash_node h m place seen same within
     clash_in (misses_named below e label h) (means_named m) place seen same within = clash h m refl place seen (cc) within
     clash_in (misses_choice below e at h) (means_choice there m) place seen same within = clash h m (cc) place seen (cc) within
@@ -153,30 +150,30 @@ module _ (d : DescV) where
     clash_in (misses_times n count wanted h) (means_times k counts m) place seen same within = clash_times h m place seen (cc) within
     clash_in (misses_many h) (means_many m) place seen same within = clash_many h m place seen (cc) within
 
-    clash_parts : {parts : List ℕ} {at o p : ℕ} {v w : Values} {ts us : Trees} {path : List ℕ} {why : MisfitWhy} {b : List ℕ} → MissesParts d parts at o v ts path why → PartsMean d parts p w b us → o ≡ p → v ≡ w → ts ≡ us → p + length b ≤ 524288 → ⊥
-    clash_parts {p = p} (parts_here below e h) (parts_next b1 b2 cut m ms) place seen same within = clash h m refl place seen (cc) (first_within p 524288 b1 b2 cut within)
+    clash_parts : {parts : List ℕ} {at o p : ℕ} {v w : Values} {ts us : Trees} {path : List ℕ} {why : MisfitWhy} {b : List ℕ} → MissesParts d parts at o v ts path why → PartsMean d parts p w b us → o ≡ p → v ≡ w → ts ≡ us → IsWithin p b → ⊥
+    clash_parts {p = p} (parts_here below e h) (parts_next b1 b2 cut m ms) place seen same within = clash h m refl place seen (cc) (first_within p b1 b2 cut within)
     clash_parts {p = p} (parts_later b0 k room hs) (parts_next b1 b2 cut m ms) place seen same within =
         let one = one_bits d k m refl place seen (cc) in
-        clash_parts hs ms (cc) (cc) (cc) (rest_within p 524288 b1 b2 cut within)
+        clash_parts hs ms (cc) (cc) (cc) (rest_within p b1 b2 cut within)
 
-    clash_lead : {parts : List ℕ} {at o p : ℕ} {v w : Values} {ts us : Trees} {path : List ℕ} {why : MisfitWhy} {b : List ℕ} → MissesParts d parts at o v ts path why → LeadMean d parts p w b us → o ≡ p → v ≡ w → ts ≡ us → p + length b ≤ 524288 → ⊥
+    clash_lead : {parts : List ℕ} {at o p : ℕ} {v w : Values} {ts us : Trees} {path : List ℕ} {why : MisfitWhy} {b : List ℕ} → MissesParts d parts at o v ts path why → LeadMean d parts p w b us → o ≡ p → v ≡ w → ts ≡ us → IsWithin p b → ⊥
     clash_lead (parts_here below e h) (lead_last least m) place seen same within = clash h m refl place seen (cc) within
     clash_lead (parts_later b0 k room hs) (lead_last least m) place seen same within = no_part hs (cc)
-    clash_lead {p = p} (parts_here below e h) (lead_next b1 b2 cut m ms) place seen same within = clash h m refl place seen (cc) (first_within p 524288 b1 b2 cut within)
+    clash_lead {p = p} (parts_here below e h) (lead_next b1 b2 cut m ms) place seen same within = clash h m refl place seen (cc) (first_within p b1 b2 cut within)
     clash_lead {p = p} (parts_later b0 k room hs) (lead_next b1 b2 cut m ms) place seen same within =
         let one = one_bits d k m refl place seen (cc) in
-        clash_lead hs ms (cc) (cc) (cc) (rest_within p 524288 b1 b2 cut within)
+        clash_lead hs ms (cc) (cc) (cc) (rest_within p b1 b2 cut within)
 
-    clash_times : {n i at o p : ℕ} {v w : Values} {ts us : Trees} {path : List ℕ} {why : MisfitWhy} {b : List ℕ} → MissesRepeats d i at o v ts path why → TimesMean d n i p w b us → o ≡ p → v ≡ w → ts ≡ us → p + length b ≤ 524288 → ⊥
+    clash_times : {n i at o p : ℕ} {v w : Values} {ts us : Trees} {path : List ℕ} {why : MisfitWhy} {b : List ℕ} → MissesRepeats d i at o v ts path why → TimesMean d n i p w b us → o ≡ p → v ≡ w → ts ≡ us → IsWithin p b → ⊥
     clash_times h (times_end over m) place seen same within = no_repeat h same
-    clash_times {p = p} (repeats_here below e h) (times_next l is b1 b2 cut m ms) place seen same within = clash h m refl place seen (cc) (first_within p 524288 b1 b2 cut within)
+    clash_times {p = p} (repeats_here below e h) (times_next l is b1 b2 cut m ms) place seen same within = clash h m refl place seen (cc) (first_within p b1 b2 cut within)
     clash_times {p = p} (repeats_later b0 k room hs) (times_next l is b1 b2 cut m ms) place seen same within =
         let one = one_bits d k m refl place seen (cc) in
-        clash_times hs ms (cc) seen (cc) (rest_within p 524288 b1 b2 cut within)
+        clash_times hs ms (cc) seen (cc) (rest_within p b1 b2 cut within)
 
-    clash_many : {i at o p : ℕ} {v w : Values} {ts us : Trees} {path : List ℕ} {why : MisfitWhy} {b : List ℕ} → MissesRepeats d i at o v ts path why → ManyMean d i p w b us → o ≡ p → v ≡ w → ts ≡ us → p + length b ≤ 524288 → ⊥
+    clash_many : {i at o p : ℕ} {v w : Values} {ts us : Trees} {path : List ℕ} {why : MisfitWhy} {b : List ℕ} → MissesRepeats d i at o v ts path why → ManyMean d i p w b us → o ≡ p → v ≡ w → ts ≡ us → IsWithin p b → ⊥
     clash_many h (many_end m) place seen same within = no_repeat h same
-    clash_many {p = p} (repeats_here below e h) (many_next b1 b2 cut least m ms) place seen same within = clash h m refl place seen (cc) (first_within p 524288 b1 b2 cut within)
+    clash_many {p = p} (repeats_here below e h) (many_next b1 b2 cut least m ms) place seen same within = clash h m refl place seen (cc) (first_within p b1 b2 cut within)
     clash_many {p = p} (repeats_later b0 k room hs) (many_next b1 b2 cut least m ms) place seen same within =
         let one = one_bits d k m refl place seen (cc) in
-        clash_many hs ms (cc) seen (cc) (rest_within p 524288 b1 b2 cut within)
+        clash_many hs ms (cc) seen (cc) (rest_within p b1 b2 cut within)

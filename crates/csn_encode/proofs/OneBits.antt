@@ -1,21 +1,15 @@
 -- A tree has one string of bits.
-use Rattle.std.proofs.Common.{◌≡◌, ℕ, List, ◌++◌, refl, subst, Some}
-use Rattle.std.specs.Prelude.{slice_get}
+use Rattle.std.proofs.Common.{◌≡◌, ℕ, List, ◌++◌, refl}
 use Rattle.csn_desc.specs.declared.node.Node.{Node}
 use Rattle.csn_desc.specs.TreeV.{TreeV, Trees, none}
 use Rattle.csn_desc.specs.Nodes.{DescV}
 use Rattle.csn_desc.specs.Values.{Values}
 use Rattle.csn_desc.specs.Means.{NMeans, NodeMeans, PartsMean, TimesMean, ManyMean, LeadMean, means_at, means_lits, means_spare, means_pad, means_null, means_field, means_rest, means_seq, means_choice, means_times, means_many, means_cut, means_trunc, means_window, means_named, parts_end, parts_next, times_end, times_next, many_end, many_next, lead_last, lead_next}
+use Rattle.csn_desc.proofs.Nodewise.{meaning_at}
 
 module _ (d : DescV) where
-  -- what a node's number means is what the node means
-  pub at_node : {i j o : ℕ} {v : Values} {c : List ℕ} {t : TreeV} (n : Node) → slice_get d.nodes i ≡ Some n → i ≡ j → NMeans d j o v c t → NodeMeans d n o v c t
-  at_node {o = o} {v = v} {c = c} {t = t} n here same (means_at m there h) =
-      let one : m ≡ n = cc in
-      let P : Node → Type 0 = λ k. NodeMeans d k o v c t in
-      subst P one h
-
-  lead_some : {parts : List ℕ} {o : ℕ} {v : Values} {b : List ℕ} {ts : Trees} → LeadMean d parts o v b ts → ts ≡ none → ⊥
+  -- some part of a truncation has a tree
+  pub lead_some : {parts : List ℕ} {o : ℕ} {v : Values} {b : List ℕ} {ts : Trees} → LeadMean d parts o v b ts → ts ≡ none → ⊥
   lead_some (lead_last some h) same = cc
   lead_some (lead_next b1 b2 cut h hs) same = cc
 
@@ -24,7 +18,7 @@ module _ (d : DescV) where
 
   mutual
     pub one_bits : {i j o p : ℕ} {v w : Values} {b c : List ℕ} {t u : TreeV} → NMeans d i o v b t → NMeans d j p w c u → i ≡ j → o ≡ p → v ≡ w → t ≡ u → b ≡ c
-    one_bits (means_at n at h) right node place seen same = one_node h (at_node n at node right) place seen same
+    one_bits (means_at n at h) right node place seen same = one_node h (meaning_at d (cc) right) place seen same
 
     one_node : {n : Node} {o p : ℕ} {v w : Values} {b c : List ℕ} {t u : TreeV} → NodeMeans d n o v b t → NodeMeans d n p w c u → o ≡ p → v ≡ w → t ≡ u → b ≡ c
     one_node (means_lits h) (means_lits k) place seen same = cc

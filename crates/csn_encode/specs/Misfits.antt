@@ -2,6 +2,7 @@
 -- parts and the parts in their order, and at one node the reasons in the order in which they stand here.
 -- (This project's own choice.)
 use Rattle.std.specs.Prelude.{◌≡◌, ◌≢◌, ℕ, zero, suc, ◌+◌, ◌*◌, ◌<◌, ◌≤◌, Bool, true, false, List, [], ◌∷◌, length, slice_get, Some}
+use Rattle.csn_bits.specs.Octets.{most_bits}
 use Rattle.csn_desc.specs.declared.reading.Reading.TheVariants.{Sent}
 use Rattle.csn_desc.specs.declared.symbol.Symbol.{Symbol}
 use Rattle.csn_desc.specs.declared.symbol.Symbol.TheVariants.{Low}
@@ -39,11 +40,11 @@ tree_count ts = length (list_of ts)
 
 -- bits that begin at a place end within a block
 abbrev pub IsWithin : ℕ → List ℕ → Type 0
-IsWithin o b = o + length b ≤ 524288
+IsWithin o b = o + length b ≤ most_bits
 
 -- this many bits from a place on are more than a block has
 abbrev pub IsPast : ℕ → ℕ → Type 0
-IsPast o count = 524288 < o + count
+IsPast o count = most_bits < o + count
 
 abbrev pub kept_with : List ℕ → ℕ → ℕ
 kept_with [] zero = zero

@@ -15,13 +15,14 @@ pub struct Path {
 }
 
 impl Model for Path {
+    ghost use Rattle.csn_encode.specs.declared.path.TheConstants.{MOST_STEPS};
     ghost use Rattle.std.specs.Prelude.{List, ℕ, ◌≤◌, length};
 
     ghost Value = { List ℕ };
 
     ghost view = { λ p. p.numbers.items };
 
-    ghost invariant = { λ p. length p.numbers.items ≤ 64 };
+    ghost invariant = { λ p. length p.numbers.items ≤ MOST_STEPS };
 }
 
 impl Path {
