@@ -17,6 +17,8 @@ use Rattle.csn_grammar.specs.ExprV.{ExprV, ExprsV}
 use Rattle.csn_grammar.specs.RulesV.{RulesV}
 use Rattle.csn_grammar.specs.Names.{is_built_in, same_name, rule_of}
 use Rattle.csn_grammar.specs.Place.{HasRules}
+use Rattle.csn_grammar.specs.Labelled.{IsLabelled, ItemsLabelled, AreLabelled}
+use Rattle.csn_grammar.specs.Laws.{LabelsOfTextsAreLabels}
 use Rattle.csn_treetext.specs.declared.version.Version.TheVariants.{Second}
 use Rattle.csn_desc.specs.TreeParts.{HasTreeParts, AllHaveTreeParts}
 use Rattle.csn_treetext.specs.Text.{text_of}
@@ -27,7 +29,6 @@ use Rattle.csn_run.specs.declared.simple.decided.Decided.TheVariants.{Tree, Refu
 use Rattle.csn_run.specs.Simple.{things_of, IsSimple}
 use Rattle.csn_run.specs.SimpleSlots.{thing_slots, slots_of, reach, thing_tree, tree_list, tree_of}
 use Rattle.csn_run.specs.OutLine.{ShowsLine, shows_tree, shows_place, shows_fault, fault_text, refusal_text}
-use Rattle.csn_run.proofs.LabelsRead.{OwnLabels, AllOwnLabels, RulesOwnLabels, labels_of}
 use Rattle.csn_run.proofs.SimpleSlotFacts.{reach-le_bits, reach-le_slots}
 use Rattle.csn_run.proofs.SimpleMeaning.{IsThing, is_literal, is_field, AreThings, no_things, more_things, BodyIs, one_thing, several, IsBits-drop}
 use Rattle.csn_run.proofs.SimpleAnswers.{has_body, decides_from, tree_fits}
@@ -42,32 +43,32 @@ abbrev ThingLabels : List Thing → Type 0
 ThingLabels [] = Unit {0}
 ThingLabels (t ∷ ts) = ThingLabel t × ThingLabels ts
 
-thing_label : {x : ExprV} {t : Thing} → IsThing x t → OwnLabels x → ThingLabel t
+thing_label : {x : ExprV} {t : Thing} → IsThing x t → IsLabelled x → ThingLabel t
 thing_label (is_literal run word plain) h = tt
-thing_label (is_field label n low) h = h
+thing_label (is_field label n low) h = h.0
 
-thing_labels : {xs : ExprsV} {ts : List Thing} → AreThings xs ts → AllOwnLabels xs → ThingLabels ts
+thing_labels : {xs : ExprsV} {ts : List Thing} → AreThings xs ts → ItemsLabelled xs → ThingLabels ts
 thing_labels no_things h = tt
 thing_labels (more_things is are) h = (thing_label is h.0, thing_labels are h.1)
 
-body_labels : {x : ExprV} {ts : List Thing} → BodyIs x ts → OwnLabels x → ThingLabels ts
+body_labels : {x : ExprV} {ts : List Thing} → BodyIs x ts → IsLabelled x → ThingLabels ts
 body_labels (one_thing is) h = (thing_label is h, tt)
 body_labels (several are two) h = thing_labels are h
 
-found_here : (v : Bool) (first rule : Rule) (other : Option Rule) → cond v (Some first) other ≡ Some rule → OwnLabels first.body → (other ≡ Some rule → OwnLabels rule.body) → OwnLabels rule.body
+found_here : (v : Bool) (first rule : Rule) (other : Option Rule) → cond v (Some first) other ≡ Some rule → IsLabelled first.body → (other ≡ Some rule → IsLabelled rule.body) → IsLabelled rule.body
 found_here true first rule other e here later =
-    let same : first ≡ rule = cc in let P : Rule → Type 0 = λ r. OwnLabels r.body in subst P same here
+    let same : first ≡ rule = cc in let P : Rule → Type 0 = λ r. IsLabelled r.body in subst P same here
 found_here false first rule other e here later = later e
 
-found_labels : (name : List ℕ) (rules : RulesV) (rule : Rule) → find (λ r. same_name r.name name) rules ≡ Some rule → RulesOwnLabels rules → OwnLabels rule.body
+found_labels : (name : List ℕ) (rules : RulesV) (rule : Rule) → find (λ r. same_name r.name name) rules ≡ Some rule → AreLabelled rules → IsLabelled rule.body
 found_labels name [] rule e h = cc
 found_labels name (first ∷ rules) rule e h =
     found_here (same_name first.name name) first rule (find (λ r. same_name r.name name) rules) e h.0 (λ k. found_labels name rules rule k h.1)
 
-rule_labels : (rules : RulesV) (name : List ℕ) (rule : Rule) → rule_of rules name ≡ Some rule → RulesOwnLabels rules → OwnLabels rule.body
+rule_labels : (rules : RulesV) (name : List ℕ) (rule : Rule) → rule_of rules name ≡ Some rule → AreLabelled rules → IsLabelled rule.body
 rule_labels rules name rule e h = go (is_built_in name) e
   where
-    go : (v : Bool) → cond v None (find (λ r. same_name r.name name) rules) ≡ Some rule → OwnLabels rule.body
+    go : (v : Bool) → cond v None (find (λ r. same_name r.name name) rules) ≡ Some rule → IsLabelled rule.body
     go true e = cc
     go false e = found_labels name rules rule e h
 
@@ -130,9 +131,9 @@ module _ (rules : RulesV) (name : List ℕ) (reading : Reading) (things : List T
   line_answer line (Some why) is = (fault_text (fault_for why), shows_fault (fault_for why) (why, is, refl) refl)
 
 -- each line has an answer, by a rule of a text that can be shown
-pub each_answered : (text : List ℕ) (rules : RulesV) (name : List ℕ) (reading : Reading) → HasRules text rules → IsSimple rules name → (line : List ℕ) → (answer : List ℕ) × ShowsLine rules name reading line answer
-each_answered text rules name reading has simple line =
+pub each_answered : LabelsOfTextsAreLabels → (text : List ℕ) (rules : RulesV) (name : List ℕ) (reading : Reading) → HasRules text rules → IsSimple rules name → (line : List ℕ) → (answer : List ℕ) × ShowsLine rules name reading line answer
+each_answered labelled text rules name reading has simple line =
     let some = things_given (things_of rules name) simple in
     let body = has_body rules name some.0 some.1 in
-    let labels = body_labels body.2 (rule_labels rules name body.0 body.1 (labels_of text rules has)) in
+    let labels = body_labels body.2 (rule_labels rules name body.0 body.1 (labelled text rules has)) in
     line_answer rules name reading some.0 some.1 labels line (fault_of line) refl

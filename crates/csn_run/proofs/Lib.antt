@@ -15,12 +15,8 @@ pub mod SimpleRows
 pub mod SimpleMeaning
 pub mod SimpleAnswers
 pub mod SimpleTexts
-pub mod LabelsRead
 pub mod EachAnswered
 pub mod Extends
-pub mod TextDecided
-pub mod TreeTextDecided
-pub mod OnePlace
 pub mod OneAnswer
 pub mod JobAnswers
 pub mod ResultExists

@@ -3,16 +3,11 @@ use Rattle.std.proofs.Common.{◌≡◌, ℕ, ◌≤◌, Bool, List, [], ◌∷�
 use Rattle.std.proofs.lemmas.List.{append-nil}
 use Rattle.std.specs.List.{AllZip, list_any}
 use Rattle.std.specs.Fmt.{decimal}
-use Rattle.csn_lexer.specs.declared.token.Token.{Token}
-use Rattle.csn_lexer.proofs.OneReading.{one_reading, one_next}
 use Rattle.csn_desc.specs.declared.reading.Reading.{Reading}
 use Rattle.csn_desc.specs.declared.reading.Reading.TheVariants.{Received, Sent}
 use Rattle.csn_grammar.specs.RulesV.{RulesV}
-use Rattle.csn_grammar.specs.TokenV.{tokens_in}
-use Rattle.csn_grammar.specs.Grammar.{AreRules}
 use Rattle.csn_grammar.specs.Place.{HasRules}
-use Rattle.csn_grammar.proofs.CompleteRules.{one_list_of_rules}
-use Rattle.csn_grammar.proofs.OnePlace.{no_fault}
+use Rattle.csn_grammar.specs.Laws.{TextsHaveOneListOfRules, RulesHaveNoFault, TextsHaveOnePlace}
 use Rattle.csn_run.specs.declared.ended.Ended.{Ended}
 use Rattle.csn_run.specs.declared.lines.TheConstants.{MOST_INPUT}
 use Rattle.csn_run.specs.declared.top.TheConstants.{MOST_DESCRIPTION}
@@ -21,9 +16,8 @@ use Rattle.csn_run.specs.Lines.{between_feeds, answered, text_of, is_refusal}
 use Rattle.csn_run.specs.Progress.{Answers, EndsIn}
 use Rattle.csn_run.specs.Simple.{IsSimple}
 use Rattle.csn_run.specs.Result.{LineJob, showing, AnswersLine, AsksFor, asks_show, asks_migrate, end_of, AnswersInput, answers_all, answers_front, ShowsNone, long_text, no_rules, not_built, Result, no_line, lines}
+use Rattle.csn_run.specs.Laws.{LinesHaveOneAnswer}
 use Rattle.csn_run.proofs.LinesLemmas.{between_feeds-one}
-use Rattle.csn_run.proofs.OnePlace.{one_place}
-use Rattle.csn_run.proofs.JobAnswers.{one_in_job}
 
 -- ---- answers to lines
 
@@ -99,59 +93,56 @@ one_text_held files file other text text' same held held' =
 
 -- ---- `show`
 
-one_rules : (text : List ℕ) (rules others : RulesV) → HasRules text rules → HasRules text others → rules ≡ others
-one_rules text rules others a b =
-    let same = one_reading text a.tokens b.tokens None None a.read b.read in
-    one_list_of_rules (subst (λ (ts : List Token). AreRules (tokens_in text ts) rules) same.0 a.are) b.are
+module _ (one_rules : TextsHaveOneListOfRules) (no_fault : RulesHaveNoFault) (one_place : TextsHaveOnePlace) where
+  one_none : (name text w v : List ℕ) (e f : Ended) → ShowsNone name text w e → ShowsNone name text v f → Written w e v f
+  one_none name text w v e f (long_text long is end) (long_text long' is' end') = (is ∙ sym is', end ∙ sym end')
+  one_none name text w v e f (long_text long is end) (no_rules place fits at is' end') = absurd (omega arith)
+  one_none name text w v e f (long_text long is end) (not_built rules fits has not is' end') = absurd (omega arith)
+  one_none name text w v e f (no_rules place fits at is end) (long_text long is' end') = absurd (omega arith)
+  one_none name text w v e f (no_rules place fits at is end) (no_rules place' fits' at' is' end') =
+      let same : place ≡ place' = one_place text place place' at at' in
+      (is ∙ ap (λ p. codes "syntax " ++ (decimal p ++ 10 ∷ [])) same ∙ sym is', end ∙ sym end')
+  one_none name text w v e f (no_rules place fits at is end) (not_built rules fits' has not is' end') = absurd (no_fault text _ _ has at)
+  one_none name text w v e f (not_built rules fits has not is end) (long_text long is' end') = absurd (omega arith)
+  one_none name text w v e f (not_built rules fits has not is end) (no_rules place fits' at is' end') = absurd (no_fault text _ _ has at)
+  one_none name text w v e f (not_built rules fits has not is end) (not_built rules' fits' has' not' is' end') = (is ∙ sym is', end ∙ sym end')
 
-one_none : (name text w v : List ℕ) (e f : Ended) → ShowsNone name text w e → ShowsNone name text v f → Written w e v f
-one_none name text w v e f (long_text long is end) (long_text long' is' end') = (is ∙ sym is', end ∙ sym end')
-one_none name text w v e f (long_text long is end) (no_rules place fits at is' end') = absurd (omega arith)
-one_none name text w v e f (long_text long is end) (not_built rules fits has not is' end') = absurd (omega arith)
-one_none name text w v e f (no_rules place fits at is end) (long_text long is' end') = absurd (omega arith)
-one_none name text w v e f (no_rules place fits at is end) (no_rules place' fits' at' is' end') =
-    let same : place ≡ place' = one_place text place place' at at' in
-    (is ∙ ap (λ p. codes "syntax " ++ (decimal p ++ 10 ∷ [])) same ∙ sym is', end ∙ sym end')
-one_none name text w v e f (no_rules place fits at is end) (not_built rules fits' has not is' end') = absurd (no_fault one_next has at)
-one_none name text w v e f (not_built rules fits has not is end) (long_text long is' end') = absurd (omega arith)
-one_none name text w v e f (not_built rules fits has not is end) (no_rules place fits' at is' end') = absurd (no_fault one_next has at)
-one_none name text w v e f (not_built rules fits has not is end) (not_built rules' fits' has' not' is' end') = (is ∙ sym is', end ∙ sym end')
+  -- no line is come to, or the lines are answered by the rules
+  none_or_lines : (name text w : List ℕ) (e : Ended) → ShowsNone name text w e → (rules : RulesV) → length text ≤ MOST_DESCRIPTION → HasRules text rules → IsSimple rules name → ⊥
+  none_or_lines name text w e (long_text long is end) rules fits has simple = omega arith
+  none_or_lines name text w e (no_rules place fits' at is end) rules fits has simple = no_fault text _ _ has at
+  none_or_lines name text w e (not_built rules' fits' has' not is end) rules fits has simple =
+      not (subst (λ (r : RulesV). IsSimple r name) (one_rules text rules rules' has has') simple)
 
--- no line is come to, or the lines are answered by the rules
-none_or_lines : (name text w : List ℕ) (e : Ended) → ShowsNone name text w e → (rules : RulesV) → length text ≤ MOST_DESCRIPTION → HasRules text rules → IsSimple rules name → ⊥
-none_or_lines name text w e (long_text long is end) rules fits has simple = omega arith
-none_or_lines name text w e (no_rules place fits' at is end) rules fits has simple = no_fault one_next has at
-none_or_lines name text w e (not_built rules' fits' has' not is end) rules fits has simple =
-    not (subst (λ (r : RulesV). IsSimple r name) (one_rules text rules rules' has has') simple)
+  -- ---- which job the words ask for
 
--- ---- which job the words ask for
+  one_job : (words : List (List ℕ)) (files : List ℕ → Option (List ℕ)) (job other : LineJob) → AsksFor words files job → AsksFor words files other → job ≡ other
+  one_job words files job other (asks_show file name text reading rules row held fits has simple is) (asks_show file' name' text' reading' rules' row' held' fits' has' simple' is') =
+      let same = one_row words file file' name name' reading reading' row row' in
+      let texts : text ≡ text' = one_text_held files file file' text text' same.0 held held' in
+      let all : rules ≡ rules' = one_rules text' rules rules' (subst (λ (t : List ℕ). HasRules t rules) texts has) has' in
+      is ∙ ap (λ r. showing r name reading) all ∙ ap (λ n. showing rules' n reading) same.1 ∙ ap (λ r. showing rules' name' r) same.2 ∙ sym is'
+  one_job words files job other (asks_show file name text reading rules row held fits has simple is) (asks_migrate row' is') = absurd (not_both words file name reading row row')
+  one_job words files job other (asks_migrate row' is') (asks_show file name text reading rules row held fits has simple is) = absurd (not_both words file name reading row row')
+  one_job words files job other (asks_migrate row is) (asks_migrate row' is') = is ∙ sym is'
 
-one_job : (words : List (List ℕ)) (files : List ℕ → Option (List ℕ)) (job other : LineJob) → AsksFor words files job → AsksFor words files other → job ≡ other
-one_job words files job other (asks_show file name text reading rules row held fits has simple is) (asks_show file' name' text' reading' rules' row' held' fits' has' simple' is') =
-    let same = one_row words file file' name name' reading reading' row row' in
-    let texts : text ≡ text' = one_text_held files file file' text text' same.0 held held' in
-    let all : rules ≡ rules' = one_rules text' rules rules' (subst (λ (t : List ℕ). HasRules t rules) texts has) has' in
-    is ∙ ap (λ r. showing r name reading) all ∙ ap (λ n. showing rules' n reading) same.1 ∙ ap (λ r. showing rules' name' r) same.2 ∙ sym is'
-one_job words files job other (asks_show file name text reading rules row held fits has simple is) (asks_migrate row' is') = absurd (not_both words file name reading row row')
-one_job words files job other (asks_migrate row' is') (asks_show file name text reading rules row held fits has simple is) = absurd (not_both words file name reading row row')
-one_job words files job other (asks_migrate row is) (asks_migrate row' is') = is ∙ sym is'
+  no_job : (words : List (List ℕ)) (files : List ℕ → Option (List ℕ)) (file name text w : List ℕ) (reading : Reading) (e : Ended) (job : LineJob) → IsShow words file name reading → files file ≡ Some text → ShowsNone name text w e → AsksFor words files job → ⊥
+  no_job words files file name text w reading e job row held shows (asks_show file' name' text' reading' rules row' held' fits has simple is) =
+      let same = one_row words file file' name name' reading reading' row row' in
+      let texts : text ≡ text' = one_text_held files file file' text text' same.0 held held' in
+      let moved = subst (λ (n : List ℕ). ShowsNone n text w e) same.1 shows in
+      none_or_lines name' text' w e (subst (λ (t : List ℕ). ShowsNone name' t w e) texts moved) rules fits has simple
+  no_job words files file name text w reading e job row held shows (asks_migrate row' is) = not_both words file name reading row row'
 
-no_job : (words : List (List ℕ)) (files : List ℕ → Option (List ℕ)) (file name text w : List ℕ) (reading : Reading) (e : Ended) (job : LineJob) → IsShow words file name reading → files file ≡ Some text → ShowsNone name text w e → AsksFor words files job → ⊥
-no_job words files file name text w reading e job row held shows (asks_show file' name' text' reading' rules row' held' fits has simple is) =
-    let same = one_row words file file' name name' reading reading' row row' in
-    let texts : text ≡ text' = one_text_held files file file' text text' same.0 held held' in
-    let moved = subst (λ (n : List ℕ). ShowsNone n text w e) same.1 shows in
-    none_or_lines name' text' w e (subst (λ (t : List ℕ). ShowsNone name' t w e) texts moved) rules fits has simple
-no_job words files file name text w reading e job row held shows (asks_migrate row' is) = not_both words file name reading row row'
-
-pub one_result : (words : List (List ℕ)) (files : List ℕ → Option (List ℕ)) (input w v : List ℕ) (e f : Ended) → Result words files input w e → Result words files input v f → (w ≡ v) × (e ≡ f)
-one_result words files input w v e f (no_line file name text reading row held shows) (no_line file' name' text' reading' row' held' shows') =
-    let same = one_row words file file' name name' reading reading' row row' in
-    let texts : text ≡ text' = one_text_held files file file' text text' same.0 held held' in
-    let moved = subst (λ (n : List ℕ). ShowsNone n text w e) same.1 shows in
-    one_none name' text' w v e f (subst (λ (t : List ℕ). ShowsNone name' t w e) texts moved) shows'
-one_result words files input w v e f (no_line file name text reading row held shows) (lines job asked a) = absurd (no_job words files file name text w reading e job row held shows asked)
-one_result words files input w v e f (lines job asked a) (no_line file name text reading row held shows) = absurd (no_job words files file name text v reading f job row held shows asked)
-one_result words files input w v e f (lines job asked a) (lines job' asked' b) =
-    let same : job ≡ job' = one_job words files job job' asked asked' in
-    one_input (AnswersLine job') (one_in_job words files job' asked') input w v e f (subst (λ (j : LineJob). AnswersInput (AnswersLine j) input w e) same a) b
+  module _ (one_in_job : LinesHaveOneAnswer) where
+    pub one_result : (words : List (List ℕ)) (files : List ℕ → Option (List ℕ)) (input w v : List ℕ) (e f : Ended) → Result words files input w e → Result words files input v f → (w ≡ v) × (e ≡ f)
+    one_result words files input w v e f (no_line file name text reading row held shows) (no_line file' name' text' reading' row' held' shows') =
+        let same = one_row words file file' name name' reading reading' row row' in
+        let texts : text ≡ text' = one_text_held files file file' text text' same.0 held held' in
+        let moved = subst (λ (n : List ℕ). ShowsNone n text w e) same.1 shows in
+        one_none name' text' w v e f (subst (λ (t : List ℕ). ShowsNone name' t w e) texts moved) shows'
+    one_result words files input w v e f (no_line file name text reading row held shows) (lines job asked a) = absurd (no_job words files file name text w reading e job row held shows asked)
+    one_result words files input w v e f (lines job asked a) (no_line file name text reading row held shows) = absurd (no_job words files file name text v reading f job row held shows asked)
+    one_result words files input w v e f (lines job asked a) (lines job' asked' b) =
+        let same : job ≡ job' = one_job words files job job' asked asked' in
+        one_input (AnswersLine job') (one_in_job words files job' asked') input w v e f (subst (λ (j : LineJob). AnswersInput (AnswersLine j) input w e) same a) b

@@ -16,7 +16,8 @@ use Rattle.csn_run.specs.Progress.{Answers, EndsIn, StopsBy}
 use Rattle.csn_run.specs.Command.{IsCommand}
 use Rattle.csn_run.specs.Job.{JobEnds, unread, too_long, bad_description, all_lines, some_lines, IsEndOf, outcome_of}
 use Rattle.csn_run.specs.Result as whole
-use Rattle.csn_run.proofs.JobAnswers.{each_in_job}
+use Rattle.csn_run.specs.Laws.{LinesHaveAnswers}
+use Rattle.csn_grammar.specs.Laws.{TextsAreDecided}
 use Rattle.csn_run.proofs.Extends.{extends}
 use Rattle.csn_run.proofs.ResultExists.{begins_from_empty}
 use Rattle.csn_run.proofs.Within.{within_input}
@@ -104,27 +105,27 @@ result_of words files input before left' taken' taken'' waits end ended (some_li
 -- ---- what stands written where a run was stopped
 
 -- what a run has written, of which the sink took the front of what waited
-pub begun_of : (words : List (List ℕ)) (files : List ℕ → Option (List ℕ)) (input before : List ℕ) (left' taken' taken'' : Option (List ℕ)) (waits front rest : List ℕ) (end : Result Outcome Fault) → IsCommand words → JobEnds words (Some files) (Some input) left' (Some before) taken' waits end → waits ≡ front ++ rest → Appended taken' taken'' front → (written : List ℕ) × (taken'' ≡ Some (before ++ written)) × whole.BeginsResult words files input written
-begun_of words files input before left' taken' taken'' waits front rest end row (unread same_left same_taken none cause) split handed =
-    (front, handed ∙ ap (option_map (λ taken. taken ++ front)) same_taken, begins_from_empty words files input front row (no_front front rest (sym split ∙ none)))
-begun_of words files input before left' taken' taken'' waits front rest end row (too_long gives same_left same_taken none e) split handed = (
+pub begun_of : LinesHaveAnswers → TextsAreDecided → (words : List (List ℕ)) (files : List ℕ → Option (List ℕ)) (input before : List ℕ) (left' taken' taken'' : Option (List ℕ)) (waits front rest : List ℕ) (end : Result Outcome Fault) → IsCommand words → JobEnds words (Some files) (Some input) left' (Some before) taken' waits end → waits ≡ front ++ rest → Appended taken' taken'' front → (written : List ℕ) × (taken'' ≡ Some (before ++ written)) × whole.BeginsResult words files input written
+begun_of each_in_job decided words files input before left' taken' taken'' waits front rest end row (unread same_left same_taken none cause) split handed =
+    (front, handed ∙ ap (option_map (λ taken. taken ++ front)) same_taken, begins_from_empty each_in_job decided words files input front row (no_front front rest (sym split ∙ none)))
+begun_of each_in_job decided words files input before left' taken' taken'' waits front rest end row (too_long gives same_left same_taken none e) split handed = (
   front,
   handed ∙ ap (option_map (λ taken. taken ++ front)) same_taken,
   whole.begins_whole rest Long (subst (λ (w : List ℕ). whole.Result words files input w Long) (sym none ∙ split) (gives input)),
 )
-begun_of words files input before left' taken' taken'' waits front rest end row (bad_description gives same_left same_taken e) split handed = (
+begun_of each_in_job decided words files input before left' taken' taken'' waits front rest end row (bad_description gives same_left same_taken e) split handed = (
   front,
   handed ∙ ap (option_map (λ taken. taken ++ front)) same_taken,
   whole.begins_whole rest BadDescription (subst (λ (w : List ℕ). whole.Result words files input w BadDescription) split (gives input)),
 )
-begun_of words files input before left' taken' taken'' waits front rest end row (all_lines job refused asked a e) split handed =
+begun_of each_in_job decided words files input before left' taken' taken'' waits front rest end row (all_lines job refused asked a e) split handed =
     let all = given_all input a.given left' a.source a.nothing_left in
     let text_is : a.took ++ waits ≡ (a.took ++ front) ++ rest = ap (λ l. a.took ++ l) split ∙ sym (append_assoc a.took front rest) in (
       a.took ++ front,
       taken_then before taken' taken'' a.took front a.sink handed,
       whole.begins_whole rest (whole.end_of refused) (whole.lines job asked (subst (λ (i : List ℕ). whole.AnswersInput (whole.AnswersLine job) i ((a.took ++ front) ++ rest) (whole.end_of refused)) (sym all) (whole.answers_all refused a.fits (subst (λ (t : List ℕ). Answers (whole.AnswersLine job) (between_feeds a.given) t refused) text_is a.answers) refl))),
     )
-begun_of words files input before left' taken' taken'' waits front rest end row (some_lines job fault asked s e) split handed =
+begun_of each_in_job decided words files input before left' taken' taken'' waits front rest end row (some_lines job fault asked s e) split handed =
     let given = given_front input s.given left' s.source in
     let text_is : s.took ++ waits ≡ (s.took ++ front) ++ rest = ap (λ l. s.took ++ l) split ∙ sym (append_assoc s.took front rest) in
     let within = within_input (whole.AnswersLine job) fault input s.given given.0 (s.took ++ waits) (s.took ++ front) rest given.1 text_is s.by in

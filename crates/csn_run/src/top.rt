@@ -17,6 +17,7 @@ use crate::answers::push_number;
 use crate::command::{Command, command_of};
 use crate::ended::Ended;
 use crate::fault::Fault;
+use crate::laws::lines_have_one_answer;
 use crate::lines::{LineCommand, Lines};
 use crate::migrate::Migrate;
 use crate::output::{flush, pass_on};
@@ -349,6 +350,8 @@ pub fn run<B: Shelf, S: Source, K: Sink>(
     ensures steady_input { KeepsSteady (S.steady input.old) (S.steady input.new) (S.faults input.old) (S.faults input.new) }
     ensures steady_out { KeepsSteady (K.steady out.old) (K.steady out.new) (K.faults out.old) (K.faults out.new) }
 {
+    lines_have_one_answer();
+    csn_grammar::laws::texts_are_decided();
     let Some(command) = command_of(words) else {
         return Ended::Usage;
     };

@@ -1,12 +1,11 @@
 ghost use Rattle.std.specs.Prelude.{◌≡◌, ◌≤◌, length, map, IfOk, IfSome};
 ghost use Rattle.std.specs.Option.{option_map};
-ghost use Rattle.csn_grammar.specs.Names.{is_built_in};
 ghost use Rattle.csn_run.specs.Simple.{each_of, plain_bit, plain_width, thing_of, body_things, things_of};
 ghost use Rattle.csn_run.specs.SimpleSlots.{thing_slots};
 
 use csn_bits::Bits;
 use csn_desc::{Label, Run, Symbol};
-use csn_grammar::{Exponent, Expr, Exprs, Form, Rules};
+use csn_grammar::{BuiltIn, Exponent, Expr, Exprs, Form, Rules};
 use std::alloc::{AllocError, Global};
 
 /// The most things that a rule may have.
@@ -132,16 +131,6 @@ fn things_of_body(alloc: Global, body: &Expr) -> Result<Option<Vec<Thing>>, Allo
     Ok(Some(things))
 }
 
-/// Whether every description has the name already.
-fn is_built_in(name: &[u8]) -> bool
-    ensures { result ≡ is_built_in name.now }
-{
-    b"spare bit".as_slice() == name
-        || b"spare L".as_slice() == name
-        || b"spare padding".as_slice() == name
-        || b"no string".as_slice() == name
-}
-
 /// The things of the one rule that a description has, where it has the asked name and each of its
 /// parts is a thing; None where the blocks of this description cannot be shown so far.
 pub fn things_of(
@@ -152,7 +141,7 @@ pub fn things_of(
     ensures exact { IfOk result (λ answer. option_map (λ things. things.items) answer ≡ things_of rules.now name.now) }
     ensures few { IfOk result (λ answer. IfSome answer (λ things. length things.items ≤ MOST_THINGS)) }
 {
-    if rules.len() != 1 || is_built_in(name) {
+    if rules.len() != 1 || BuiltIn::of(name).is_some() {
         return Ok(None);
     }
     let rule = rules.get(0);

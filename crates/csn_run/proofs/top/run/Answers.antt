@@ -54,7 +54,7 @@ pub returns-clause-begins : goal.returns-clause-begins
 returns-clause-begins g c = λ used files whole before f s k.
     let ends = rw (f, s, k) at (c.perform-outcome.ensures.ends _ c.in-Some.ensures.names) in
     let took = c.finish.ensures.took in
-    begun_of _ files whole before _ _ _ _ _ _ _ (c.in-Some.ensures.row.0 refl) ends took.2 took.3
+    begun_of c.lines_have_one_answer.ensures.some_answer c.texts_are_decided.ensures.decided _ files whole before _ _ _ _ _ _ _ (c.in-Some.ensures.row.0 refl) ends took.2 took.3
 
 pub returns-clause-reading : goal.returns-clause-reading
 returns-clause-reading g c = λ ended files whole before f s k.

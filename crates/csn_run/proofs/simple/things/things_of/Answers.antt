@@ -10,7 +10,7 @@ returns-then-eq c =
     let rules = c.args.rules.now in
     let name = c.args.name.now in
     let named = ap (λ n. same_name n name) (sym c.bytes.ensures.value) ∙ (sym c.eq.ensures ∙ c.if-eq.true) in
-    let same = rule_things rules name c.get-rule.result.now (omega arith) c.get-rule.ensures (sym c.is_built_in.ensures ∙ c.if-is_built_in.false) named in
+    let same = rule_things rules name c.get-rule.result.now (omega arith) c.get-rule.ensures (sym c.of.ensures.whether ∙ sym c.is_some.ensures ∙ c.if-is_some.false) named in
     record {
       exact = IfOk-weaker c.things_of_body.result _ _ (λ answer h. h ∙ same) c.things_of_body.ensures;
       few = IfOk-weaker c.things_of_body.result _ _ (λ answer h. few_given (λ v. v.items) rules name answer (h ∙ same)) c.things_of_body.ensures;
