@@ -5,6 +5,9 @@ use Rattle.std.proofs.lemmas.List.{length-replicate}
 use Rattle.std.specs.Fmt.{decimal}
 use Rattle.std.proofs.lemmas.Bool.{lt-leb}
 use Rattle.std.proofs.lemmas.List.{map-append, length_push}
+use Rattle.csn_treetext.specs.declared.stack.TheConstants.{MOST_ROUND}
+use Rattle.csn_treetext.specs.declared.bounds.TheConstants.{MOST_LEVELS, MOST_SHORT, MOST_OCTETS}
+use Rattle.csn_bits.specs.declared.bits.TheConstants.{MOST_BITS}
 use Rattle.hex.specs.Hex.{encode_upper, encode_with, upper_digits}
 use Rattle.csn_bits.specs.Octets.{IsBits}
 use Rattle.csn_bits.proofs.Packing.{IsBits-append, IsBits-zeros}
@@ -64,7 +67,7 @@ ends version (Named name ∷ stack) t x y h is text =
 
 -- ---- leaves that have begun
 
-empty_is_tree : (round : ℕ) → round < 64 → IsTree round empty
+empty_is_tree : (round : ℕ) → round < MOST_LEVELS → IsTree round empty
 empty_is_tree round low = record { fits = low; parts = tt }
 
 power_some : (width : ℕ) → 0 ≤ greatest_of width
@@ -73,7 +76,7 @@ power_some width = omega arith
 pad : List ℕ → List ℕ
 pad octets = octets ++ replicate (9 - length octets) 0
 
-length-pad : (octets : List ℕ) → length octets ≤ 65536 → (9 ≤ length (pad octets)) × (length (pad octets) ≤ 65536)
+length-pad : (octets : List ℕ) → length octets ≤ MOST_OCTETS → (9 ≤ length (pad octets)) × (length (pad octets) ≤ MOST_OCTETS)
 unfolding pad
 length-pad octets few =
     let zeros : List ℕ = replicate (9 - length octets) 0 in
@@ -96,7 +99,7 @@ unfolding encode_with
 encode_upper-append [] b = refl
 encode_upper-append (o ∷ a) b = ap (λ l. slice_index upper_digits (o / 16) ∷ slice_index upper_digits (o % 16) ∷ l) (encode_upper-append a b)
 
-octets_begin : (stack : List Frame) (octets : List ℕ) → IsStack stack → AreOctets octets → length octets ≤ 65536 → (x y : List ℕ) → encode_upper octets ≡ x ++ y → BeginsText Second (before Second stack ++ 120 ∷ x)
+octets_begin : (stack : List Frame) (octets : List ℕ) → IsStack stack → AreOctets octets → length octets ≤ MOST_OCTETS → (x y : List ℕ) → encode_upper octets ≡ x ++ y → BeginsText Second (before Second stack ++ 120 ∷ x)
 unfolding pad
 octets_begin stack octets h are few x y text =
     let (many, small) = length-pad octets few in
@@ -125,14 +128,14 @@ digits_begin stack octets (Some high) h are m =
 
 not_short : (b : List ℕ) → 65 ≤ length b → is_short b ≡ false
 not_short b long =
-    let high : nat_le (length b) 64 ≡ false = lt-leb (length b) 64 (omega arith) in
+    let high : nat_le (length b) MOST_SHORT ≡ false = lt-leb (length b) MOST_SHORT (omega arith) in
     rw high (and_false (nat_le 1 (length b)))
   where
     and_false : (a : Bool) → a && false ≡ false
     and_false true = refl
     and_false false = refl
 
-bits_begin : (stack : List Frame) (b : List ℕ) → IsStack stack → IsBits b → length b ≤ 524288 → BeginsText First (before First stack ++ 98 ∷ bit_digits b)
+bits_begin : (stack : List Frame) (b : List ℕ) → IsStack stack → IsBits b → length b ≤ MOST_BITS → BeginsText First (before First stack ++ 98 ∷ bit_digits b)
 bits_begin stack b h are few =
     let zeros : List ℕ = replicate (65 - length b) 0 in
     let count : length zeros ≡ 65 - length b = length-replicate (65 - length b) 0 in
@@ -155,7 +158,7 @@ behind_begins version (Row ts ∷ stack) h has =
 as_begun : {version : Version} {a b : List ℕ} → a ≡ b → BeginsText version a → BeginsText version b
 as_begun {version} same is = subst (λ l. BeginsText version l) same is
 
-name_begins : (version : Version) (stack : List Frame) (l x y : List ℕ) → IsStack stack → length stack < 63 → IsLabel l → l ++ 62 ∷ 61 ∷ 46 ∷ [] ≡ x ++ y → BeginsText version (before version stack ++ 60 ∷ x)
+name_begins : (version : Version) (stack : List Frame) (l x y : List ℕ) → IsStack stack → length stack < MOST_ROUND → IsLabel l → l ++ 62 ∷ 61 ∷ 46 ∷ [] ≡ x ++ y → BeginsText version (before version stack ++ 60 ∷ x)
 name_begins version stack l x y h low is text =
     ends version stack (named l empty) (60 ∷ x) y h (record { fits = omega arith; parts = (is, tt) }) (ap (λ k. 60 ∷ k) text)
 

@@ -4,6 +4,7 @@ use Rattle.std.proofs.Common.{◌≡◌, ℕ, suc, ◌+◌, ◌%◌, ◌^◌, �
 use Rattle.std.specs.Fmt.{decimal}
 use Rattle.std.proofs.lemmas.Fmt.{decimal_by_steps}
 use Rattle.std.proofs.lemmas.Bool.{cases_Bool, lt-ltb}
+use Rattle.csn_treetext.specs.declared.stack.TheConstants.{MOST_ROUND}
 use Rattle.csn_bits.specs.Line.{written}
 use Rattle.csn_bits.specs.Numbers.{number_of}
 use Rattle.csn_desc.specs.TreeV.{TreeV, empty, bits, row, alt, named, Trees, none, more, trees_of, list_of}
@@ -58,9 +59,9 @@ first_byte version (alt j t) h = record { byte = 35; behind = decimal j ++ 58 �
 first_byte version (named l t) h = record { byte = 60; behind = l ++ 62 ∷ 61 ∷ text_of version t; is = refl; other = refl }
 
 -- a tree after `[` begins a row
-opened_run : (version : Version) (stack : List Frame) (l : List ℕ) → FirstByte l → length stack < 63 → (rest : List ℕ) → run version (At Opened stack) (l ++ rest) ≡ run version (At Start (Row [] ∷ stack)) (l ++ rest)
+opened_run : (version : Version) (stack : List Frame) (l : List ℕ) → FirstByte l → length stack < MOST_ROUND → (rest : List ℕ) → run version (At Opened stack) (l ++ rest) ≡ run version (At Start (Row [] ∷ stack)) (l ++ rest)
 opened_run version stack l f low rest =
-    let room : nat_lt (length stack) 63 ≡ true = lt-ltb (length stack) 63 low in
+    let room : nat_lt (length stack) MOST_ROUND ≡ true = lt-ltb (length stack) MOST_ROUND low in
     let is_not = f.other in
     let one : step version Opened stack f.byte ≡ step version Start (Row [] ∷ stack) f.byte = rw (is_not, room) refl in
     ap (λ k. run version (At Opened stack) (k ++ rest)) f.is
@@ -83,7 +84,7 @@ mutual
   tree_run version (bits b) stack fits parts rest stops = leaf_run version stack b parts.0 parts.1 rest stops
   tree_run version (row none) stack fits parts rest stops = refl
   tree_run version (row (more t ts)) stack fits parts rest stops =
-      let low : length stack < 63 = omega (arith, room_for (suc (length stack)) t fits.1.0) in
+      let low : length stack < MOST_ROUND = omega (arith, room_for (suc (length stack)) t fits.1.0) in
       let tail : List ℕ = rest_text version ts ++ 93 ∷ rest in
       ap (λ l. run version (At Opened stack) l)
       (append_assoc (text_of version t ++ rest_text version ts) (93 ∷ []) rest ∙ append_assoc (text_of version t) (rest_text version ts) (93 ∷ rest))
@@ -92,8 +93,8 @@ mutual
       ∙ rows_run version ts stack (t ∷ []) fits.1.1 parts.1 rest
       ∙ ap (λ us. run version (Some (with_tree stack (row (more t us)))) rest) (list_back ts)
   tree_run version (alt j t) stack fits parts rest stops =
-      let low : length stack < 63 = omega (arith, room_for (suc (length stack)) t fits.1) in
-      let room : nat_lt (length stack) 63 ≡ true = lt-ltb (length stack) 63 low in
+      let low : length stack < MOST_ROUND = omega (arith, room_for (suc (length stack)) t fits.1) in
+      let room : nat_lt (length stack) MOST_ROUND ≡ true = lt-ltb (length stack) MOST_ROUND low in
       let one : step version Start stack 35 ≡ At Hash stack = rw room refl in
       let few = fits.0 in
       ap (λ l. run version (At Start stack) (35 ∷ l)) (append_assoc (decimal j) (58 ∷ text_of version t) rest)
@@ -101,7 +102,7 @@ mutual
       ∙ number_run version stack j (omega arith) (58 ∷ (text_of version t ++ rest))
       ∙ tree_run version t (Alt j ∷ stack) fits.1 parts rest stops
   tree_run version (named l t) stack fits parts rest stops =
-      let low : length stack < 63 = omega (arith, room_for (suc (length stack)) t fits) in
+      let low : length stack < MOST_ROUND = omega (arith, room_for (suc (length stack)) t fits) in
       ap (λ k. run version (At Start stack) (60 ∷ k)) (append_assoc l (62 ∷ 61 ∷ text_of version t) rest)
       ∙ label_run version stack l low parts.0 (text_of version t ++ rest)
       ∙ tree_run version t (Named l ∷ stack) fits parts.1 rest stops

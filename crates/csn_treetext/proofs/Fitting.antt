@@ -2,11 +2,12 @@
 use Rattle.std.proofs.Common.{◌≡◌, ℕ, zero, suc, ◌+◌, ◌<◌, List, [], ◌∷◌, length, slice_get, Some, refl, sym, ap, ◌∙◌, arith, subst}
 use Rattle.std.proofs.Common.{inl, inr}
 use Rattle.std.proofs.lemmas.Bool.{cases_lt}
+use Rattle.csn_treetext.specs.declared.bounds.TheConstants.{MOST_LEVELS}
 use Rattle.csn_desc.specs.TreeV.{TreeV, empty, bits, row, alt, named, trees_of}
 use Rattle.csn_treetext.specs.Fits.{FitsInside, AllFitInside}
 
 -- a tree that fits stands at level 64 or above
-pub room_for : (round : ℕ) (t : TreeV) → FitsInside round t → round < 64
+pub room_for : (round : ℕ) (t : TreeV) → FitsInside round t → round < MOST_LEVELS
 room_for round empty h = h
 room_for round (bits b) h = h
 room_for round (row ts) h = h.0

@@ -6,6 +6,9 @@ use Rattle.std.proofs.lemmas.Bool.{ltb-true, leb-true, and_parts}
 use Rattle.std.proofs.lemmas.Nat.{pow_pos}
 use Rattle.std.proofs.lemmas.List.{length_push, map-append}
 use Rattle.std.proofs.Math.Pow.{pow_mono}
+use Rattle.csn_treetext.specs.declared.stack.TheConstants.{MOST_ROUND}
+use Rattle.csn_treetext.specs.declared.bounds.TheConstants.{GREATEST_ALTERNATIVE, MOST_SHORT, MOST_OCTETS}
+use Rattle.csn_bits.specs.declared.bits.TheConstants.{MOST_BITS}
 use Rattle.hex.specs.Hex.{encode_upper, upper_digits}
 use Rattle.csn_bits.specs.Line.{tail_written}
 use Rattle.csn_bits.proofs.Packing.{IsBits-append}
@@ -55,12 +58,12 @@ width_stands version width stack byte mode h m e =
       placed = tt;
       bytes = sym (append_assoc (before version stack) (decimal width) (39 ∷ []));
     })))
-    (λ _ e1. mapped Width (grown 64 (Some width) byte) mode e1 (λ n grew same. as_mode (Width n) mode same (
-    let g = grew_next 64 width n byte (omega arith) grew in
+    (λ _ e1. mapped Width (grown MOST_SHORT (Some width) byte) mode e1 (λ n grew same. as_mode (Width n) mode same (
+    let g = grew_next MOST_SHORT width n byte (omega arith) grew in
     record { stack = h; mode = (omega (arith, g.0), g.1.few); placed = tt; bytes = behind_front (before version stack) (decimal width) (decimal n) byte g.1.digits })))
 
 -- the greatest number of bits that a leaf has as one
-pub greatest_small : (width : ℕ) → width ≤ 64 → greatest_of width < 2 ^ 64
+pub greatest_small : (width : ℕ) → width ≤ MOST_SHORT → greatest_of width < 2 ^ 64
 greatest_small width few =
     let some : 0 < 2 ^ width = pow_pos width in
     let power : 2 ^ width ≤ 2 ^ 64 = pow_mono {i = width} {j = 64} few in
@@ -99,10 +102,10 @@ value_stands version width number stack byte s h m e = by_number (grown (greates
               ∙ sym (append_assoc (before version stack) (decimal width ++ 39 ∷ decimal number) (byte ∷ []));
         })
 
-pub hash_stands : (version : Version) (stack : List Frame) (byte : ℕ) (mode : Mode) → IsStack stack → length stack < 63 → after_hash None byte ≡ Some mode → StandsFor version (spelled version Hash stack ++ byte ∷ []) (state mode stack)
+pub hash_stands : (version : Version) (stack : List Frame) (byte : ℕ) (mode : Mode) → IsStack stack → length stack < MOST_ROUND → after_hash None byte ≡ Some mode → StandsFor version (spelled version Hash stack ++ byte ∷ []) (state mode stack)
 hash_stands version stack byte mode h low e =
-    mapped Number (grown 16383 None byte) mode e (λ n grew same. as_mode (Number n) mode same (
-    let g = grew_first 16383 n byte grew in
+    mapped Number (grown GREATEST_ALTERNATIVE None byte) mode e (λ n grew same. as_mode (Number n) mode same (
+    let g = grew_first GREATEST_ALTERNATIVE n byte grew in
     record {
       stack = h;
       mode = g.few;
@@ -110,10 +113,10 @@ hash_stands version stack byte mode h low e =
       bytes = ap (λ l. before version stack ++ 35 ∷ l) g.digits ∙ sym (append_assoc (before version stack) (35 ∷ []) (byte ∷ []));
     }))
 
-pub number_stands : (version : Version) (number : ℕ) (stack : List Frame) (byte : ℕ) (mode : Mode) → IsStack stack → length stack < 63 → after_hash (Some number) byte ≡ Some mode → StandsFor version (spelled version (Number number) stack ++ byte ∷ []) (state mode stack)
+pub number_stands : (version : Version) (number : ℕ) (stack : List Frame) (byte : ℕ) (mode : Mode) → IsStack stack → length stack < MOST_ROUND → after_hash (Some number) byte ≡ Some mode → StandsFor version (spelled version (Number number) stack ++ byte ∷ []) (state mode stack)
 number_stands version number stack byte mode h low e =
-    mapped Number (grown 16383 (Some number) byte) mode e (λ n grew same. as_mode (Number n) mode same (
-    let g = (grew_next 16383 number n byte (omega arith) grew).1 in
+    mapped Number (grown GREATEST_ALTERNATIVE (Some number) byte) mode e (λ n grew same. as_mode (Number n) mode same (
+    let g = (grew_next GREATEST_ALTERNATIVE number n byte (omega arith) grew).1 in
     record {
       stack = h;
       mode = g.few;
@@ -121,7 +124,7 @@ number_stands version number stack byte mode h low e =
       bytes = behind_front (before version stack) (35 ∷ decimal number) (35 ∷ decimal n) byte (ap (λ l. 35 ∷ l) g.digits);
     }))
 
-pub name_stands : (version : Version) (name : List ℕ) (at : NameAt) (stack : List Frame) (byte : ℕ) (mode : Mode) → IsStack stack → IsMode (Name name at) → length stack < 63 → after_name name at byte ≡ Some mode → StandsFor version (spelled version (Name name at) stack ++ byte ∷ []) (state mode stack)
+pub name_stands : (version : Version) (name : List ℕ) (at : NameAt) (stack : List Frame) (byte : ℕ) (mode : Mode) → IsStack stack → IsMode (Name name at) → length stack < MOST_ROUND → after_name name at byte ≡ Some mode → StandsFor version (spelled version (Name name at) stack ++ byte ∷ []) (state mode stack)
 name_stands version name at stack byte mode h m low e =
     if_gave (byte == 62 && may_end at) _ _ _ e
     (λ both e1.
@@ -170,7 +173,7 @@ high_stands version octets high stack byte mode h m second e = by_value (upper_v
         })
 
 -- a leaf of whole octets
-pub many_text : (octets : List ℕ) → AreOctets octets → 9 ≤ length octets → length octets ≤ 65536 → text_of Second (cut_octets octets 8) ≡ 120 ∷ (encode_upper octets ++ [])
+pub many_text : (octets : List ℕ) → AreOctets octets → 9 ≤ length octets → length octets ≤ MOST_OCTETS → text_of Second (cut_octets octets 8) ≡ 120 ∷ (encode_upper octets ++ [])
 many_text octets are many few = cut_text octets 8 are many few (omega arith) (omega arith) (omega arith)
 
 pub octets_stand : (octets : List ℕ) (stack : List Frame) (byte : ℕ) (s : State) → IsStack stack → IsMode (Octets octets None) → after_octets octets (upper_value byte) stack byte ≡ Some s → StandsFor Second (spelled Second (Octets octets None) stack ++ byte ∷ []) s
@@ -179,7 +182,7 @@ octets_stand octets stack byte s h m e = by_value (upper_value byte) refl
     by_value : (o : Option ℕ) → upper_value byte ≡ o → StandsFor Second (spelled Second (Octets octets None) stack ++ byte ∷ []) s
     by_value (Some high) is =
         let (small, digit) = digit-upper_value byte high is in
-        if_gave (nat_lt (length octets) 65536) _ _ _ (rw is at e)
+        if_gave (nat_lt (length octets) MOST_OCTETS) _ _ _ (rw is at e)
         (λ low e1. given _ s e1 (record {
           stack = h;
           mode = (m.0, (ltb-true _ _ low, small));
@@ -238,7 +241,7 @@ slash_stands octets stack byte s h m e =
 pub bits_stand : (b : List ℕ) (stack : List Frame) (byte : ℕ) (s : State) → IsStack stack → IsMode (Bare b) → after_bits b stack byte ≡ Some s → StandsFor First (spelled First (Bare b) stack ++ byte ∷ []) s
 bits_stand b stack byte s h m e =
     if_gave (is_bit_digit byte) _ _ _ e
-    (λ digit e1. if_gave (nat_lt (length b) 524288) _ _ _ e1
+    (λ digit e1. if_gave (nat_lt (length b) MOST_BITS) _ _ _ e1
     (λ few e2.
     let (low_end, high_end) = and_parts (nat_le 48 byte) (nat_le byte 49) digit in
     let least = leb-true _ _ low_end in

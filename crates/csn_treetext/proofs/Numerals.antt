@@ -3,10 +3,11 @@ use Rattle.std.proofs.Common.{◌≡◌, ℕ, zero, suc, ◌+◌, ◌-◌, ◌*�
 use Rattle.std.specs.Fmt.{decimal}
 use Rattle.std.proofs.lemmas.Fmt.{decimal_digit, decimal_step}
 use Rattle.std.proofs.lemmas.Bool.{agree_below_at, and_parts, cases_Bool, leb-true, le-leb}
+use Rattle.csn_treetext.specs.declared.bounds.TheConstants.{MOST_SHORT}
 use Rattle.csn_treetext.specs.reader.Numeral.{digit_of, at_most, appended, grown, greatest_of}
 
 -- what a program makes of all ones, shifted
-pub greatest_shifted : (width : ℕ) → width ≤ 64 → 18446744073709551615 / 2 ^ (64 - width) ≡ greatest_of width
+pub greatest_shifted : (width : ℕ) → width ≤ MOST_SHORT → 18446744073709551615 / 2 ^ (64 - width) ≡ greatest_of width
 greatest_shifted width few =
     eqb-true _ _ (agree_below_at (λ w. 18446744073709551615 / 2 ^ (64 - w) == 2 ^ w - 1) (λ _. true) 65 width refl (omega arith))
 

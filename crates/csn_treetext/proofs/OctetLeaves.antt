@@ -4,6 +4,7 @@ use Rattle.std.proofs.Common.{slice_get}
 use Rattle.std.proofs.lemmas.Bool.{agree_below, agree_below_at, cases_lt, and_parts, ltb-true, lt-leb}
 use Rattle.std.specs.Prelude.{if◌then◌else◌}
 use Rattle.std.proofs.lemmas.List.{length-take-le}
+use Rattle.csn_treetext.specs.declared.bounds.TheConstants.{MOST_SHORT, MOST_OCTETS}
 use Rattle.hex.specs.Hex.{encode_upper, encode_with, upper_digits}
 use Rattle.csn_bits.specs.Octets.{IsBits, IsPacked, bits_of_octet, bits_of_octets, octets_of, octet_of}
 use Rattle.csn_bits.specs.Line.{last_of, tail_written, written}
@@ -130,7 +131,7 @@ other_text-some (x ∷ b) some = refl
 
 long_is_other : (b : List ℕ) → 65 ≤ length b → is_short b ≡ false
 long_is_other b long =
-    let high : nat_le (length b) 64 ≡ false = lt-leb (length b) 64 (omega arith) in
+    let high : nat_le (length b) MOST_SHORT ≡ false = lt-leb (length b) MOST_SHORT (omega arith) in
     rw high (and_false (nat_le 1 (length b)))
   where
     and_false : (a : Bool) → a && false ≡ false
@@ -141,7 +142,7 @@ pub long_text : (b : List ℕ) → 65 ≤ length b → leaf_text Second b ≡ 12
 long_text b long = rw (long_is_other b long) (other_text-some b (omega arith))
 
 -- the text of a leaf of octets
-pub cut_text : (octets : List ℕ) (used : ℕ) → AreOctets octets → 9 ≤ length octets → length octets ≤ 65536 → 1 ≤ used → used ≤ 8
+pub cut_text : (octets : List ℕ) (used : ℕ) → AreOctets octets → 9 ≤ length octets → length octets ≤ MOST_OCTETS → 1 ≤ used → used ≤ 8
     → last_octet octets % 2 ^ (8 - used) ≡ 0 → leaf_text Second (cut_bits octets used) ≡ 120 ∷ (encode_upper octets ++ tail_written (used % 8))
 cut_text octets used are many few some most zeros =
     let n : ℕ = cut_length octets used in

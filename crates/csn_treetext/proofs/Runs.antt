@@ -6,6 +6,9 @@ use Rattle.std.proofs.lemmas.Fmt.{decimal_by_steps}
 use Rattle.std.proofs.lemmas.Bool.{eqb-false}
 use Rattle.std.proofs.lemmas.Bool.{cases_Bool, cases_lt, le-leb, lt-ltb, leb-true, and_parts}
 use Rattle.std.proofs.lemmas.List.{length_push}
+use Rattle.csn_treetext.specs.declared.stack.TheConstants.{MOST_ROUND}
+use Rattle.csn_treetext.specs.declared.bounds.TheConstants.{GREATEST_ALTERNATIVE, MOST_SHORT, MOST_OCTETS}
+use Rattle.csn_bits.specs.declared.bits.TheConstants.{MOST_BITS}
 use Rattle.hex.specs.Hex.{encode_upper, encode_with, upper_digits}
 use Rattle.csn_bits.specs.Octets.{IsBits, octets_of}
 use Rattle.csn_bits.specs.Line.{tail_written}
@@ -107,32 +110,32 @@ width_first version stack n low some = absurd (omega arith)
 pub none_of : {A B : Type 0} (f : A → B) (o : Option A) (x : A) → o ≡ Some x → option_map f o ≡ Some (f x)
 none_of f o x h = ap (option_map f) h
 
-pub width_run : (version : Version) (stack : List Frame) (width : ℕ) → 1 ≤ width → width ≤ 64 → (rest : List ℕ) → run version (At Start stack) (decimal width ++ rest) ≡ run version (At (Width width) stack) rest
+pub width_run : (version : Version) (stack : List Frame) (width : ℕ) → 1 ≤ width → width ≤ MOST_SHORT → (rest : List ℕ) → run version (At Start stack) (decimal width ++ rest) ≡ run version (At (Width width) stack) rest
 width_run version stack width some few rest =
-    digits_run version Start Width stack 64 1 (λ n low least _. width_first version stack n low least)
+    digits_run version Start Width stack MOST_SHORT 1 (λ n low least _. width_first version stack n low least)
     (λ n many few. digit_more n many few)
     (omega arith) width some few (omega arith) rest
   where
-    digit_more : (n : ℕ) → 10 ≤ n → n ≤ 64 → step version (Width (n / 10)) stack (48 + n % 10) ≡ At (Width n) stack
+    digit_more : (n : ℕ) → 10 ≤ n → n ≤ MOST_SHORT → step version (Width (n / 10)) stack (48 + n % 10) ≡ At (Width n) stack
     digit_more n many few =
         let other : (48 + n % 10 == 39) ≡ false = eqb-lt (48 + n % 10) 39 (omega arith) in
-        rw (other, grown_next 64 n many few) refl
+        rw (other, grown_next MOST_SHORT n many few) refl
 
-pub number_run : (version : Version) (stack : List Frame) (number : ℕ) → number ≤ 16383 → (rest : List ℕ) → run version (At Hash stack) (decimal number ++ rest) ≡ run version (At (Number number) stack) rest
+pub number_run : (version : Version) (stack : List Frame) (number : ℕ) → number ≤ GREATEST_ALTERNATIVE → (rest : List ℕ) → run version (At Hash stack) (decimal number ++ rest) ≡ run version (At (Number number) stack) rest
 number_run version stack number few rest =
-    digits_run version Hash Number stack 16383 0 (λ n low least small. digit_first n low small)
+    digits_run version Hash Number stack GREATEST_ALTERNATIVE 0 (λ n low least small. digit_first n low small)
     (λ n many few. digit_more n many few)
     (omega arith) number (omega arith) few (omega arith) rest
   where
-    digit_first : (n : ℕ) → n < 10 → n ≤ 16383 → step version Hash stack (48 + n) ≡ At (Number n) stack
-    digit_first n low few = rw (grown_first 16383 n low few) refl
+    digit_first : (n : ℕ) → n < 10 → n ≤ GREATEST_ALTERNATIVE → step version Hash stack (48 + n) ≡ At (Number n) stack
+    digit_first n low few = rw (grown_first GREATEST_ALTERNATIVE n low few) refl
 
-    digit_more : (n : ℕ) → 10 ≤ n → n ≤ 16383 → step version (Number (n / 10)) stack (48 + n % 10) ≡ At (Number n) stack
+    digit_more : (n : ℕ) → 10 ≤ n → n ≤ GREATEST_ALTERNATIVE → step version (Number (n / 10)) stack (48 + n % 10) ≡ At (Number n) stack
     digit_more n many few =
         let other : (48 + n % 10 == 58) ≡ false = eqb-below (48 + n % 10) 58 (omega arith) in
-        rw (other, grown_next 16383 n many few) refl
+        rw (other, grown_next GREATEST_ALTERNATIVE n many few) refl
 
-pub value_run : (version : Version) (stack : List Frame) (width number : ℕ) → width ≤ 64 → number ≤ greatest_of width → (rest : List ℕ) → run version (At (Quote width) stack) (decimal number ++ rest) ≡ run version (At (Value width number) stack) rest
+pub value_run : (version : Version) (stack : List Frame) (width number : ℕ) → width ≤ MOST_SHORT → number ≤ greatest_of width → (rest : List ℕ) → run version (At (Quote width) stack) (decimal number ++ rest) ≡ run version (At (Value width number) stack) rest
 value_run version stack width number few small rest =
     let fits = greatest_small width few in
     digits_run version (Quote width) (Value width) stack (greatest_of width) 0 (λ n low least few. digit_first n low few)
@@ -145,7 +148,7 @@ value_run version stack width number few small rest =
     digit_more : (n : ℕ) → 10 ≤ n → n ≤ greatest_of width → step version (Value width (n / 10)) stack (48 + n % 10) ≡ At (Value width n) stack
     digit_more n many few = rw (grown_next (greatest_of width) n many few) refl
 
-pub short_run : (version : Version) (stack : List Frame) (b : List ℕ) → IsBits b → 1 ≤ length b → length b ≤ 64 → (rest : List ℕ) → Stops rest → run version (At Start stack) (short_text b ++ rest) ≡ run version (Some (with_tree stack (bits b))) rest
+pub short_run : (version : Version) (stack : List Frame) (b : List ℕ) → IsBits b → 1 ≤ length b → length b ≤ MOST_SHORT → (rest : List ℕ) → Stops rest → run version (At Start stack) (short_text b ++ rest) ≡ run version (Some (with_tree stack (bits b))) rest
 short_run version stack b are some few rest stops =
     let width : ℕ = length b in
     let number : ℕ = number_of b in
@@ -161,26 +164,26 @@ short_run version stack b are some few rest stops =
 
 -- ---- long leaves
 
-pub bits_run : (stack : List Frame) (front b : List ℕ) → IsBits b → length front + length b ≤ 524288 → (rest : List ℕ) → run First (At (Bare front) stack) (bit_digits b ++ rest) ≡ run First (At (Bare (front ++ b)) stack) rest
+pub bits_run : (stack : List Frame) (front b : List ℕ) → IsBits b → length front + length b ≤ MOST_BITS → (rest : List ℕ) → run First (At (Bare front) stack) (bit_digits b ++ rest) ≡ run First (At (Bare (front ++ b)) stack) rest
 bits_run stack front [] are few rest = ap (λ l. run First (At (Bare l) stack) rest) (sym (append-nil front))
 bits_run stack front (x ∷ b) are few rest =
     let low_end : nat_le 48 (48 + x) ≡ true = le-leb 48 (48 + x) (omega arith) in
     let high_end : nat_le (48 + x) 49 ≡ true = le-leb (48 + x) 49 (let small = are.0 in omega arith) in
-    let room : nat_lt (length front) 524288 ≡ true = lt-ltb (length front) 524288 (omega arith) in
+    let room : nat_lt (length front) MOST_BITS ≡ true = lt-ltb (length front) MOST_BITS (omega arith) in
     let is : 48 + x - 48 ≡ x = omega arith in
     let one : step First (Bare front) stack (48 + x) ≡ At (Bare (front ++ x ∷ [])) stack = rw (low_end, high_end, room, is) refl in
     ap (λ o. run First o (bit_digits b ++ rest)) one
     ∙ bits_run stack (front ++ x ∷ []) b are.1 (omega (arith, length_push front x)) rest
     ∙ ap (λ l. run First (At (Bare l) stack) rest) (append_assoc front (x ∷ []) b)
 
-pub octets_run : (stack : List Frame) (front octets : List ℕ) → AreOctets octets → length front + length octets ≤ 65536 → (rest : List ℕ) → run Second (At (Octets front None) stack) (encode_upper octets ++ rest) ≡ run Second (At (Octets (front ++ octets) None) stack) rest
+pub octets_run : (stack : List Frame) (front octets : List ℕ) → AreOctets octets → length front + length octets ≤ MOST_OCTETS → (rest : List ℕ) → run Second (At (Octets front None) stack) (encode_upper octets ++ rest) ≡ run Second (At (Octets (front ++ octets) None) stack) rest
 unfolding encode_with
 octets_run stack front [] are few rest = ap (λ l. run Second (At (Octets l None) stack) rest) (sym (append-nil front))
 octets_run stack front (o ∷ octets) are few rest =
     let small : o < 256 = are 0 in
     let high : upper_value (slice_index upper_digits (o / 16)) ≡ Some (o / 16) = upper_value-digit (o / 16) (omega arith) in
     let low : upper_value (slice_index upper_digits (o % 16)) ≡ Some (o % 16) = upper_value-digit (o % 16) (omega arith) in
-    let room : nat_lt (length front) 65536 ≡ true = lt-ltb (length front) 65536 (omega arith) in
+    let room : nat_lt (length front) MOST_OCTETS ≡ true = lt-ltb (length front) MOST_OCTETS (omega arith) in
     let is : 16 * (o / 16) + o % 16 ≡ o = omega arith in
     let one : step Second (Octets front None) stack (slice_index upper_digits (o / 16)) ≡ At (Octets front (Some (o / 16))) stack = rw (high, room) refl in
     let two : step Second (Octets front (Some (o / 16))) stack (slice_index upper_digits (o % 16)) ≡ At (Octets (front ++ o ∷ []) None) stack = rw (low, is) refl in
@@ -224,7 +227,7 @@ tail_run stack octets b used many some few zeros same rest =
     ∙ ap (λ l. run Second (Some (with_tree stack (bits l))) rest) same
 
 -- the block line of a long leaf
-pub line_run : (stack : List Frame) (b : List ℕ) → IsBits b → 65 ≤ length b → length b ≤ 524288 → (rest : List ℕ) → Stops rest → run Second (At (Octets [] None) stack) ((encode_upper (octets_of b) ++ tail_written (length b % 8)) ++ rest) ≡ run Second (Some (with_tree stack (bits b))) rest
+pub line_run : (stack : List Frame) (b : List ℕ) → IsBits b → 65 ≤ length b → length b ≤ MOST_BITS → (rest : List ℕ) → Stops rest → run Second (At (Octets [] None) stack) ((encode_upper (octets_of b) ++ tail_written (length b % 8)) ++ rest) ≡ run Second (Some (with_tree stack (bits b))) rest
 line_run stack b are long few rest stops =
     let octets : List ℕ = octets_of b in
     let count = length-octets_of b in
@@ -253,17 +256,17 @@ long_when b other some = elim (cases_lt (length b) 65) [
   | inr high ↦ omega arith
 ]
 
-pub other_run : (version : Version) (stack : List Frame) (b : List ℕ) → IsBits b → length b ≤ 524288 → is_short b ≡ false → (rest : List ℕ) → Stops rest → run version (At Start stack) (other_text version b ++ rest) ≡ run version (Some (with_tree stack (bits b))) rest
+pub other_run : (version : Version) (stack : List Frame) (b : List ℕ) → IsBits b → length b ≤ MOST_BITS → is_short b ≡ false → (rest : List ℕ) → Stops rest → run version (At Start stack) (other_text version b ++ rest) ≡ run version (Some (with_tree stack (bits b))) rest
 other_run First stack b are few other rest stops =
     bits_run stack [] b are (omega arith) rest
     ∙ leaf_ends First (Bare b) stack (bits b) rest stops (rw other refl) (rw other refl) (rw other refl)
 other_run Second stack [] are few other rest stops = refl
 other_run Second stack (x ∷ b) are few other rest stops = line_run stack (x ∷ b) are (long_when (x ∷ b) other (omega arith)) few rest stops
 
-pub leaf_run : (version : Version) (stack : List Frame) (b : List ℕ) → IsBits b → length b ≤ 524288 → (rest : List ℕ) → Stops rest → run version (At Start stack) (leaf_text version b ++ rest) ≡ run version (Some (with_tree stack (bits b))) rest
+pub leaf_run : (version : Version) (stack : List Frame) (b : List ℕ) → IsBits b → length b ≤ MOST_BITS → (rest : List ℕ) → Stops rest → run version (At Start stack) (leaf_text version b ++ rest) ≡ run version (Some (with_tree stack (bits b))) rest
 leaf_run version stack b are few rest stops = elim (cases_Bool (is_short b)) [
   | inl short ↦ (
-      let (some, small) = and_parts (nat_le 1 (length b)) (nat_le (length b) 64) short in
+      let (some, small) = and_parts (nat_le 1 (length b)) (nat_le (length b) MOST_SHORT) short in
       let text : leaf_text version b ≡ short_text b = (rw short refl) in
       ap (λ l. run version (At Start stack) (l ++ rest)) text ∙ short_run version stack b are (leb-true _ _ some) (leb-true _ _ small) rest stops)
   | inr other ↦ (
@@ -289,9 +292,9 @@ names_run version stack name at end (c ∷ l) h rest = by_next (λ next e. names
         ∙ again next (ap (λ o. name_run o l) (sym after) ∙ h)
         ∙ ap (λ k. run version (At (Name k end) stack) rest) (append_assoc name (c ∷ []) l)
 
-pub label_run : (version : Version) (stack : List Frame) (l : List ℕ) → length stack < 63 → IsLabel l → (rest : List ℕ) → run version (At Start stack) (60 ∷ (l ++ 62 ∷ 61 ∷ rest)) ≡ run version (At Start (Named l ∷ stack)) rest
+pub label_run : (version : Version) (stack : List Frame) (l : List ℕ) → length stack < MOST_ROUND → IsLabel l → (rest : List ℕ) → run version (At Start stack) (60 ∷ (l ++ 62 ∷ 61 ∷ rest)) ≡ run version (At Start (Named l ∷ stack)) rest
 label_run version stack l low is rest =
-    let room : nat_lt (length stack) 63 ≡ true = lt-ltb (length stack) 63 low in
+    let room : nat_lt (length stack) MOST_ROUND ≡ true = lt-ltb (length stack) MOST_ROUND low in
     let one : step version Start stack 60 ≡ At (Name [] Front) stack = rw room refl in
     ap (λ o. run version o (l ++ 62 ∷ 61 ∷ rest)) one
     ∙ names_run version stack [] Front Within l (run_of_label l is) (62 ∷ 61 ∷ rest)

@@ -4,6 +4,8 @@ use Rattle.std.proofs.Common.{◌≡◌, ℕ, ◌+◌, ◌-◌, ◌<◌, ◌≤�
 use Rattle.std.specs.Fmt.{decimal}
 use Rattle.std.proofs.lemmas.Fmt.{decimal_digit}
 use Rattle.std.proofs.lemmas.Bool.{ltb-true, leb-true, and_parts}
+use Rattle.csn_treetext.specs.declared.stack.TheConstants.{MOST_ROUND}
+use Rattle.csn_treetext.specs.declared.bounds.TheConstants.{GREATEST_ALTERNATIVE}
 use Rattle.hex.specs.Hex.{encode_with}
 use Rattle.hex.specs.Hex.{encode_upper}
 use Rattle.csn_desc.specs.TreeV.{TreeV, empty, bits, row, none}
@@ -24,9 +26,9 @@ use Rattle.csn_treetext.proofs.LeafSteps.{with_stands, width_stands, quote_stand
 
 -- ---- the first byte of a tree
 
-inside_stands : (version : Version) (stack : List Frame) (mode : Mode) (text : List ℕ) (s : State) → (length stack < 63 → StandsFor version text (state mode stack)) → inside stack mode ≡ Some s → StandsFor version text s
+inside_stands : (version : Version) (stack : List Frame) (mode : Mode) (text : List ℕ) (s : State) → (length stack < MOST_ROUND → StandsFor version text (state mode stack)) → inside stack mode ≡ Some s → StandsFor version text s
 inside_stands version stack mode text s is e =
-    if_gave (nat_lt (length stack) 63) _ _ _ e (λ low e1. given _ s e1 (is (ltb-true _ _ low))) (λ _ e1. nothing_given s e1)
+    if_gave (nat_lt (length stack) MOST_ROUND) _ _ _ e (λ low e1. given _ s e1 (is (ltb-true _ _ low))) (λ _ e1. nothing_given s e1)
 
 begun_b_stands : (version : Version) (stack : List Frame) → IsStack stack → StandsFor version (before version stack ++ 98 ∷ []) (begun_b version stack)
 begun_b_stands First stack h = record { stack = h; mode = (tt, omega arith); placed = refl; bytes = refl }
@@ -81,7 +83,7 @@ step_stands version Opened stack byte s h m p e =
     (λ is e1. given _ s e1 (with_byte (before version stack ++ 91 ∷ []) byte 93 is
     (spelled_as _ (sym (append_assoc (before version stack) (91 ∷ []) (93 ∷ [])))
     (tree_stands version stack (row none) h (row_is_tree (length stack) [] (level_low stack h) tt)))))
-    (λ _ e1. if_gave (nat_lt (length stack) 63) _ _ _ e1
+    (λ _ e1. if_gave (nat_lt (length stack) MOST_ROUND) _ _ _ e1
     (λ low e2. begun_stands version (Row [] ∷ stack) byte s (ltb-true _ _ low, tt, h) e2)
     (λ _ e2. nothing_given s e2))
 step_stands version Behind stack byte s h m p e = after_stands version stack byte s h p e
@@ -93,7 +95,7 @@ step_stands version Hash stack byte s h m p e = with_stands version stack _ (aft
 step_stands version (Number number) stack byte s h m p e =
     if_gave (byte == 58) _ _ _ e
     (λ is e1. given _ s e1 (with_byte (before version stack ++ 35 ∷ decimal number) byte 58 is (record {
-      stack = (p, (let few : number ≤ 16383 = m in omega arith), h);
+      stack = (p, (let few : number ≤ GREATEST_ALTERNATIVE = m in omega arith), h);
       mode = tt;
       placed = tt;
       bytes = sym (append_assoc (before version stack) (35 ∷ decimal number) (58 ∷ []));

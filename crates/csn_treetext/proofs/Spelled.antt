@@ -3,6 +3,9 @@ use Rattle.std.proofs.Common.{◌≡◌, ℕ, suc, ◌<◌, List, [], ◌∷◌,
 use Rattle.std.specs.Fmt.{decimal}
 use Rattle.hex.specs.Hex.{encode_upper, upper_digits}
 use Rattle.std.specs.Prelude.{slice_index}
+use Rattle.csn_treetext.specs.declared.stack.TheConstants.{MOST_ROUND}
+use Rattle.csn_treetext.specs.declared.bounds.TheConstants.{MOST_LEVELS}
+use Rattle.csn_desc.specs.declared.desc.TheConstants.{MOST_NODES}
 use Rattle.csn_desc.specs.Label.{IsLabel}
 use Rattle.csn_desc.specs.TreeV.{TreeV, row, alt, named, trees_of}
 use Rattle.csn_treetext.specs.declared.version.Version.{Version}
@@ -70,9 +73,9 @@ AreTrees round (t ∷ ts) = IsTree round t × AreTrees round ts
 
 abbrev pub IsStack : List Frame → Type 0
 IsStack [] = Unit {0}
-IsStack (Row ts ∷ stack) = (length stack < 63) × AreTrees (suc (length stack)) ts × IsStack stack
-IsStack (Alt j ∷ stack) = (length stack < 63) × (j < 16384) × IsStack stack
-IsStack (Named l ∷ stack) = (length stack < 63) × IsLabel l × IsStack stack
+IsStack (Row ts ∷ stack) = (length stack < MOST_ROUND) × AreTrees (suc (length stack)) ts × IsStack stack
+IsStack (Alt j ∷ stack) = (length stack < MOST_ROUND) × (j < MOST_NODES) × IsStack stack
+IsStack (Named l ∷ stack) = (length stack < MOST_ROUND) × IsLabel l × IsStack stack
 
 -- the innermost tree is a row that has a tree
 abbrev pub HasTree : List Frame → Type 0
@@ -91,10 +94,10 @@ IsPlaced version (Done t) stack = (stack ≡ []) × IsTree 0 t
 IsPlaced version (Width width) stack = Unit {0}
 IsPlaced version (Quote width) stack = Unit {0}
 IsPlaced version (Value width number) stack = Unit {0}
-IsPlaced version Hash stack = length stack < 63
-IsPlaced version (Number number) stack = length stack < 63
-IsPlaced version (Name name at) stack = length stack < 63
-IsPlaced version (NameEnd name) stack = length stack < 63
+IsPlaced version Hash stack = length stack < MOST_ROUND
+IsPlaced version (Number number) stack = length stack < MOST_ROUND
+IsPlaced version (Name name at) stack = length stack < MOST_ROUND
+IsPlaced version (NameEnd name) stack = length stack < MOST_ROUND
 IsPlaced version (Octets octets high) stack = version ≡ Second
 IsPlaced version (Slash octets) stack = version ≡ Second
 IsPlaced version (Bare b) stack = version ≡ First
@@ -106,7 +109,7 @@ pub record StandsFor (version : Version) (text : List ℕ) (s : State) : Type 0 
   pub placed : IsPlaced version s.mode s.stack
   pub bytes : spelled version s.mode s.stack ≡ text
 
-pub level_low : (stack : List Frame) → IsStack stack → length stack < 64
+pub level_low : (stack : List Frame) → IsStack stack → length stack < MOST_LEVELS
 level_low [] h = omega arith
 level_low (Row ts ∷ stack) h = (let k = h.0 in omega arith)
 level_low (Alt j ∷ stack) h = (let k = h.0 in omega arith)
@@ -124,7 +127,7 @@ all_have : (round : ℕ) (ts : List TreeV) → AreTrees round ts → AllHaveTree
 all_have round [] are = tt
 all_have round (t ∷ ts) are = (are.0.parts, all_have round ts are.1)
 
-pub row_is_tree : (round : ℕ) (ts : List TreeV) → round < 64 → AreTrees (suc round) ts → IsTree round (row (trees_of ts))
+pub row_is_tree : (round : ℕ) (ts : List TreeV) → round < MOST_LEVELS → AreTrees (suc round) ts → IsTree round (row (trees_of ts))
 row_is_tree round ts low are = record { fits = (low, all_fit (suc round) ts are); parts = all_have (suc round) ts are }
 
 -- ---- rows

@@ -4,6 +4,7 @@ use Rattle.std.proofs.Common.{◌≡◌, ℕ, ◌^◌, ◌<◌, ◌≤◌, ◌==
 use Rattle.std.specs.Fmt.{decimal}
 use Rattle.std.proofs.lemmas.Bool.{cases_Bool, le-leb}
 use Rattle.std.proofs.lemmas.Nat.{pow_pos}
+use Rattle.csn_treetext.specs.declared.bounds.TheConstants.{MOST_LEVELS, MOST_SHORT, MOST_OCTETS}
 use Rattle.csn_desc.specs.TreeV.{TreeV, bits, row, trees_of}
 use Rattle.csn_treetext.specs.declared.version.Version.{Version}
 use Rattle.csn_treetext.specs.declared.stack.Frame.{Frame}
@@ -44,14 +45,14 @@ with_byte front byte k h is = spelled_as _ (ap (λ c. front ++ c ∷ []) (is_byt
 
 -- ---- leaves
 
-pub short_is : (b : List ℕ) → 1 ≤ length b → length b ≤ 64 → is_short b ≡ true
+pub short_is : (b : List ℕ) → 1 ≤ length b → length b ≤ MOST_SHORT → is_short b ≡ true
 short_is b some few =
     let low : nat_le 1 (length b) ≡ true = le-leb 1 (length b) some in
-    let high : nat_le (length b) 64 ≡ true = le-leb (length b) 64 few in
+    let high : nat_le (length b) MOST_SHORT ≡ true = le-leb (length b) MOST_SHORT few in
     rw (low, high) refl
 
 -- the text of the leaf of so many bits that write a number
-pub number_text : (version : Version) (width number : ℕ) → 1 ≤ width → width ≤ 64 → number ≤ greatest_of width → text_of version (bits (low_bits width number)) ≡ decimal width ++ 39 ∷ decimal number
+pub number_text : (version : Version) (width number : ℕ) → 1 ≤ width → width ≤ MOST_SHORT → number ≤ greatest_of width → text_of version (bits (low_bits width number)) ≡ decimal width ++ 39 ∷ decimal number
 number_text version width number some few small =
     let long = length-low_bits width number in
     let power : 0 < 2 ^ width = pow_pos width in
@@ -59,13 +60,13 @@ number_text version width number some few small =
     let is = number_of-low_bits_small width number (omega arith) in
     rw short (rw (long, is) refl)
 
-pub number_is_tree : (round width number : ℕ) → round < 64 → width ≤ 64 → IsTree round (bits (low_bits width number))
+pub number_is_tree : (round width number : ℕ) → round < MOST_LEVELS → width ≤ MOST_SHORT → IsTree round (bits (low_bits width number))
 number_is_tree round width number low few = record {
   fits = low;
   parts = (IsBits-low_bits width number, omega (arith, length-low_bits width number));
 }
 
-pub cut_is_tree : (round : ℕ) (octets : List ℕ) (used : ℕ) → round < 64 → AreOctets octets → 1 ≤ length octets → length octets ≤ 65536 → used ≤ 8 → IsTree round (cut_octets octets used)
+pub cut_is_tree : (round : ℕ) (octets : List ℕ) (used : ℕ) → round < MOST_LEVELS → AreOctets octets → 1 ≤ length octets → length octets ≤ MOST_OCTETS → used ≤ 8 → IsTree round (cut_octets octets used)
 cut_is_tree round octets used low are some few most = record {
   fits = low;
   parts = (IsBits-cut_bits octets used are, omega (arith, length-cut_bits octets used some most));

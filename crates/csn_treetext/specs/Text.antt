@@ -2,6 +2,7 @@
 -- how values are shown.
 use Rattle.std.specs.Prelude.{ℕ, ◌+◌, nat_le, Bool, ◌&&◌, if◌then◌else◌, List, [], ◌∷◌, ◌++◌, length, map}
 use Rattle.std.specs.Fmt.{decimal}
+use Rattle.csn_treetext.specs.declared.bounds.TheConstants.{MOST_SHORT}
 use Rattle.csn_bits.specs.Line.{written}
 use Rattle.csn_bits.specs.Numbers.{number_of}
 use Rattle.csn_desc.specs.TreeV.{TreeV, empty, bits, row, alt, named, Trees, none, more}
@@ -12,7 +13,7 @@ use Rattle.csn_treetext.specs.declared.version.Version.TheVariants.{First, Secon
 
 -- 1 to 64 bits
 abbrev pub is_short : List ℕ → Bool
-is_short b = nat_le 1 (length b) && nat_le (length b) 64
+is_short b = nat_le 1 (length b) && nat_le (length b) MOST_SHORT
 
 -- `w'n`: how many bits, and the number that they write, the first one most significant
 abbrev pub short_text : List ℕ → List ℕ

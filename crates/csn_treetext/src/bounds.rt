@@ -1,4 +1,5 @@
 ghost use Rattle.std.specs.Prelude.{◌≤◌, ◌↔◌, IsTrue};
+ghost use Rattle.csn_treetext.specs.declared.bounds.TheConstants.{MOST_LEVELS};
 ghost use Rattle.csn_treetext.specs.Fits.{Fits, FitsInside};
 
 use csn_desc::{Shape, Tree};
@@ -8,6 +9,15 @@ pub const MOST_LEVELS: u32 = 64;
 
 /// The greatest number of an alternative in a text.
 pub const GREATEST_ALTERNATIVE: u16 = 16_383;
+
+/// The most bits of a leaf that is written as a number.
+pub const MOST_SHORT: u32 = 64;
+
+/// The most octets of a leaf.
+pub const MOST_OCTETS: usize = 65_536;
+
+/// The most bytes of a text that is read.
+pub const MOST_TEXT: u32 = 16_777_216;
 
 /// Whether a tree has a text: it has at most 64 levels, and alternatives below 16,384. It looks no deeper
 /// than that into a tree that has more levels.
@@ -19,7 +29,7 @@ pub fn fits(tree: &Tree) -> bool
 
 // Whether the tree fits with so many levels round it.
 fn fits_inside(tree: &Tree, round: u32) -> bool
-    requires { round ≤ 64 }
+    requires { round ≤ MOST_LEVELS }
     ensures { IsTrue result ↔ FitsInside round tree.now }
 {
     if round == MOST_LEVELS {

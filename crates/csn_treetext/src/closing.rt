@@ -1,6 +1,7 @@
 //! What a whole tree ends.
 
 ghost use Rattle.std.specs.Prelude.{◌≡◌, ◌<◌, [], ◌∷◌, ◌++◌, length, IfOk, OnOk};
+ghost use Rattle.csn_desc.specs.declared.tree.TheConstants.{MOST_TREES};
 ghost use Rattle.csn_treetext.specs.reader.Machine.{HasRoom, HasRoomBelow, state, with_stack, with_tree, after_tree, closed, root_of};
 
 use crate::mode::Mode;
@@ -29,7 +30,7 @@ pub fn with_tree(alloc: Global, stack: &mut Stack, tree: Tree) -> Result<Mode, N
 
 // A tree more in the innermost row, which was taken from the stack.
 fn behind(stack: &mut Stack, mut rows: Rows, tree: Tree) -> Result<Mode, NoMemory>
-    requires { length rows < 16777216 }
+    requires { length rows < MOST_TREES }
     ensures { IfOk result (λ mode. (mode ≡ Mode.Behind) × (stack.new ≡ Frame.Row (rows ++ tree ∷ []) ∷ stack.old)) }
 {
     if rows.push(tree).is_err() {

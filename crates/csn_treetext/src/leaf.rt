@@ -1,9 +1,12 @@
 ghost use Rattle.std.specs.Prelude.{◌≡◌, ◌<◌, ◌≤◌, ◌++◌, ◌∷◌, [], length, IfOk, OnOk};
+ghost use Rattle.csn_treetext.specs.declared.bounds.TheConstants.{MOST_SHORT, MOST_OCTETS};
+ghost use Rattle.csn_bits.specs.declared.bits.TheConstants.{MOST_BITS};
 ghost use Rattle.csn_desc.specs.TreeV.{bits};
 ghost use Rattle.csn_bits.specs.Numbers.{low_bits};
 ghost use Rattle.csn_treetext.specs.reader.Numeral.{digit_of, grown, greatest_of};
 ghost use Rattle.csn_treetext.specs.reader.Machine.{cut_octets, upper_value, last_octet};
 
+use crate::bounds::MOST_SHORT;
 use crate::bytes::Bytes;
 use csn_bits::{Bits, BitsFault, NoMemory};
 use csn_desc::{Shape, Tree};
@@ -40,10 +43,10 @@ pub fn grown(most: u64, number: Option<u64>, byte: u8) -> Option<u64>
 /// The greatest number that so many bits write.
 pub fn greatest_of(width: u8) -> u64
     requires some { 1 ≤ width }
-    requires few { width ≤ 64 }
+    requires few { width ≤ MOST_SHORT }
     ensures { result ≡ greatest_of width }
 {
-    u64::MAX >> (64 - width)
+    u64::MAX >> (MOST_SHORT - u32::from(width))
 }
 
 /// The value of a hexadecimal digit in upper case.
@@ -59,7 +62,7 @@ pub fn upper_value(byte: u8) -> Option<u8>
 
 /// The leaf of so many bits that writes a number.
 pub fn number_leaf(alloc: Global, width: u8, number: u64) -> Result<Tree, NoMemory>
-    requires { width ≤ 64 }
+    requires { width ≤ MOST_SHORT }
     ensures { IfOk result (λ tree. tree ≡ bits (low_bits width number)) }
 {
     let mut leaf = Bits::new(alloc);
@@ -76,7 +79,7 @@ pub fn number_leaf(alloc: Global, width: u8, number: u64) -> Result<Tree, NoMemo
 /// Adds a bit to bits that are not as many as a block has.
 pub fn push_bit(leaf: &mut Bits, bit: u8) -> Result<(), NoMemory>
     requires bit { bit ≤ 1 }
-    requires room { length leaf.old < 524288 }
+    requires room { length leaf.old < MOST_BITS }
     ensures { OnOk result (leaf.new ≡ leaf.old ++ bit ∷ []) }
 {
     match leaf.push(bit) {
@@ -89,7 +92,7 @@ pub fn push_bit(leaf: &mut Bits, bit: u8) -> Result<(), NoMemory>
 /// The leaf of octets of whose last one the first `used` bits belong to it.
 pub fn octets_leaf(alloc: Global, octets: &Bytes, used: u8) -> Result<Tree, NoMemory>
     requires some { 1 ≤ length octets.now }
-    requires few { length octets.now ≤ 65536 }
+    requires few { length octets.now ≤ MOST_OCTETS }
     requires used { used ≤ 8 }
     ensures { IfOk result (λ tree. tree ≡ cut_octets octets.now used) }
 {

@@ -1,11 +1,13 @@
 //! One byte more of a leaf.
 
 ghost use Rattle.std.specs.Prelude.{◌≡◌, ◌<◌, ◌≤◌, length, Some, IfOk};
+ghost use Rattle.csn_treetext.specs.declared.bounds.TheConstants.{MOST_SHORT, MOST_OCTETS};
 ghost use Rattle.csn_desc.specs.TreeV.{bits};
 ghost use Rattle.csn_treetext.specs.Text.{is_short};
 ghost use Rattle.csn_treetext.specs.reader.Numeral.{grown, greatest_of};
 ghost use Rattle.csn_treetext.specs.reader.Machine.{HasRoom, AreDigits, after_digits, ended_octets, with_stack, after_width, after_quote, after_number, after_octets, after_high, after_slash, after_bits, upper_value};
 
+use crate::bounds::{MOST_OCTETS, MOST_SHORT};
 use crate::bytes::Bytes;
 use crate::closing::{close, root, with_tree};
 use crate::leaf::{
@@ -16,9 +18,6 @@ use crate::stack::Stack;
 use csn_bits::{Bits, MOST_BITS, NoMemory};
 use csn_desc::{Shape, Tree};
 use std::alloc::Global;
-
-/// The most octets of a leaf.
-const MOST_OCTETS: usize = 65_536;
 
 // The fewest octets of a leaf that is written as a block line: they hold more than 64 bits, whatever
 // bits of the last one belong to it.
@@ -39,13 +38,13 @@ pub fn after_width(width: u8, byte: u8) -> Option<Mode>
     if byte == b'\'' {
         return Some(Mode::Quote(width));
     }
-    let next = grown(64, Some(u64::from(width)), byte)?;
+    let next = grown(u64::from(MOST_SHORT), Some(u64::from(width)), byte)?;
     Some(Mode::Width(next as u8))
 }
 
 pub fn after_quote(width: u8, byte: u8) -> Option<Mode>
     requires some { 1 ≤ width }
-    requires few { width ≤ 64 }
+    requires few { width ≤ MOST_SHORT }
     ensures { result ≡ after_quote width byte }
 {
     let number = grown(greatest_of(width), None, byte)?;
@@ -61,7 +60,7 @@ pub fn after_number(
 ) -> Result<Option<Mode>, NoMemory>
     requires room { HasRoom stack.old }
     requires some { 1 ≤ width }
-    requires few { width ≤ 64 }
+    requires few { width ≤ MOST_SHORT }
     ensures { IfOk result (λ next. after_number (grown (greatest_of width) (Some number) byte) width number stack.old byte ≡ with_stack stack.new next) }
 {
     match grown(greatest_of(width), Some(number), byte) {
@@ -97,7 +96,7 @@ fn after_octets(
     byte: u8,
 ) -> Result<Option<Mode>, NoMemory>
     requires room { HasRoom stack.old }
-    requires few { length octets ≤ 65536 }
+    requires few { length octets ≤ MOST_OCTETS }
     ensures { IfOk result (λ next. after_octets octets (upper_value byte) stack.old byte ≡ with_stack stack.new next) }
 {
     let count = octets.as_slice().len();
@@ -143,7 +142,7 @@ pub fn after_slash(
 ) -> Result<Option<Mode>, NoMemory>
     requires room { HasRoom stack.old }
     requires some { 1 ≤ length octets }
-    requires few { length octets ≤ 65536 }
+    requires few { length octets ≤ MOST_OCTETS }
     ensures { IfOk result (λ next. after_slash octets stack.old byte ≡ with_stack stack.new next) }
 {
     let used = match byte {
@@ -179,11 +178,11 @@ pub fn after_bits(
     }
 }
 
-/// Whether there are 1 to 64 bits.
+/// Whether the bits are written as a number.
 pub fn is_short(bits: &Bits) -> bool
     ensures { result ≡ is_short bits.now }
 {
-    bits.len() >= 1 && bits.len() <= 64
+    bits.len() >= 1 && bits.len() <= MOST_SHORT
 }
 
 pub fn finish_octets(

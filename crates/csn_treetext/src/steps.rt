@@ -3,6 +3,7 @@
 ghost use Rattle.std.specs.Prelude.{◌≡◌, IfOk};
 ghost use Rattle.csn_treetext.specs.reader.Machine.{HasRoom, IsMode, with_stack, begun, name_after, after_name, after_hash, step, ended, after_bracket, after_alternative, after_name_end};
 
+use crate::bounds::GREATEST_ALTERNATIVE;
 use crate::bytes::Bytes;
 use crate::closing::{after_tree, root, with_tree};
 use crate::leaf::{grown, number_leaf};
@@ -107,7 +108,7 @@ fn begin_row(
 fn after_hash(number: Option<u64>, byte: u8) -> Option<Mode>
     ensures { result ≡ after_hash number byte }
 {
-    let next = grown(16_383, number, byte)?;
+    let next = grown(u64::from(GREATEST_ALTERNATIVE), number, byte)?;
     Some(Mode::Number(next as u16))
 }
 

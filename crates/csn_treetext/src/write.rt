@@ -1,5 +1,7 @@
 ghost use Rattle.std.specs.Prelude.{◌≡◌, ◌≤◌, ◌++◌, length, IfOk, OnOk};
 ghost use Rattle.std.specs.Fmt.{decimal};
+ghost use Rattle.csn_treetext.specs.declared.bounds.TheConstants.{MOST_SHORT};
+ghost use Rattle.csn_bits.specs.declared.bits.TheConstants.{MOST_BITS};
 ghost use Rattle.csn_bits.specs.Octets.{IsBits};
 ghost use Rattle.csn_bits.specs.Numbers.{number_of};
 ghost use Rattle.csn_treetext.specs.declared.version.Version.TheVariants.{Second};
@@ -8,6 +10,7 @@ ghost use Rattle.csn_desc.specs.TreeParts.{HasTreeParts};
 ghost use Rattle.csn_treetext.specs.Fits.{Fits};
 ghost use Rattle.csn_treetext.specs.Place.{TreeText};
 
+use crate::bounds::MOST_SHORT;
 use csn_bits::{Bits, NoMemory};
 use csn_desc::{Shape, Tree};
 use itoa::Buffer;
@@ -59,11 +62,11 @@ fn push_tree(out: &mut Vec<u8>, tree: &Tree) -> Result<(), NoMemory>
 fn push_leaf(out: &mut Vec<u8>, bits: &Bits) -> Result<(), NoMemory>
     ensures text { OnOk result (out.new.items ≡ out.old.items ++ leaf_text Second bits.now) }
     ensures zeros_and_ones { IsBits bits.now }
-    ensures few { length bits.now ≤ 524288 }
+    ensures few { length bits.now ≤ MOST_BITS }
 {
     match bits.len() {
         0 => out.push(b'b')?,
-        1..=64 => {
+        1..=MOST_SHORT => {
             push_number(out, u64::from(bits.len()))?;
             out.push(b'\'')?;
             push_number(out, number_of(bits))?;
@@ -79,7 +82,7 @@ fn push_leaf(out: &mut Vec<u8>, bits: &Bits) -> Result<(), NoMemory>
 
 // The number that at most 64 bits write, the first of them most significant.
 fn number_of(bits: &Bits) -> u64
-    requires { length bits.now ≤ 64 }
+    requires { length bits.now ≤ MOST_SHORT }
     ensures { result ≡ number_of bits.now }
 {
     let mut number = 0;

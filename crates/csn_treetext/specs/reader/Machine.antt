@@ -1,6 +1,10 @@
 -- The reader of a text, byte by byte. What it reads is defined in `Place`, and not here.
 use Rattle.std.specs.Prelude.{◌≡◌, ◌≤◌, slice_index, ℕ, ◌+◌, ◌-◌, ◌*◌, ◌%◌, ◌^◌, ◌<◌, ◌==◌, nat_le, nat_lt, Bool, true, false, ◌&&◌, if◌then◌else◌, List, [], ◌∷◌, ◌++◌, length, take, Option, Some, None, option_map, unwrap_or}
 use Rattle.std.specs.Char.{is_ascii_alphanumeric}
+use Rattle.csn_treetext.specs.declared.stack.TheConstants.{MOST_ROUND}
+use Rattle.csn_treetext.specs.declared.bounds.TheConstants.{GREATEST_ALTERNATIVE, MOST_SHORT, MOST_OCTETS}
+use Rattle.csn_bits.specs.declared.bits.TheConstants.{MOST_BITS}
+use Rattle.csn_desc.specs.declared.tree.TheConstants.{MOST_TREES}
 use Rattle.csn_bits.specs.Octets.{bits_of_octets, IsBits}
 use Rattle.csn_desc.specs.Label.{IsLabel}
 use Rattle.csn_bits.specs.Line.{last_of}
@@ -32,7 +36,7 @@ with_stack stack (Some mode) = Some (state mode stack)
 -- each row that has begun can take one tree more
 abbrev pub HasRoom : List Frame → Type 0
 HasRoom [] = Unit {0}
-HasRoom (Row ts ∷ stack) = (length ts < 16777216) × HasRoom stack
+HasRoom (Row ts ∷ stack) = (length ts < MOST_TREES) × HasRoom stack
 HasRoom (Alt j ∷ stack) = HasRoom stack
 HasRoom (Named l ∷ stack) = HasRoom stack
 
@@ -64,8 +68,8 @@ AreOctets octets = (k : ℕ) → slice_index octets k < 256
 
 -- octets that a leaf can have, with the first digit of one more
 abbrev pub AreDigits : List ℕ → Option ℕ → Type 0
-AreDigits octets None = length octets ≤ 65536
-AreDigits octets (Some high) = (length octets < 65536) × (high < 16)
+AreDigits octets None = length octets ≤ MOST_OCTETS
+AreDigits octets (Some high) = (length octets < MOST_OCTETS) × (high < 16)
 
 -- what a mode holds can stand there
 abbrev pub IsMode : Mode → Type 0
@@ -73,16 +77,16 @@ IsMode Start = Unit {0}
 IsMode Opened = Unit {0}
 IsMode Behind = Unit {0}
 IsMode (Done t) = Unit {0}
-IsMode (Width width) = (1 ≤ width) × (width ≤ 64)
-IsMode (Quote width) = (1 ≤ width) × (width ≤ 64)
-IsMode (Value width number) = (1 ≤ width) × (width ≤ 64) × (number ≤ greatest_of width)
+IsMode (Width width) = (1 ≤ width) × (width ≤ MOST_SHORT)
+IsMode (Quote width) = (1 ≤ width) × (width ≤ MOST_SHORT)
+IsMode (Value width number) = (1 ≤ width) × (width ≤ MOST_SHORT) × (number ≤ greatest_of width)
 IsMode Hash = Unit {0}
-IsMode (Number number) = number ≤ 16383
+IsMode (Number number) = number ≤ GREATEST_ALTERNATIVE
 IsMode (Name name at) = name_run (Some Front) name ≡ Some at
 IsMode (NameEnd name) = IsLabel name
 IsMode (Octets octets high) = AreOctets octets × AreDigits octets high
-IsMode (Slash octets) = AreOctets octets × (9 ≤ length octets) × (length octets ≤ 65536) × (last_octet octets % 2 ≡ 0)
-IsMode (Bare b) = IsBits b × (length b ≤ 524288)
+IsMode (Slash octets) = AreOctets octets × (9 ≤ length octets) × (length octets ≤ MOST_OCTETS) × (last_octet octets % 2 ≡ 0)
+IsMode (Bare b) = IsBits b × (length b ≤ MOST_BITS)
 
 -- each row that has begun can take one tree more, but for the innermost tree
 abbrev pub HasRoomBelow : List Frame → Type 0
@@ -137,7 +141,7 @@ cut_octets octets used = bits (take (8 * length octets - 8 + used) (bits_of_octe
 
 -- a tree that has another one inside can begin
 abbrev pub inside : List Frame → Mode → Option State
-inside stack mode = if nat_lt (length stack) 63 then Some (state mode stack) else None
+inside stack mode = if nat_lt (length stack) MOST_ROUND then Some (state mode stack) else None
 
 abbrev pub begun_b : Version → List Frame → State
 begun_b First stack = state (Bare []) stack
@@ -171,13 +175,13 @@ after_name name at byte =
     else option_map (Name (name ++ byte ∷ [])) (name_after at byte)
 
 abbrev pub after_width : ℕ → ℕ → Option Mode
-after_width width byte = if byte == 39 then Some (Quote width) else option_map Width (grown 64 (Some width) byte)
+after_width width byte = if byte == 39 then Some (Quote width) else option_map Width (grown MOST_SHORT (Some width) byte)
 
 abbrev pub after_quote : ℕ → ℕ → Option Mode
 after_quote width byte = option_map (Value width) (grown (greatest_of width) None byte)
 
 abbrev pub after_hash : Option ℕ → ℕ → Option Mode
-after_hash number byte = option_map Number (grown 16383 number byte)
+after_hash number byte = option_map Number (grown GREATEST_ALTERNATIVE number byte)
 
 abbrev pub after_number : Option ℕ → ℕ → ℕ → List Frame → ℕ → Option State
 after_number (Some next) width number stack byte = Some (state (Value width next) stack)
@@ -189,7 +193,7 @@ after_high octets high (Some low) = Some (Octets (octets ++ (16 * high + low) �
 
 abbrev pub after_octets : List ℕ → Option ℕ → List Frame → ℕ → Option State
 after_octets octets (Some high) stack byte =
-    if nat_lt (length octets) 65536 then Some (state (Octets octets (Some high)) stack) else None
+    if nat_lt (length octets) MOST_OCTETS then Some (state (Octets octets (Some high)) stack) else None
 after_octets octets None stack byte =
     if are_many octets then
     (if byte == 47 then (if last_octet octets % 2 == 0 then Some (state (Slash octets) stack) else None)
@@ -211,14 +215,14 @@ is_bit_digit byte = nat_le 48 byte && nat_le byte 49
 abbrev pub after_bits : List ℕ → List Frame → ℕ → Option State
 after_bits b stack byte =
     if is_bit_digit byte then
-    (if nat_lt (length b) 524288 then Some (state (Bare (b ++ (byte - 48) ∷ [])) stack) else None)
+    (if nat_lt (length b) MOST_BITS then Some (state (Bare (b ++ (byte - 48) ∷ [])) stack) else None)
     else if is_short b then None
     else closed stack (bits b) byte
 
 abbrev pub after_bracket : Version → List Frame → ℕ → Option State
 after_bracket version stack byte =
     if byte == 93 then Some (with_tree stack (row none))
-    else if nat_lt (length stack) 63 then begun version (Row [] ∷ stack) byte
+    else if nat_lt (length stack) MOST_ROUND then begun version (Row [] ∷ stack) byte
     else None
 
 abbrev pub after_alternative : ℕ → List Frame → ℕ → Option State
