@@ -1,21 +1,27 @@
-//! The marks of a set of keys, and those of the prefixes of its keys: 8,192 of each kind, for the places of
-//! words.
+//! The marks of a set of keys, and those of the prefixes of its keys: one of each kind for each place of a word.
 
 ghost use Rattle.std.specs.Prelude.{◌≡◌, ℕ, ◌+◌, ◌<◌, ◌↔◌, ◌||◌, List, length, IsTrue};
 ghost use Rattle.csn_look.specs.KeyMarks.{IsWord, is_marked, place_of, key_mark, BeginsWithKey};
 ghost use Rattle.csn_look.specs.KeyTables.{AddsKey};
 
 use crate::marks::{is_marked, set_mark};
+use crate::word::PLACES;
 
 /// Where the marks of cut keys begin; those of whole keys begin at 0.
-pub(crate) const CUT: usize = 8192;
+pub(crate) const CUT: usize = PLACES;
 
 /// Where the marks of words begin that are prefixes of keys and not all of them.
-pub(crate) const STARTS: usize = 16384;
+pub(crate) const STARTS: usize = 2 * PLACES;
+
+/// How many marks there are.
+pub(crate) const MARKS: usize = 3 * PLACES;
+
+/// How many numbers of 64 bits they take.
+pub(crate) const MARK_WORDS: usize = MARKS / 64;
 
 /// Which mark says that the word with this place is a key.
 pub(crate) fn key_mark(place: usize, whole: bool) -> usize
-    requires { place < 8192 }
+    requires { place < PLACES }
     ensures { result ≡ key_mark place whole }
 {
     if whole { place } else { CUT + place }
@@ -23,8 +29,8 @@ pub(crate) fn key_mark(place: usize, whole: bool) -> usize
 
 /// Whether the word with this place is a key, whole or cut.
 pub(crate) fn is_key(marks: &[u64], place: usize) -> bool
-    requires size { length marks.now ≡ 384 }
-    requires small { place < 8192 }
+    requires size { length marks.now ≡ MARK_WORDS }
+    requires small { place < PLACES }
     ensures { result ≡ (is_marked marks.now place || is_marked marks.now (CUT + place)) }
 {
     is_marked(marks, place) || is_marked(marks, CUT + place)
@@ -32,9 +38,9 @@ pub(crate) fn is_key(marks: &[u64], place: usize) -> bool
 
 /// Whether a key is a prefix of the word with this place.
 pub(crate) fn begins_with_key(marks: &[u64], place: usize) -> bool
-    requires size { length marks.now ≡ 384 }
+    requires size { length marks.now ≡ MARK_WORDS }
     requires some { 0 < place }
-    requires small { place < 8192 }
+    requires small { place < PLACES }
     ensures { (word : List ℕ) → IsWord word → place_of word ≡ place → IsTrue result ↔ BeginsWithKey marks.now word }
 {
     let mut at = place;
@@ -50,9 +56,9 @@ pub(crate) fn begins_with_key(marks: &[u64], place: usize) -> bool
 /// Makes the word with this place a key, and its prefixes the beginnings of one. Where one of them begins a key
 /// already, so do all before it.
 pub(crate) fn add_key(marks: &mut [u64], place: usize, whole: bool)
-    requires size { length marks.old ≡ 384 }
+    requires size { length marks.old ≡ MARK_WORDS }
     requires some { 0 < place }
-    requires small { place < 8192 }
+    requires small { place < PLACES }
     ensures { (word : List ℕ) → IsWord word → place_of word ≡ place → AddsKey marks.old marks.new word whole }
 {
     set_mark(marks, key_mark(place, whole));

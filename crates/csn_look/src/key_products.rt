@@ -5,25 +5,29 @@ ghost use Rattle.csn_look.specs.KeyMarks.{IsWord, place_of, has_key};
 ghost use Rattle.csn_look.specs.KeyTables.{IsKeyTable};
 ghost use Rattle.csn_look.specs.KeySteps.{Extends, IsBehind, IsKeyBehind, IsAfter};
 
-use crate::key_marks::{CUT, STARTS, add_key};
+use crate::key_marks::{CUT, MARK_WORDS, STARTS, add_key};
 use crate::marks::next_marked;
+use crate::word::{MOST_WORD, PLACES};
+
+/// How many words of the most bits there are.
+const MOST_WORDS: usize = PLACES / 2;
 
 /// How many words of so many bits there are, which is also the place of the first of them.
 pub(crate) fn words_of(size: usize) -> usize
-    requires { size ≤ 12 }
+    requires { size ≤ MOST_WORD }
     ensures value { result ≡ 2 ^ size }
     ensures some { 0 < result }
-    ensures small { result ≤ 4096 }
+    ensures small { result ≤ MOST_WORDS }
 {
     1 << size
 }
 
 /// All words of one size.
 pub(crate) fn add_words(marks: &mut [u64], words: usize, whole: bool)
-    requires size { length marks.old ≡ 384 }
+    requires size { length marks.old ≡ MARK_WORDS }
     requires some { 0 < words }
-    requires few { words ≤ 4096 }
-    ensures { (size : ℕ) → words ≡ 2 ^ size → size ≤ 12 → Extends marks.old marks.new (λ word mark. (length word ≡ size) × (mark ≡ whole)) }
+    requires few { words ≤ MOST_WORDS }
+    ensures { (size : ℕ) → words ≡ 2 ^ size → size ≤ MOST_WORD → Extends marks.old marks.new (λ word mark. (length word ≡ size) × (mark ≡ whole)) }
 {
     for number in 0..words {
         add_key(marks, words + number, whole);
@@ -40,13 +44,13 @@ fn add_marked(
     words: usize,
     whole: bool,
 )
-    requires size { length marks.old ≡ 384 }
-    requires rest_size { length rest.now ≡ 384 }
+    requires size { length marks.old ≡ MARK_WORDS }
+    requires rest_size { length rest.now ≡ MARK_WORDS }
     requires plane { plane ≤ STARTS }
     requires some { 0 < front }
-    requires few { words ≤ 4096 }
-    requires room { (front + 1) * words ≤ 8192 }
-    ensures { (first : List ℕ) (size : ℕ) → IsWord first → place_of first ≡ front → words ≡ 2 ^ size → length first + size ≤ 12 → Extends marks.old marks.new (λ word mark. IsBehind rest.now plane first size words word × (mark ≡ whole)) }
+    requires few { words ≤ MOST_WORDS }
+    requires room { (front + 1) * words ≤ PLACES }
+    ensures { (first : List ℕ) (size : ℕ) → IsWord first → place_of first ≡ front → words ≡ 2 ^ size → length first + size ≤ MOST_WORD → Extends marks.old marks.new (λ word mark. IsBehind rest.now plane first size words word × (mark ≡ whole)) }
 {
     let start = plane + words;
     let end = start + words;
@@ -59,12 +63,12 @@ fn add_marked(
 
 /// The word with the place `front`, and behind it each key of one size.
 fn add_keys_of(marks: &mut [u64], front: usize, rest: &[u64], words: usize)
-    requires size { length marks.old ≡ 384 }
-    requires rest_size { length rest.now ≡ 384 }
+    requires size { length marks.old ≡ MARK_WORDS }
+    requires rest_size { length rest.now ≡ MARK_WORDS }
     requires some { 0 < front }
-    requires few { words ≤ 4096 }
-    requires room { (front + 1) * words ≤ 8192 }
-    ensures { (first : List ℕ) (size : ℕ) → IsWord first → place_of first ≡ front → words ≡ 2 ^ size → length first + size ≤ 12 → Extends marks.old marks.new (λ word mark. IsBehind rest.now (if mark then 0 else CUT) first size words word) }
+    requires few { words ≤ MOST_WORDS }
+    requires room { (front + 1) * words ≤ PLACES }
+    ensures { (first : List ℕ) (size : ℕ) → IsWord first → place_of first ≡ front → words ≡ 2 ^ size → length first + size ≤ MOST_WORD → Extends marks.old marks.new (λ word mark. IsBehind rest.now (if mark then 0 else CUT) first size words word) }
 {
     add_marked(marks, front, rest, 0, words, true);
     add_marked(marks, front, rest, CUT, words, false);
@@ -72,12 +76,12 @@ fn add_keys_of(marks: &mut [u64], front: usize, rest: &[u64], words: usize)
 
 /// The word with the place `front`, which leaves room for so many bits, and behind it each key, cut at 12 bits.
 fn add_behind(marks: &mut [u64], front: usize, rest: &[u64], room: usize)
-    requires size { length marks.old ≡ 384 }
-    requires rest_size { length rest.now ≡ 384 }
+    requires size { length marks.old ≡ MARK_WORDS }
+    requires rest_size { length rest.now ≡ MARK_WORDS }
     requires some { 0 < front }
-    requires few { room ≤ 12 }
-    requires within { (front + 1) * 2 ^ room ≤ 8192 }
-    ensures { (first : List ℕ) → IsWord first → place_of first ≡ front → length first + room ≡ 12 → IsKeyTable rest.now → Extends marks.old marks.new (IsKeyBehind rest.now first) }
+    requires few { room ≤ MOST_WORD }
+    requires within { (front + 1) * 2 ^ room ≤ PLACES }
+    ensures { (first : List ℕ) → IsWord first → place_of first ≡ front → length first + room ≡ MOST_WORD → IsKeyTable rest.now → Extends marks.old marks.new (IsKeyBehind rest.now first) }
 {
     for size in 0..room + 1 {
         add_keys_of(marks, front, rest, words_of(size));
@@ -87,26 +91,26 @@ fn add_behind(marks: &mut [u64], front: usize, rest: &[u64], room: usize)
 
 /// Each whole key of the first part that has so many bits, and behind it each key of the rest.
 fn add_after_wholes(marks: &mut [u64], first: &[u64], rest: &[u64], size: usize)
-    requires size { length marks.old ≡ 384 }
-    requires first_size { length first.now ≡ 384 }
-    requires rest_size { length rest.now ≡ 384 }
-    requires few { size ≤ 12 }
+    requires size { length marks.old ≡ MARK_WORDS }
+    requires first_size { length first.now ≡ MARK_WORDS }
+    requires rest_size { length rest.now ≡ MARK_WORDS }
+    requires few { size ≤ MOST_WORD }
     ensures { IsKeyTable rest.now → Extends marks.old marks.new (IsAfter first.now rest.now size (2 ^ size)) }
 {
     let words = words_of(size);
     let mut at = next_marked(first, words, 2 * words);
     while at < 2 * words {
-        add_behind(marks, at, rest, 12 - size);
+        add_behind(marks, at, rest, MOST_WORD - size);
         at = next_marked(first, at + 1, 2 * words);
     }
 }
 
 /// Each cut key of the first part that has so many bits, and each whole one with each key of the rest behind it.
 pub(crate) fn add_after_size(marks: &mut [u64], first: &[u64], rest: &[u64], size: usize)
-    requires size { length marks.old ≡ 384 }
-    requires first_size { length first.now ≡ 384 }
-    requires rest_size { length rest.now ≡ 384 }
-    requires few { size ≤ 12 }
+    requires size { length marks.old ≡ MARK_WORDS }
+    requires first_size { length first.now ≡ MARK_WORDS }
+    requires rest_size { length rest.now ≡ MARK_WORDS }
+    requires few { size ≤ MOST_WORD }
     ensures { IsKeyTable rest.now → Extends marks.old marks.new (λ word mark. (IsBehind first.now CUT [] size (2 ^ size) word × (mark ≡ false)) ⊎ IsAfter first.now rest.now size (2 ^ size) word mark) }
 {
     add_marked(marks, 1, first, CUT, words_of(size), false);

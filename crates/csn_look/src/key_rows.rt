@@ -60,7 +60,7 @@ impl Rowed<'_> {
     /// The row of a node whose parts have theirs.
     fn node(&self, tables: &mut TableMaker, node: &Node) -> Result<[usize; 8], NoMemory>
         requires { AreRowed self.now.desc.now tables.old self.now.rows.now (parts_of node.now) }
-        ensures { IfOk result (λ row. Makes tables.old tables.new row (NodeKeys self.now.desc.now 12 node.now)) }
+        ensures { IfOk result (λ row. Makes tables.old tables.new row (NodeKeys self.now.desc.now MOST_WORD node.now)) }
     {
         match node {
             Node::Lits(run) => literal_row(self.alloc, tables, run),
@@ -92,7 +92,7 @@ impl Rowed<'_> {
     /// The row of the node with this number.
     fn of(&self, tables: &TableMaker, i: u16) -> [usize; 8]
         requires { IsRowed self.now.desc.now tables.now self.now.rows.now i }
-        ensures { HasRow tables.now result (InKeys self.now.desc.now 12 i) }
+        ensures { HasRow tables.now result (InKeys self.now.desc.now MOST_WORD i) }
     {
         self.rows[i as usize]
     }
@@ -100,7 +100,7 @@ impl Rowed<'_> {
     /// The row of parts one after another.
     fn sequence(&self, tables: &mut TableMaker, parts: &Parts) -> Result<[usize; 8], NoMemory>
         requires { AreRowed self.now.desc.now tables.old self.now.rows.now parts.now }
-        ensures { IfOk result (λ row. Makes tables.old tables.new row (PartsKeys self.now.desc.now 12 parts.now)) }
+        ensures { IfOk result (λ row. Makes tables.old tables.new row (PartsKeys self.now.desc.now MOST_WORD parts.now)) }
     {
         let mut row = empty_row(self.alloc, tables, true)?;
         for at in (0..parts.len()).rev() {
@@ -113,7 +113,7 @@ impl Rowed<'_> {
     /// The row of one of some parts.
     fn choice(&self, tables: &mut TableMaker, parts: &Parts) -> Result<[usize; 8], NoMemory>
         requires { AreRowed self.now.desc.now tables.old self.now.rows.now parts.now }
-        ensures { IfOk result (λ row. Makes tables.old tables.new row (NodeKeys self.now.desc.now 12 (Node.Choice parts.now))) }
+        ensures { IfOk result (λ row. Makes tables.old tables.new row (NodeKeys self.now.desc.now MOST_WORD (Node.Choice parts.now))) }
     {
         if self.are_same(tables, parts) {
             let table = self.union(tables, parts, 0)?;
@@ -144,7 +144,7 @@ impl Rowed<'_> {
     fn union(&self, tables: &TableMaker, parts: &Parts, octet: usize) -> Result<KeyTable, NoMemory>
         requires octet { octet ≤ 7 }
         requires rowed { AreRowed self.now.desc.now tables.now self.now.rows.now parts.now }
-        ensures { IfOk result (λ table. KeysAre table (NodeKeys self.now.desc.now 12 (Node.Choice parts.now) octet)) }
+        ensures { IfOk result (λ table. KeysAre table (NodeKeys self.now.desc.now MOST_WORD (Node.Choice parts.now) octet)) }
     {
         let mut table = KeyTable::new(self.alloc)?;
         for at in 0..parts.len() {
@@ -162,7 +162,7 @@ impl Rowed<'_> {
         part: u16,
     ) -> Result<[usize; 8], NoMemory>
         requires { IsRowed self.now.desc.now tables.old self.now.rows.now part }
-        ensures { IfOk result (λ row. Makes tables.old tables.new row (NodeKeys self.now.desc.now 12 (Node.Times count part))) }
+        ensures { IfOk result (λ row. Makes tables.old tables.new row (NodeKeys self.now.desc.now MOST_WORD (Node.Times count part))) }
     {
         match count {
             Count::Fixed(n) => {
@@ -186,7 +186,7 @@ fn repeated_row(
     n: u32,
 ) -> Result<[usize; 8], NoMemory>
     requires { AreTables tables.old once.now }
-    ensures { (d : DescV) (i : ℕ) → HasRow tables.old once.now (InKeys d 12 i) → IfOk result (λ row. Makes tables.old tables.new row (TimesKeys d 12 n i)) }
+    ensures { (d : DescV) (i : ℕ) → HasRow tables.old once.now (InKeys d MOST_WORD i) → IfOk result (λ row. Makes tables.old tables.new row (TimesKeys d MOST_WORD n i)) }
 {
     let mut row = empty_row(alloc, tables, true)?;
     for done in 0..n {
@@ -247,9 +247,9 @@ fn turned(row: &[usize; 8], octet: usize) -> [usize; 8]
 
 /// The row of a literal word.
 fn literal_row(alloc: Global, tables: &mut TableMaker, run: &Run) -> Result<[usize; 8], NoMemory>
-    ensures { (d : DescV) → IfOk result (λ row. Makes tables.old tables.new row (NodeKeys d 12 (Node.Lits run.now))) }
+    ensures { (d : DescV) → IfOk result (λ row. Makes tables.old tables.new row (NodeKeys d MOST_WORD (Node.Lits run.now))) }
 {
-    let whole = run.len() <= 12;
+    let whole = run.len() <= MOST_WORD as u32;
     let mut row = [0; 8];
     for octet in 0..8u8 {
         row[octet as usize] = tables.keep_key(alloc, &literal_word(run, octet), whole)?;
@@ -260,10 +260,11 @@ fn literal_row(alloc: Global, tables: &mut TableMaker, run: &Run) -> Result<[usi
 /// The first bits of a literal word at an octet position, as many as are looked at.
 fn literal_word(run: &Run, octet: u8) -> Word
     requires { octet ≤ 7 }
-    ensures { result ≡ take 12 (spelled run.now octet) }
+    ensures { result ≡ take MOST_WORD (spelled run.now octet) }
 {
     let mut word = Word::new();
-    let size = if run.len() < 12 { run.len() } else { 12 };
+    let most = MOST_WORD as u32;
+    let size = if run.len() < most { run.len() } else { most };
     for at in 0..size {
         let place = (octet as u32 + at) % 8;
         word.push(bit_of_symbol(run.get(at), place as u8));
@@ -318,7 +319,7 @@ fn field_row(
     unit: u8,
     count: Count,
 ) -> Result<[usize; 8], NoMemory>
-    ensures { (d : DescV) → IfOk result (λ row. Makes tables.old tables.new row (NodeKeys d 12 (Node.Field unit count))) }
+    ensures { (d : DescV) → IfOk result (λ row. Makes tables.old tables.new row (NodeKeys d MOST_WORD (Node.Field unit count))) }
 {
     match count {
         Count::Fixed(n) => {
@@ -335,10 +336,10 @@ fn field_row(
 
 /// The table of a field of so many bits.
 fn field_table(alloc: Global, tables: &mut TableMaker, width: u64) -> Result<usize, NoMemory>
-    ensures kept { IfOk result (λ at. HasTable tables.new at (λ word mark. (w : List ℕ) × (length w ≡ width) × IsBits w × Cut 12 w true word mark)) }
+    ensures kept { IfOk result (λ at. HasTable tables.new at (λ word mark. (w : List ℕ) × (length w ≡ width) × IsBits w × Cut MOST_WORD w true word mark)) }
     ensures more { IsMore tables.old tables.new }
 {
-    if width > 12 {
+    if width > MOST_WORD as u64 {
         tables.keep_words(alloc, MOST_WORD, false)
     } else {
         tables.keep_words(alloc, width as usize, true)

@@ -2,9 +2,9 @@ ghost use Rattle.std.specs.Prelude.{◌≡◌, ℕ, [], ◌∷◌, ◌+◌, ◌-
 ghost use Rattle.csn_look.specs.KeyMarks.{IsWord, place_of, has_key};
 ghost use Rattle.csn_look.specs.KeyLists.{keys_if, keys_from};
 
-use crate::key_marks::{STARTS, key_mark};
+use crate::key_marks::{MARK_WORDS, STARTS, key_mark};
 use crate::marks::is_marked;
-use crate::word::{Key, Word};
+use crate::word::{Key, MOST_WORD, PLACES, Word};
 use csn_bits::NoMemory;
 use std::alloc::Global;
 use std::marker::Model;
@@ -46,9 +46,9 @@ impl KeySet {
 
 /// Lists the word with this place, where it is a key with this mark.
 fn list_key(marks: &[u64], place: usize, whole: bool, keys: &mut Vec<Key>) -> Result<(), NoMemory>
-    requires marks { length marks.now ≡ 384 }
+    requires marks { length marks.now ≡ MARK_WORDS }
     requires some { 0 < place }
-    requires small { place < 8192 }
+    requires small { place < PLACES }
     ensures { (word : List ℕ) → IsWord word → place_of word ≡ place → IfOk result (λ done. keys.new.items ≡ keys.old.items ++ keys_if (has_key marks.now word whole) (record { word = word; whole = whole } ∷ [])) }
 {
     if is_marked(marks, key_mark(place, whole)) {
@@ -65,15 +65,15 @@ pub(crate) fn list_keys(
     size: usize,
     keys: &mut Vec<Key>,
 ) -> Result<(), NoMemory>
-    requires marks { length marks.now ≡ 384 }
-    requires few { size ≤ 12 }
+    requires marks { length marks.now ≡ MARK_WORDS }
+    requires few { size ≤ MOST_WORD }
     requires some { 0 < place }
     requires small { place < 2 ^ (size + 1) }
-    ensures { (word : List ℕ) → IsWord word → place_of word ≡ place → length word ≡ size → IfOk result (λ done. keys.new.items ≡ keys.old.items ++ keys_from marks.now (12 - size) word) }
+    ensures { (word : List ℕ) → IsWord word → place_of word ≡ place → length word ≡ size → IfOk result (λ done. keys.new.items ≡ keys.old.items ++ keys_from marks.now (MOST_WORD - size) word) }
 {
     list_key(marks, place, false, keys)?;
     list_key(marks, place, true, keys)?;
-    if size == 12 {
+    if size == MOST_WORD {
         return Ok(());
     }
     if is_marked(marks, STARTS + place) {

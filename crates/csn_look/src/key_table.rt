@@ -9,7 +9,7 @@ ghost use Rattle.csn_look.specs.KeyLists.{IsKeyList};
 ghost use Rattle.csn_look.specs.KeyProducts.{AfterKeys};
 ghost use Rattle.csn_look.specs.KeySteps.{Extends};
 
-use crate::key_marks::{STARTS, add_key, begins_with_key, is_key, key_mark};
+use crate::key_marks::{MARK_WORDS, STARTS, add_key, begins_with_key, is_key, key_mark};
 use crate::key_products::{add_after_size, add_words, words_of};
 use crate::key_set::{KeySet, list_keys};
 use crate::marks::{is_marked, join_marks};
@@ -64,7 +64,7 @@ impl KeyTable {
         ensures { IfOk result (λ table. KeysAre table (λ word whole. ⊥)) }
     {
         Ok(KeyTable {
-            marks: vec![in alloc; 0; 384]?,
+            marks: vec![in alloc; 0; MARK_WORDS]?,
         })
     }
 
@@ -147,12 +147,12 @@ impl KeyTable {
 
 /// The keys of a first part and of what comes after it.
 fn add_after(marks: &mut [u64], first: &[u64], tables: &[KeyTable], rests: &[usize; 8])
-    requires size { length marks.old ≡ 384 }
-    requires first_size { length first.now ≡ 384 }
+    requires size { length marks.old ≡ MARK_WORDS }
+    requires first_size { length first.now ≡ MARK_WORDS }
     requires known { (size : ℕ) → size < 8 → slice_index rests.now size < length tables.now }
     ensures { Extends marks.old marks.new (AfterKeys first.now (λ size. slice_index_or tables.now (slice_index rests.now (size % 8)) [])) }
 {
-    for size in 0..13 {
+    for size in 0..MOST_WORD + 1 {
         let rest = &tables[rests[size % 8]];
         add_after_size(marks, first, &rest.marks, size);
     }

@@ -3,6 +3,8 @@
 ghost use Rattle.std.specs.Prelude.{◌≡◌, ℕ, ◌*◌, ◌<◌, ◌≤◌, true, false, ◌||◌, nat_eq, length};
 ghost use Rattle.csn_look.specs.KeyMarks.{is_marked};
 
+use crate::key_marks::{MARK_WORDS, MARKS};
+
 /// Whether the mark is set.
 pub(crate) fn is_marked(marks: &[u64], at: usize) -> bool
     requires { at < 64 * length marks.now }
@@ -13,9 +15,9 @@ pub(crate) fn is_marked(marks: &[u64], at: usize) -> bool
 
 /// The first place from this one on, and before an end, whose mark is set; and the end where there is none.
 pub(crate) fn next_marked(marks: &[u64], from: usize, end: usize) -> usize
-    requires size { length marks.now ≡ 384 }
+    requires size { length marks.now ≡ MARK_WORDS }
     requires order { from ≤ end }
-    requires within { end ≤ 24576 }
+    requires within { end ≤ MARKS }
     ensures low { from ≤ result }
     ensures high { result ≤ end }
     ensures none { (at : ℕ) → from ≤ at → at < result → is_marked marks.now at ≡ false }

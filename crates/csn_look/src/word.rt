@@ -19,13 +19,14 @@ pub struct Word {
 impl Model for Word {
     ghost use Rattle.std.specs.Prelude.{List, ℕ, ◌<◌};
     ghost use Rattle.std.proofs.Common.{ap};
+    ghost use Rattle.csn_look.specs.declared.word.TheConstants.{PLACES};
     ghost use Rattle.csn_look.specs.WordV.{word_of, write_on, word_of-written};
 
     ghost Value = { List ℕ };
 
     ghost view = { λ w. word_of w.place };
 
-    ghost invariant = { λ w. (0 < w.place) × (w.place < 8192) };
+    ghost invariant = { λ w. (0 < w.place) × (w.place < PLACES) };
 
     ghost inverse = { λ bits. record { place = write_on 1 bits } };
 

@@ -11,7 +11,7 @@ loop-octet-preserved c = λ d.
     let run = c.args.run.now in
     let octet = c.loop-octet.octet in
     let word = c.literal_word.result in
-    let whole : Bool = nat_le c.len-whole.result 12 in
+    let whole : Bool = nat_le c.len.result 12 in
     let new = c.keep_key.new.self in
     let at = c.in_ok-row.field-0 in
     let keys = NodeKeys d 12 (Lits run) in
@@ -19,7 +19,7 @@ loop-octet-preserved c = λ d.
     row_next c.args.tables.now c.loop-octet.tables new c.loop-octet.row octet at keys c.loop-octet-test.true (c.loop-octet.invariant d)
     (record {
       more = c.in_ok-row.ensures.more;
-      table = has_leaf new at P (keys octet) (λ x mark is. lits_keys d run octet c.len-whole.result word whole c.literal_word.ensures c.len-whole.ensures.len refl x mark) c.in_ok-row.ensures.kept;
+      table = has_leaf new at P (keys octet) (λ x mark is. lits_keys d run octet c.len.result word whole c.literal_word.ensures c.len.ensures.len refl x mark) c.in_ok-row.ensures.kept;
     })
 
 pub returns : goal.returns

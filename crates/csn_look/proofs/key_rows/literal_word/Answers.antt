@@ -11,4 +11,4 @@ loop-at-preserved c = (
 pub returns : goal.returns
 returns c =
     c.loop-at.invariant.0
-    ∙ spelled_all c.args.run.now c.args.octet c.loop-at.at c.if-len-lt12.size c.loop-at.invariant.1 c.loop-at.auto.at-end c.loop-at-test.false
+    ∙ spelled_all c.args.run.now c.args.octet c.loop-at.at c.if-len-most.size c.loop-at.invariant.1 c.loop-at.auto.at-end c.loop-at-test.false
