@@ -2,13 +2,10 @@
 use Rattle.std.proofs.Common.{◌≡◌, ℕ, zero, suc, ◌+◌, ◌*◌, List, [], ◌∷◌, inl, inr, refl, ap, subst, arith, Some, None}
 use Rattle.std.specs.Prelude.{replicate, IsSome}
 use Rattle.std.proofs.lemmas.List.{length-replicate}
-use Rattle.csn_bits.specs.Octets.{IsBits}
 use Rattle.csn_desc.specs.declared.reading.Reading.{Reading}
-use Rattle.csn_desc.specs.declared.reading.Reading.TheVariants.{Received, Sent}
-use Rattle.csn_desc.specs.declared.symbol.Symbol.{Symbol}
 use Rattle.csn_desc.specs.declared.symbol.Symbol.TheVariants.{Zero, Low}
 use Rattle.csn_desc.specs.TreeV.{empty, bits, row, none}
-use Rattle.csn_desc.specs.Spelled.{spelled, IsSpare}
+use Rattle.csn_desc.specs.Spelled.{spelled}
 use Rattle.csn_desc.proofs.BitFacts.{spelled_is_spare}
 use Rattle.csn_grammar.specs.declared.exponent.Exponent.{Exponent}
 use Rattle.csn_grammar.specs.declared.exponent.Exponent.TheVariants.{Any, Number, Linear}

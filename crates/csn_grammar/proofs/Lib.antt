@@ -21,6 +21,7 @@ pub mod SoundRules
 pub mod Alive
 pub mod Reading
 pub mod OfTexts
+pub mod Places
 pub mod OnePlace
 pub mod TextDecided
 pub mod Answering

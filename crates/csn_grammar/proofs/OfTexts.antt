@@ -1,6 +1,6 @@
 -- The rules of a text are shaped as they have to be, and their labels are labels: shown along the tokens that
 -- they are read from, each spelled as its kind.
-use Rattle.std.proofs.Common.{◌≡◌, ℕ, suc, ◌≤◌, Bool, false, List, [], ◌∷◌, length, sym, ap, subst, arith}
+use Rattle.std.proofs.Common.{◌≡◌, ℕ, ◌≤◌, List, [], ◌∷◌, length, sym, ap, subst, arith}
 use Rattle.csn_lexer.specs.declared.token.Token.{Token}
 use Rattle.csn_lexer.specs.Word.{IsWord}
 use Rattle.csn_lexer.specs.Spelling.{IsSpelled}
@@ -11,7 +11,7 @@ use Rattle.csn_desc.specs.Label.{IsLabel}
 use Rattle.csn_desc.proofs.LabelFacts.{word_is_label, label_behind_word}
 use Rattle.csn_grammar.specs.declared.exponent.Exponent.{Exponent}
 use Rattle.csn_grammar.specs.declared.rules.Rule.{Rule}
-use Rattle.csn_grammar.specs.ExprV.{ExprV, expr, lits, null, bit, octet, name, labelled, group, seq, choice, power, cut, both, sends, ExprsV, item, BranchesV, branch, item_list, branch_list}
+use Rattle.csn_grammar.specs.ExprV.{ExprV, expr, lits, null, bit, octet, name, labelled, group, seq, choice, power, cut, both, sends, ExprsV, BranchesV, item_list, branch_list}
 use Rattle.csn_grammar.specs.RulesV.{RulesV}
 use Rattle.csn_grammar.specs.Shaped.{IsShaped, ItemsShaped, BranchesShaped, AreShaped}
 use Rattle.csn_grammar.specs.Labelled.{IsLabelled, ItemsLabelled, BranchesLabelled, AreLabelled}

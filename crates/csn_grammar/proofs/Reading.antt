@@ -1,14 +1,13 @@
 -- What a run of the reader over the tokens of a text shows of it.
-use Rattle.std.proofs.Common.{◌≡◌, ℕ, List, [], ◌∷◌, ◌++◌, length, Option, Some, None, Result, Ok, Err, refl, sym, ap, ◌∙◌, subst}
+use Rattle.std.proofs.Common.{◌≡◌, ℕ, List, [], ◌∷◌, ◌++◌, length, Option, Some, None, Ok, Err, refl, sym, ap, ◌∙◌, subst}
 use Rattle.std.specs.Option.{option_and_then}
 use Rattle.std.proofs.lemmas.List.{map-append}
 use Rattle.csn_lexer.specs.declared.token.Token.{Token}
 use Rattle.csn_lexer.specs.declared.token.LexFault.{LexFault}
-use Rattle.csn_lexer.specs.Tokens.{IsNext, AreTokens, nothing, token as one, OneIsNext}
+use Rattle.csn_lexer.specs.Tokens.{IsNext, AreTokens, nothing, token as one}
 use Rattle.csn_grammar.specs.declared.reader.state.Reader.{Reader}
 use Rattle.csn_grammar.specs.RulesV.{RulesV}
 use Rattle.csn_grammar.specs.TokenV.{TokenV, token_in, tokens_in}
-use Rattle.csn_grammar.specs.Grammar.{AreRules}
 use Rattle.csn_grammar.specs.Place.{HasRules, BeginRules, IsSyntaxPlace, refused_token, refused_byte, refused_end}
 use Rattle.csn_grammar.proofs.Run.{token_step, run, ends, parse, start}
 use Rattle.csn_grammar.proofs.CompleteRules.{complete}

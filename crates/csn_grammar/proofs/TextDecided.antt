@@ -1,5 +1,5 @@
 -- Each text has rules, or a place where it is wrong.
-use Rattle.std.proofs.Common.{◌≡◌, ℕ, zero, suc, ◌+◌, ◌-◌, ◌<◌, ◌≤◌, ◌⊎◌, inl, inr, List, length, Option, Some, None, Result, Ok, Err, refl, subst, arith}
+use Rattle.std.proofs.Common.{◌≡◌, ℕ, zero, suc, ◌-◌, ◌<◌, ◌≤◌, inl, inr, List, length, Option, Some, None, Result, Ok, Err, refl, arith}
 use Rattle.csn_lexer.specs.declared.token.Token.{Token}
 use Rattle.csn_lexer.specs.declared.token.LexFault.{LexFault}
 use Rattle.csn_lexer.specs.Gap.{IsGap}
@@ -8,7 +8,7 @@ use Rattle.csn_lexer.specs.Tokens.{IsNext, SomethingIsNext}
 use Rattle.csn_grammar.specs.declared.reader.state.Reader.{Reader}
 use Rattle.csn_grammar.specs.RulesV.{RulesV}
 use Rattle.csn_grammar.specs.TokenV.{token_in}
-use Rattle.csn_grammar.specs.Place.{HasRules, IsSyntaxPlace, Decided}
+use Rattle.csn_grammar.specs.Place.{Decided}
 use Rattle.csn_grammar.proofs.Run.{token_step, ends, start}
 use Rattle.csn_grammar.proofs.Reading.{IsRead, read_none, read_more, token_refused, byte_refused, end_refused, has_rules}
 

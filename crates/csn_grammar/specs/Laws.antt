@@ -1,5 +1,5 @@
 -- Laws over the definitions.
-use Rattle.std.specs.Prelude.{◌≡◌, ℕ, List, [], ◌++◌, Some}
+use Rattle.std.specs.Prelude.{◌≡◌, ℕ, ◌⊎◌, List, [], ◌++◌, Some}
 use Rattle.csn_bits.specs.Octets.{IsBits}
 use Rattle.csn_desc.specs.declared.reading.Reading.{Reading}
 use Rattle.csn_desc.specs.TreeV.{TreeV}
@@ -95,6 +95,13 @@ abbrev pub EmptyBlocksAreFollowed : Type 0
 EmptyBlocksAreFollowed =
     (rules : RulesV) (r : Reading) (n : List ℕ) (rule : Rule)
     → rule_of rules n ≡ Some rule → RuleFormed rules r [] rule → Followed rules n r []
+
+-- a block has a place by a name that follows the empty block, where it is decided what the name follows
+abbrev pub BlocksHaveAPlace : Type 0
+BlocksHaveAPlace =
+    (rules : RulesV) (r : Reading) (n b : List ℕ) → Followed rules n r []
+    → ((front : List ℕ) → Followed rules n r front ⊎ (¬ Followed rules n r front))
+    → (place : ℕ) × IsPlace rules n r b place
 
 abbrev pub BlocksHaveOnePlace : Type 0
 BlocksHaveOnePlace =

@@ -1,6 +1,6 @@
 //! Laws over the definitions, each the contract of a function that does nothing.
 
-ghost use Rattle.csn_grammar.specs.Laws.{PrefixesAreFollowed, BlockPrefixesAreFollowed, MeaningsAreFollowed, StringsAreFollowed, MeaningsAreBits, FollowedAreBits, VoidMeansNothing, VoidFollowsNothing, AlternativesAreKeptOnce, EmptyBitsAreFollowed, EmptyBlocksAreFollowed, BlocksHaveOnePlace, TextsHaveOneListOfRules, TextsAreDecided, RulesHaveNoFault, TextsHaveOnePlace, RulesOfTextsAreShaped, LabelsOfTextsAreLabels};
+ghost use Rattle.csn_grammar.specs.Laws.{PrefixesAreFollowed, BlockPrefixesAreFollowed, MeaningsAreFollowed, StringsAreFollowed, MeaningsAreBits, FollowedAreBits, VoidMeansNothing, VoidFollowsNothing, AlternativesAreKeptOnce, EmptyBitsAreFollowed, EmptyBlocksAreFollowed, BlocksHaveAPlace, BlocksHaveOnePlace, TextsHaveOneListOfRules, TextsAreDecided, RulesHaveNoFault, TextsHaveOnePlace, RulesOfTextsAreShaped, LabelsOfTextsAreLabels};
 
 /// The first few of bits that an expression follows are followed by it, and so are those of a block.
 pub fn prefixes_are_followed()
@@ -38,9 +38,10 @@ pub fn empty_bits_are_followed()
     ensures block { EmptyBlocksAreFollowed }
 {}
 
-/// A block has at most one place up to which it can be followed.
+/// A block has one place up to which it can be followed, where it is decided what can be.
 pub fn blocks_have_one_place()
-    ensures { BlocksHaveOnePlace }
+    ensures some { BlocksHaveAPlace }
+    ensures one { BlocksHaveOnePlace }
 {}
 
 /// A text has at most one list of rules.
