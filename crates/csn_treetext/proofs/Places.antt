@@ -4,7 +4,7 @@ use Rattle.std.proofs.Math.Seq.{take-suc}
 use Rattle.std.proofs.lemmas.Bool.{cases_lt, cases_Bool}
 use Rattle.std.proofs.lemmas.List.{take_all}
 use Rattle.std.specs.Fmt.{decimal}
-use Rattle.csn_treetext.specs.declared.bounds.TheConstants.{MOST_TEXT}
+use Rattle.csn_bits.specs.declared.feed.TheConstants.{MOST_LINE}
 use Rattle.csn_bits.specs.Numbers.{number_of}
 use Rattle.csn_desc.specs.TreeV.{TreeV, empty, bits, row, alt, named, trees_of}
 use Rattle.csn_treetext.specs.declared.version.Version.{Version}
@@ -50,7 +50,7 @@ spaced_long : (version : Version) (ts : List TreeV) → 2 * length ts ≤ length
 spaced_long version [] = omega arith
 spaced_long version (t ∷ ts) = omega (arith, spaced_long version ts, text_some version t, length-append (text_of version t) (32 ∷ spaced version ts))
 
-room_before : (version : Version) (stack : List Frame) → length (before version stack) ≤ MOST_TEXT → HasRoom stack
+room_before : (version : Version) (stack : List Frame) → length (before version stack) ≤ MOST_LINE → HasRoom stack
 room_before version [] few = tt
 room_before version (Row ts ∷ stack) few =
     let parts = length-append (before version stack) (91 ∷ spaced version ts) in
@@ -59,10 +59,10 @@ room_before version (Row ts ∷ stack) few =
 room_before version (Alt j ∷ stack) few = room_before version stack (omega (arith, length-append (before version stack) (35 ∷ (decimal j ++ 58 ∷ []))))
 room_before version (Named l ∷ stack) few = room_before version stack (omega (arith, length-append (before version stack) (60 ∷ (l ++ 62 ∷ 61 ∷ []))))
 
-room_front : (version : Version) (stack : List Frame) (x text : List ℕ) → before version stack ++ x ≡ text → length text ≤ MOST_TEXT → HasRoom stack
+room_front : (version : Version) (stack : List Frame) (x text : List ℕ) → before version stack ++ x ≡ text → length text ≤ MOST_LINE → HasRoom stack
 room_front version stack x text is few = room_before version stack (omega (arith, length-append (before version stack) x, ap length is))
 
-room_behind : (version : Version) (stack : List Frame) (text : List ℕ) → HasTree stack → behind version stack ≡ text → length text ≤ MOST_TEXT → HasRoom stack
+room_behind : (version : Version) (stack : List Frame) (text : List ℕ) → HasTree stack → behind version stack ≡ text → length text ≤ MOST_LINE → HasRoom stack
 room_behind version [] text has is few = absurd has
 room_behind version (Alt j ∷ stack) text has is few = absurd has
 room_behind version (Named l ∷ stack) text has is few = absurd has
@@ -74,7 +74,7 @@ room_behind version (Row (t ∷ ts) ∷ stack) text has is few =
     let space = ap length (spaced-row version t ts) ∙ length-append (row_text version (trees_of (t ∷ ts))) (32 ∷ []) in
     (omega arith, room_before version stack (omega arith))
 
-pub room_in : (version : Version) (mode : Mode) (stack : List Frame) (text : List ℕ) → StandsFor version text (state mode stack) → length text ≤ MOST_TEXT → HasRoom stack
+pub room_in : (version : Version) (mode : Mode) (stack : List Frame) (text : List ℕ) → StandsFor version text (state mode stack) → length text ≤ MOST_LINE → HasRoom stack
 room_in version Start stack text is few = room_front version stack [] text (append-nil (before version stack) ∙ is.bytes) few
 room_in version Opened stack text is few = room_front version stack _ text is.bytes few
 room_in version Behind stack text is few = room_behind version stack text is.placed is.bytes few

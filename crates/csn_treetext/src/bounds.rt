@@ -16,9 +16,6 @@ pub const MOST_SHORT: u32 = 64;
 /// The most octets of a leaf.
 pub const MOST_OCTETS: usize = 65_536;
 
-/// The most bytes of a text that is read.
-pub const MOST_TEXT: u32 = 16_777_216;
-
 /// Whether a tree has a text: it has at most 64 levels, and alternatives below 16,384. It looks no deeper
 /// than that into a tree that has more levels.
 pub fn fits(tree: &Tree) -> bool

@@ -16,7 +16,7 @@ mod steps;
 mod version;
 mod write;
 
-pub use bounds::{GREATEST_ALTERNATIVE, MOST_LEVELS, MOST_TEXT, fits};
+pub use bounds::{GREATEST_ALTERNATIVE, MOST_LEVELS, fits};
 pub use fault::TextFault;
 pub use read::{read_old_tree, read_tree};
 pub use version::Version;

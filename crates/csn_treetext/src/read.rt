@@ -1,5 +1,5 @@
 ghost use Rattle.std.specs.Prelude.{◌≤◌, length, IfOk, IfErr};
-ghost use Rattle.csn_treetext.specs.declared.bounds.TheConstants.{MOST_TEXT};
+ghost use Rattle.csn_bits.specs.declared.feed.TheConstants.{MOST_LINE};
 ghost use Rattle.csn_treetext.specs.declared.version.Version.TheVariants.{First, Second};
 ghost use Rattle.csn_treetext.specs.Place.{IsTextOf, TreeText, OldText, IsFaultOf};
 
@@ -13,7 +13,7 @@ use std::alloc::Global;
 
 /// The tree of a text in the second version.
 pub fn read_tree(alloc: Global, text: &[u8]) -> Result<Tree, TextFault>
-    requires { length text.now ≤ MOST_TEXT }
+    requires { length text.now ≤ MOST_LINE }
     ensures ok { IfOk result (λ tree. TreeText tree text.now) }
     ensures refused { IfErr result (λ fault. IsFaultOf Second text.now fault) }
 {
@@ -22,7 +22,7 @@ pub fn read_tree(alloc: Global, text: &[u8]) -> Result<Tree, TextFault>
 
 /// The tree of a text in the first version.
 pub fn read_old_tree(alloc: Global, text: &[u8]) -> Result<Tree, TextFault>
-    requires { length text.now ≤ MOST_TEXT }
+    requires { length text.now ≤ MOST_LINE }
     ensures ok { IfOk result (λ tree. OldText tree text.now) }
     ensures refused { IfErr result (λ fault. IsFaultOf First text.now fault) }
 {
@@ -30,7 +30,7 @@ pub fn read_old_tree(alloc: Global, text: &[u8]) -> Result<Tree, TextFault>
 }
 
 fn read_text(alloc: Global, version: Version, text: &[u8]) -> Result<Tree, TextFault>
-    requires { length text.now ≤ MOST_TEXT }
+    requires { length text.now ≤ MOST_LINE }
     ensures ok { IfOk result (λ tree. IsTextOf version tree text.now) }
     ensures refused { IfErr result (λ fault. IsFaultOf version text.now fault) }
 {
