@@ -11,7 +11,7 @@ use crate::fault::ResolveFault;
 use crate::steps::refusal;
 use crate::why::Why;
 use csn_bits::NoMemory;
-use csn_desc::{Desc, DescFault, Node, Reading};
+use csn_desc::{Desc, DescFault, MOST_NODES, Node, Reading};
 use std::alloc::Global;
 use std::marker::Model;
 
@@ -25,6 +25,7 @@ pub(crate) struct Made {
 
 impl Model for Made {
     ghost use Rattle.std.specs.Prelude.{List, ◌≡◌, ◌≤◌, length};
+    ghost use Rattle.csn_desc.specs.declared.desc.TheConstants.{MOST_NODES};
     ghost use Rattle.csn_resolve.specs.Gives.{Placed};
     ghost use Rattle.csn_resolve.specs.Made.{paired};
 
@@ -32,7 +33,7 @@ impl Model for Made {
 
     ghost view = { λ m. paired m.nodes.items m.places.items };
 
-    ghost invariant = { λ m. (length m.nodes.items ≡ length m.places.items) × (length m.nodes.items ≤ 16384) };
+    ghost invariant = { λ m. (length m.nodes.items ≡ length m.places.items) × (length m.nodes.items ≤ MOST_NODES) };
 }
 
 impl Made {
@@ -49,14 +50,14 @@ impl Made {
     /// How many nodes there are, which is the number of the next one.
     pub(crate) fn len(&self) -> u16
         ensures len { result ≡ length self.now }
-        ensures bound { result ≤ 16384 }
+        ensures bound { result ≤ MOST_NODES }
     {
         self.nodes.len() as u16
     }
 
     /// Adds a node at the end, that the part at this byte gives.
     pub(crate) fn push(&mut self, node: Node, place: u32) -> Result<(), NoMemory>
-        requires { length self.old < 16384 }
+        requires { length self.old < MOST_NODES }
         ensures { OnOk result (self.new ≡ self.old ++ placed node place ∷ []) }
     {
         self.places.push(place)?;

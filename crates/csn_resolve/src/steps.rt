@@ -10,9 +10,7 @@ use crate::begun::{Around, Begun, Turn};
 use crate::fault::ResolveFault;
 use crate::tail::End;
 use crate::why::Why;
-
-/// The most nodes that a description may have.
-const MOST_NODES: u16 = 16384;
+use csn_desc::MOST_NODES;
 
 /// The most nodes, names and braces inside one another.
 const MOST_DEPTH: u8 = 64;
