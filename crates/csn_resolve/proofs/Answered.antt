@@ -17,13 +17,13 @@ use Rattle.csn_resolve.specs.Why.{Refusal}
 use Rattle.csn_grammar.specs.Shaped.{AreShaped}
 use Rattle.csn_resolve.specs.Gives.{Placed}
 use Rattle.csn_resolve.specs.Resolved.{NameGives, nodes_of, AreRefusals, IsRefused, refused_on_walk, refused_at_last, IsResolved}
-use Rattle.csn_resolve.proofs.Parts.{get_within}
-use Rattle.csn_resolve.proofs.Total.{has_refusals}
-use Rattle.csn_resolve.proofs.Given.{nodes_given}
-use Rattle.csn_resolve.proofs.FewNodes.{few_nodes}
-use Rattle.csn_resolve.proofs.LaidFacts.{laid_nodes}
-use Rattle.csn_resolve.proofs.MeaningFacts.{followed_kept}
-use Rattle.csn_resolve.proofs.Crowding.{first_overfull}
+use Rattle.csn_resolve.proofs.Basics.Parts.{get_within}
+use Rattle.csn_resolve.proofs.Walking.Total.{has_refusals}
+use Rattle.csn_resolve.proofs.Giving.Given.{nodes_given}
+use Rattle.csn_resolve.proofs.Giving.FewNodes.{few_nodes}
+use Rattle.csn_resolve.proofs.Laying.LaidFacts.{laid_nodes}
+use Rattle.csn_resolve.proofs.Meaning.MeaningFacts.{followed_kept}
+use Rattle.csn_resolve.proofs.Laying.Crowding.{first_overfull}
 
 module _ (rules : RulesV) (r : Reading) (n : List ℕ) (shaped : AreShaped rules) where
   abbrev pub Answered : Type 0

@@ -21,7 +21,7 @@ use Rattle.csn_resolve.specs.Walk as walk
 use Rattle.csn_desc.specs.Overfull.{IsOverfull}
 use Rattle.csn_resolve.specs.Resolved.{asked_rule}
 use Rattle.csn_resolve.specs.Examples.{X, field, fields_rule, fields_rules, FieldsAreResolved, refused_rule, refused_rules, RefusalsHaveAnOrder, dropping_rules, AlternativesAreDropped, repeated_rules, CountsStandOnTheNearest, tail_rules, TailsAreRepetitions}
-use Rattle.csn_resolve.proofs.Full.{rule_full}
+use Rattle.csn_resolve.proofs.Emptiness.Full.{rule_full}
 
 -- a labelled field gives two nodes
 field_gives :

@@ -20,10 +20,10 @@ use Rattle.csn_resolve.specs.Made.{RuleQuiet, RuleGivesFew, AddsRule, IsOverfull
 use Rattle.csn_resolve.specs.Steps.{Step, refused, Quiet}
 use Rattle.csn_resolve.specs.Walk.{outermost, RuleWalk}
 use Rattle.csn_resolve.specs.Resolved.{ResolveSteps, asked_unknown, asked_rule, twice_steps, NameGives, nodes_of, AreRefusals, IsRefused, refused_on_walk, refused_at_last, IsResolved}
-use Rattle.csn_resolve.proofs.Given.{nodes_given}
-use Rattle.csn_resolve.proofs.LaidFacts.{laid_nodes}
-use Rattle.csn_resolve.proofs.FewNodes.{few_nodes}
-use Rattle.csn_resolve.proofs.Quiet.{quiet_from, first_of, rest_of}
+use Rattle.csn_resolve.proofs.Giving.Given.{nodes_given}
+use Rattle.csn_resolve.proofs.Laying.LaidFacts.{laid_nodes}
+use Rattle.csn_resolve.proofs.Giving.FewNodes.{few_nodes}
+use Rattle.csn_resolve.proofs.Walking.Quiet.{quiet_from, first_of, rest_of}
 
 -- ---- what is refused last
 

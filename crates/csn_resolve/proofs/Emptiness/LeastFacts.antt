@@ -16,11 +16,11 @@ use Rattle.csn_resolve.specs.declared.marks.Test.{Test}
 use Rattle.csn_resolve.specs.declared.marks.Test.TheVariants.{Void, Narrow}
 use Rattle.csn_resolve.specs.Numbers.{number_in}
 use Rattle.csn_resolve.specs.Marked.{Passes, passes, mark_at, is_set, marked, AreSound, AreClosed, unmarked}
-use Rattle.csn_resolve.proofs.NumberFacts.{rule_found, rule_number}
-use Rattle.csn_resolve.proofs.VoidDecided as v
-use Rattle.csn_resolve.proofs.NarrowDecided as w
-use Rattle.csn_resolve.proofs.Levels.{NamesAre, side_taken}
-use Rattle.csn_resolve.proofs.Parts.{get_within}
+use Rattle.csn_resolve.proofs.Naming.NumberFacts.{rule_found, rule_number}
+use Rattle.csn_resolve.proofs.Emptiness.VoidDecided as v
+use Rattle.csn_resolve.proofs.Emptiness.NarrowDecided as w
+use Rattle.csn_resolve.proofs.Emptiness.Levels.{NamesAre, side_taken}
+use Rattle.csn_resolve.proofs.Basics.Parts.{get_within}
 
 module _ (rules : RulesV) (marks : List Bool) where
   -- the rule of a name that is marked

@@ -3,7 +3,7 @@ use Rattle.std.proofs.Common.{◌≡◌, ℕ, ◌+◌, Bool, true, false, ◌||�
 use Rattle.csn_desc.specs.declared.reading.Reading.{Reading}
 use Rattle.csn_grammar.specs.ExprV.{ExprV, BranchV, branch, exprs_of, branches_of}
 use Rattle.csn_resolve.specs.Tests.{is_void, some_void, all_void}
-use Rattle.csn_resolve.proofs.Parts.{drop_at}
+use Rattle.csn_resolve.proofs.Basics.Parts.{drop_at}
 
 module _ (r : Reading) (h : List ℕ → Bool) where
   pub some-next :

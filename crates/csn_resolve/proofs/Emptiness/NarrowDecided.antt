@@ -12,8 +12,8 @@ use Rattle.csn_grammar.specs.Names.{rule_of}
 use Rattle.csn_grammar.specs.Forms.{WidthV, width_of}
 use Rattle.csn_resolve.specs.Counts.{Narrow, narrow_field, narrow_name, narrow_group, narrow_received, narrow_sent}
 use Rattle.csn_resolve.specs.Tests.{few_bits, narrow_width, is_narrow, form_narrow}
-use Rattle.csn_resolve.proofs.Bools.{or_wider}
-use Rattle.csn_resolve.proofs.Levels.{level, decided, by_reading, side_taken, NamesAre, level_names, rule_test}
+use Rattle.csn_resolve.proofs.Basics.Bools.{or_wider}
+use Rattle.csn_resolve.proofs.Emptiness.Levels.{level, decided, by_reading, side_taken, NamesAre, level_names, rule_test}
 
 -- ---- with more names, no less is narrow
 

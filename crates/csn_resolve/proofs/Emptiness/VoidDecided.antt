@@ -11,8 +11,8 @@ use Rattle.csn_grammar.specs.Names.{same_name, rule_of}
 use Rattle.csn_grammar.specs.Forms.{WidthV, WindowV, width_of, window_of}
 use Rattle.csn_grammar.specs.Void.{Void, SomeVoid, AllVoid, void_none, void_name, void_group, void_labelled, void_window, void_seq, void_choice, void_received, void_sent, void_here, void_later, all_end, all_next, all_error}
 use Rattle.csn_resolve.specs.Tests.{window_part, is_void, form_void, some_void, all_void}
-use Rattle.csn_resolve.proofs.Bools.{or_wider}
-use Rattle.csn_resolve.proofs.Levels.{level, decided, by_reading, side_taken, NamesAre, level_names, rule_test}
+use Rattle.csn_resolve.proofs.Basics.Bools.{or_wider}
+use Rattle.csn_resolve.proofs.Emptiness.Levels.{level, decided, by_reading, side_taken, NamesAre, level_names, rule_test}
 
 part_wider :
     (w v : Option WidthV) (a b c d : Bool) → (a ≡ true → c ≡ true) → (b ≡ true → d ≡ true)

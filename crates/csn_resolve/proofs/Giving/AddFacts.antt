@@ -23,8 +23,8 @@ use Rattle.csn_grammar.specs.declared.built_in.BuiltIn.TheVariants.{NoString}
 use Rattle.csn_resolve.specs.Seen.{Frame, Seen}
 use Rattle.csn_resolve.specs.Gives.{Placed, placed, count_at, Gives, ItemsGive, EachGives, RuleGives, gives_lits, gives_null, gives_bit, gives_octet, gives_field, gives_rest, gives_spare_bit, gives_spare_low, gives_padding, gives_seq, gives_choice, gives_only, gives_times, gives_many, gives_cut, gives_window, gives_labelled, gives_name, gives_group, gives_received, gives_sent, rule_plain, rule_tail}
 use Rattle.csn_resolve.specs.Made.{only, GivesFew, ItemsGiveFew, KeptGiveFew, RuleGivesFew, Adds, AddsItems, AddsKept, AddsRule}
-use Rattle.csn_resolve.proofs.Bools.{no_both}
-use Rattle.csn_resolve.proofs.Options.{no_none, same_some}
+use Rattle.csn_resolve.proofs.Basics.Bools.{no_both}
+use Rattle.csn_resolve.proofs.Basics.Options.{no_none, same_some}
 
 pub on-ok : {A B E : Type 0} (result : Result (Unit {0}) E) → (A → B) → OnOk result A → OnOk result B
 on-ok (Ok x) f h = f h

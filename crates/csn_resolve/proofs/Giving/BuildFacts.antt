@@ -13,10 +13,10 @@ use Rattle.csn_grammar.specs.Void.{Void, Kept, kept_end, kept_next, kept_void, k
 use Rattle.csn_resolve.specs.Seen.{Frame, Seen, with_labelled}
 use Rattle.csn_resolve.specs.Gives.{Placed, placed, start_of, ItemsGive, EachGives, RuleGives, items_end, items_next, each_end, each_next, rule_plain, rule_tail}
 use Rattle.csn_resolve.specs.Made.{IsKept, QuietAt, BranchesQuiet, TurnGives, GivesFew, ItemsGiveFew, KeptGiveFew, TailGivesFew, TurnGivesFew, Adds, AddsItems, AddsKept, AddsTail, AddsTurn}
-use Rattle.csn_resolve.proofs.Once.{same_tail}
-use Rattle.csn_resolve.proofs.AddFacts.{some-given, one-more, items-at}
-use Rattle.csn_resolve.proofs.Bools.{no_both}
-use Rattle.csn_resolve.proofs.Options.{no_none}
+use Rattle.csn_resolve.proofs.Giving.Once.{same_tail}
+use Rattle.csn_resolve.proofs.Giving.AddFacts.{some-given, one-more, items-at}
+use Rattle.csn_resolve.proofs.Basics.Bools.{no_both}
+use Rattle.csn_resolve.proofs.Basics.Options.{no_none}
 
 longer : (xs ys zs : List Placed) → xs ≡ ys ++ zs → length xs ≡ length ys + length zs
 longer xs ys zs p = ap length p ∙ length-append ys zs

@@ -19,10 +19,10 @@ use Rattle.csn_resolve.specs.Walk.{Around, inside, in_turn, turn_begun, entering
 use Rattle.csn_resolve.specs.Walk as walk
 use Rattle.csn_resolve.specs.Gives.{Placed, start_of, Gives, ItemsGive, EachGives, RuleGives, gives_lits, gives_null, gives_bit, gives_octet, gives_field, gives_rest, gives_spare_bit, gives_spare_low, gives_padding, gives_seq, gives_choice, gives_only, gives_times, gives_many, gives_cut, gives_window, gives_labelled, gives_name, gives_group, gives_received, gives_sent, items_end, items_next, each_end, each_next, rule_plain, rule_tail}
 use Rattle.csn_resolve.specs.Resolved.{ResolveSteps, asked_unknown, asked_rule, NameGives, AreRefusals, twice_steps}
-use Rattle.csn_resolve.proofs.Once.{same_tail}
-use Rattle.csn_resolve.proofs.Windows.{only_is, left_window, right_window}
-use Rattle.csn_resolve.proofs.Quiet.{Quiet, first_of, rest_of, quiet_from, rest_empty, tail_quiet}
-use Rattle.csn_resolve.proofs.Bools.{no_both}
+use Rattle.csn_resolve.proofs.Giving.Once.{same_tail}
+use Rattle.csn_resolve.proofs.Basics.Windows.{only_is, left_window, right_window}
+use Rattle.csn_resolve.proofs.Walking.Quiet.{Quiet, first_of, rest_of, quiet_from, rest_empty, tail_quiet}
+use Rattle.csn_resolve.proofs.Basics.Bools.{no_both}
 
 -- ---- how many nodes are begun
 

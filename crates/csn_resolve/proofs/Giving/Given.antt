@@ -20,9 +20,9 @@ use Rattle.csn_resolve.specs.Steps.{Step, refused}
 use Rattle.csn_resolve.specs.Walk.{Around, is_among, inside, in_turn, turn_begun, behind, node_at, entering, Walk, ItemsWalk, ComponentsWalk, BranchesWalk, RuleWalk, walk_lits, walk_null, walk_bit, walk_octet, walk_field, walk_rest, walk_built_in, walk_undefined, walk_recursive, walk_name, walk_group, walk_labelled, walk_seq, walk_choice, walk_times, walk_many, walk_cut, walk_window, walk_window_behind, walk_no_window, walk_sends}
 use Rattle.csn_resolve.specs.Walk as walk
 use Rattle.csn_resolve.specs.Resolved.{ResolveSteps, asked_unknown, asked_rule, NameGives, AreRefusals, twice_steps}
-use Rattle.csn_resolve.proofs.Quiet.{Quiet, first_of, rest_of, quiet_from, SameFrame, SameSeen, same_with, count_given, not_refused}
-use Rattle.csn_resolve.proofs.Windows.{left_window, right_window}
-use Rattle.csn_resolve.proofs.VoidDecided.{void_decided}
+use Rattle.csn_resolve.proofs.Walking.Quiet.{Quiet, first_of, rest_of, quiet_from, SameFrame, SameSeen, same_with, count_given, not_refused}
+use Rattle.csn_resolve.proofs.Basics.Windows.{left_window, right_window}
+use Rattle.csn_resolve.proofs.Emptiness.VoidDecided.{void_decided}
 
 module _ (rules : RulesV) (r : Reading) where
   abbrev Given : ExprV → ℕ → Seen ℕ → Type 0

@@ -8,7 +8,7 @@ use Rattle.csn_grammar.specs.ExprV.{ExprV, BranchV, branches_of}
 use Rattle.csn_grammar.specs.RulesV.{RulesV}
 use Rattle.csn_grammar.specs.Void.{Kept}
 use Rattle.csn_resolve.specs.Made.{IsKept, only}
-use Rattle.csn_resolve.proofs.BuildFacts.{kept-as, kept-first, not-kept, none-left}
+use Rattle.csn_resolve.proofs.Giving.BuildFacts.{kept-as, kept-first, not-kept, none-left}
 
 -- the alternatives that were found kept, and those that are still to come
 abbrev pub before : Option (Bor ExprV) → List ExprV → List ExprV

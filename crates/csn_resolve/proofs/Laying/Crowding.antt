@@ -10,7 +10,7 @@ use Rattle.csn_desc.specs.Laid.{Laid, PartsLaid, laid, laid_end, laid_next}
 use Rattle.csn_desc.specs.Crowds.{Below, below_here, Crowded, BelowPart}
 use Rattle.csn_desc.proofs.CrowdFacts.{First, first_here, first_part, below_step, below_join, FirstPart, in_first, in_rest, sees_step, none_sees, later_sees}
 use Rattle.csn_desc.proofs.Finishing.{sees_below, below_sees}
-use Rattle.csn_resolve.proofs.Bools.{no_both}
+use Rattle.csn_resolve.proofs.Basics.Bools.{no_both}
 
 -- ---- numbers of which a fact holds: none, or a first one
 

@@ -11,8 +11,8 @@ use Rattle.csn_resolve.specs.declared.why.Why.TheVariants.{TooDeep}
 use Rattle.csn_resolve.specs.Seen.{Seen}
 use Rattle.csn_resolve.specs.Steps.{begins}
 use Rattle.csn_resolve.specs.Walk.{Around, inside, putting_in, in_turn, turn_begun, entering, node_at}
-use Rattle.csn_resolve.proofs.Quiet.{Quiet, first_of, rest_of}
-use Rattle.csn_resolve.proofs.ShownFacts.{not_refused, AreAmong, SeenShown, seen_wider}
+use Rattle.csn_resolve.proofs.Walking.Quiet.{Quiet, first_of, rest_of}
+use Rattle.csn_resolve.proofs.Laying.ShownFacts.{not_refused, AreAmong, SeenShown, seen_wider}
 
 module _ (all : List Node) (rules : RulesV) (r : Reading) where
   -- a part inside `round` nodes has no more round it on its walk, and what it sees there is shown

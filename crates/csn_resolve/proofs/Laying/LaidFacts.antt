@@ -23,15 +23,15 @@ use Rattle.csn_resolve.specs.Walk as walk
 use Rattle.csn_resolve.specs.Gives.{Placed, placed, start_of, count_at, Gives, ItemsGive, EachGives, RuleGives, gives_lits, gives_null, gives_bit, gives_octet, gives_field, gives_rest, gives_spare_bit, gives_spare_low, gives_padding, gives_seq, gives_choice, gives_only, gives_times, gives_many, gives_cut, gives_window, gives_labelled, gives_name, gives_group, gives_received, gives_sent, items_end, items_next, each_end, each_next, rule_plain, rule_tail}
 use Rattle.csn_resolve.specs.Resolved.{ResolveSteps, asked_unknown, asked_rule, NameGives, AreRefusals, nodes_of, twice_steps}
 use Rattle.csn_grammar.specs.Shaped.{IsShaped, ItemsShaped, BranchesShaped, AreShaped}
-use Rattle.csn_resolve.proofs.Once.{same_tail}
-use Rattle.csn_resolve.proofs.Quiet.{Quiet, quiet_along, first_of, rest_of, quiet_from, tail_quiet}
-use Rattle.csn_resolve.proofs.Holding.{Holds, holds_along, holds_from, holds_first, holds_rest, inner_holds, holds_behind}
-use Rattle.csn_resolve.proofs.TailShaped.{tail_shaped, rule_shaped}
-use Rattle.csn_resolve.proofs.ShownFacts.{still_shown, behind_shown, FrameShown, item_shown, count_shown}
-use Rattle.csn_resolve.proofs.InsideFacts.{IsInside, braces_inside, name_inside, node_inside, turn_inside, more_inside}
-use Rattle.csn_resolve.proofs.Windows.{only_is, unit_is, width_unit, left_window, right_window}
-use Rattle.csn_resolve.proofs.LaidParts.{laid_to, parts_to, parts_along, parts_append, node_laid, none_inside, one_inside, tail_laid}
-use Rattle.csn_resolve.proofs.Bools.{no_both}
+use Rattle.csn_resolve.proofs.Giving.Once.{same_tail}
+use Rattle.csn_resolve.proofs.Walking.Quiet.{Quiet, quiet_along, first_of, rest_of, quiet_from, tail_quiet}
+use Rattle.csn_resolve.proofs.Laying.Holding.{Holds, holds_along, holds_from, holds_first, holds_rest, inner_holds, holds_behind}
+use Rattle.csn_resolve.proofs.Naming.TailShaped.{tail_shaped, rule_shaped}
+use Rattle.csn_resolve.proofs.Laying.ShownFacts.{still_shown, behind_shown, FrameShown, item_shown, count_shown}
+use Rattle.csn_resolve.proofs.Laying.InsideFacts.{IsInside, braces_inside, name_inside, node_inside, turn_inside, more_inside}
+use Rattle.csn_resolve.proofs.Basics.Windows.{only_is, unit_is, width_unit, left_window, right_window}
+use Rattle.csn_resolve.proofs.Laying.LaidParts.{laid_to, parts_to, parts_along, parts_append, node_laid, none_inside, one_inside, tail_laid}
+use Rattle.csn_resolve.proofs.Basics.Bools.{no_both}
 
 module _ (all : List Node) (rules : RulesV) (r : Reading) where
   -- ---- how many parts

@@ -8,7 +8,7 @@ use Rattle.csn_desc.specs.Nodes.{head_of, parts_of}
 use Rattle.csn_desc.specs.Formed.{IsHead, HasParts, shows_earlier, with_seen}
 use Rattle.csn_desc.specs.Laid.{Laid, laid, PartsLaid, laid_end, laid_next, seen_behind}
 use Rattle.csn_resolve.specs.Gives.{Placed, placed}
-use Rattle.csn_resolve.proofs.Holding.{Holds, holds_along, node_from}
+use Rattle.csn_resolve.proofs.Laying.Holding.{Holds, holds_along, node_from}
 
 module _ (all : List Node) where
   pub laid_to :

@@ -10,8 +10,8 @@ use Rattle.csn_grammar.specs.RulesV.{RulesV}
 use Rattle.csn_grammar.specs.Environment.{label_of}
 use Rattle.csn_resolve.specs.Seen.{Frame, Seen}
 use Rattle.csn_resolve.specs.Gives.{Placed, Gives, ItemsGive, RuleGives, gives_lits, gives_null, gives_bit, gives_octet, gives_field, gives_rest, gives_spare_bit, gives_spare_low, gives_padding, gives_seq, gives_choice, gives_only, gives_times, gives_many, gives_cut, gives_window, gives_labelled, gives_name, gives_group, gives_received, gives_sent, items_end, items_next, rule_plain, rule_tail}
-use Rattle.csn_resolve.proofs.Holding.{Holds, holds_along}
-use Rattle.csn_resolve.proofs.SameTails.{AllFrom}
+use Rattle.csn_resolve.proofs.Laying.Holding.{Holds, holds_along}
+use Rattle.csn_resolve.proofs.Meaning.SameTails.{AllFrom}
 
 module _ (rules : RulesV) (r : Reading) where
   begun_at : {p : Placed} {nodes inner : List Placed} → nodes ≡ p ∷ inner → 0 < length nodes

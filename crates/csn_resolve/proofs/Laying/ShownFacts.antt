@@ -24,9 +24,9 @@ use Rattle.csn_resolve.specs.Seen.{Frame, Seen, seen_in, seen_of, with_labelled,
 use Rattle.csn_resolve.specs.Counts.{Narrow, CountSteps, size_steps, is_zero, is_too_large, count_number, count_unknown, count_wide, count_narrow}
 use Rattle.csn_resolve.specs.Steps.{Step, refused_if}
 use Rattle.csn_resolve.specs.Gives.{Placed, placed, count_at, Gives}
-use Rattle.csn_resolve.proofs.Quiet.{Quiet, quiet_along, first_of, rest_of}
-use Rattle.csn_resolve.proofs.Holding.{Holds, holds_along}
-use Rattle.csn_resolve.proofs.LabelledFacts.{IsShort, narrow_short, item_labelled}
+use Rattle.csn_resolve.proofs.Walking.Quiet.{Quiet, quiet_along, first_of, rest_of}
+use Rattle.csn_resolve.proofs.Laying.Holding.{Holds, holds_along}
+use Rattle.csn_resolve.proofs.Naming.LabelledFacts.{IsShort, narrow_short, item_labelled}
 
 -- all numbers of the one list are in the other
 abbrev pub AreAmong : List ℕ → List ℕ → Type 0

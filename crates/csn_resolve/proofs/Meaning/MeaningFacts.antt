@@ -27,16 +27,16 @@ use Rattle.csn_resolve.specs.Seen.{Frame, Seen}
 use Rattle.csn_grammar.specs.Shaped.{IsShaped, AreShaped}
 use Rattle.csn_resolve.specs.Gives.{Placed, placed, Gives, ItemsGive, EachGives, RuleGives, gives_lits, gives_null, gives_bit, gives_octet, gives_field, gives_rest, gives_spare_bit, gives_spare_low, gives_padding, gives_seq, gives_choice, gives_only, gives_times, gives_many, gives_cut, gives_window, gives_labelled, gives_name, gives_group, gives_received, gives_sent, items_end, items_next, each_end, each_next, rule_plain, rule_tail}
 use Rattle.csn_resolve.specs.Resolved.{nodes_of, IsResolved}
-use Rattle.csn_resolve.proofs.Full.{gives_full}
-use Rattle.csn_resolve.proofs.Holding.{Holds, holds_along, holds_from, holds_first, holds_rest, holds_behind, node_from}
-use Rattle.csn_resolve.proofs.Agreement.{Agree, counts_agree, agree_later, agree_item}
-use Rattle.csn_resolve.proofs.NodeFacts.{gives_some, items_behind, label_named}
-use Rattle.csn_resolve.proofs.SameLeaves.{Same, lits_same, null_same, bit_same, octet_same, field_same, rest_same, padding_same, spare_same, spare_zero, spare_one_low}
-use Rattle.csn_resolve.proofs.SameParts.{SameItems, same_end, same_next, seq_same, cut_same, times_same, many_same}
-use Rattle.csn_resolve.proofs.SameForms.{SameEach, SameRule, choice_same, only_same, window_same, label_same, group_same, received_same, sent_same, name_same}
-use Rattle.csn_resolve.proofs.SameForms as forms
-use Rattle.csn_resolve.proofs.SameTails.{tail_same}
-use Rattle.csn_resolve.proofs.TailShaped.{again_some, rule_shaped}
+use Rattle.csn_resolve.proofs.Emptiness.Full.{gives_full}
+use Rattle.csn_resolve.proofs.Laying.Holding.{Holds, holds_along, holds_from, holds_first, holds_rest, holds_behind, node_from}
+use Rattle.csn_resolve.proofs.Meaning.Agreement.{Agree, counts_agree, agree_later, agree_item}
+use Rattle.csn_resolve.proofs.Laying.NodeFacts.{gives_some, items_behind, label_named}
+use Rattle.csn_resolve.proofs.Meaning.SameLeaves.{Same, lits_same, null_same, bit_same, octet_same, field_same, rest_same, padding_same, spare_same, spare_zero, spare_one_low}
+use Rattle.csn_resolve.proofs.Meaning.SameParts.{SameItems, same_end, same_next, seq_same, cut_same, times_same, many_same}
+use Rattle.csn_resolve.proofs.Meaning.SameForms.{SameEach, SameRule, choice_same, only_same, window_same, label_same, group_same, received_same, sent_same, name_same}
+use Rattle.csn_resolve.proofs.Meaning.SameForms as forms
+use Rattle.csn_resolve.proofs.Meaning.SameTails.{tail_same}
+use Rattle.csn_resolve.proofs.Naming.TailShaped.{again_some, rule_shaped}
 
 module _ (rules : RulesV) (r : Reading) where
   items_full :

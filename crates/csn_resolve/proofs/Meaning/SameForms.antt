@@ -26,10 +26,10 @@ use Rattle.csn_grammar.specs.Void.{Kept}
 use Rattle.csn_grammar.specs.Meaning.{Means, RuleMeans, means_spare_bit, means_spare_low, means_padding, means_choice, means_only, means_window, means_labelled, means_name, means_group, means_received, means_sent}
 use Rattle.csn_grammar.specs.Follow.{Follow, RuleFollows, follows_whole, follows_leaf, follows_choice, follows_window, follows_labelled, follows_name, follows_group, follows_received, follows_sent}
 use Rattle.csn_grammar.proofs.VoidFacts.{no_rule, same_rule, same_window, kept_once}
-use Rattle.csn_resolve.proofs.SameLeaves.{Same, node_same, spare_built}
-use Rattle.csn_resolve.proofs.Once.{not_two}
-use Rattle.csn_resolve.proofs.Parts.{get_within}
-use Rattle.csn_resolve.proofs.Options.{same_some}
+use Rattle.csn_resolve.proofs.Meaning.SameLeaves.{Same, node_same, spare_built}
+use Rattle.csn_resolve.proofs.Giving.Once.{not_two}
+use Rattle.csn_resolve.proofs.Basics.Parts.{get_within}
+use Rattle.csn_resolve.proofs.Basics.Options.{same_some}
 
 module _ (rules : RulesV) (r : Reading) (d : DescV) where
   -- ---- choices

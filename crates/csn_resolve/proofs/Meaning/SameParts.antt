@@ -24,8 +24,8 @@ use Rattle.csn_grammar.specs.Meaning.{Means, ItemsMean, TimesMean, ManyMean, Lea
 use Rattle.csn_grammar.specs.Follow.{Follow, ItemsFollow, TimesFollow, ManyFollow, follows_whole, follows_leaf, follows_seq, follows_times, follows_many, follows_cut, items_here, items_later, times_here, times_later, many_here, many_later}
 use Rattle.csn_resolve.specs.Seen.{Seen}
 use Rattle.csn_resolve.specs.Gives.{count_at}
-use Rattle.csn_resolve.proofs.SameLeaves.{Same, node_same}
-use Rattle.csn_resolve.proofs.SameLeaves as leaves
+use Rattle.csn_resolve.proofs.Meaning.SameLeaves.{Same, node_same}
+use Rattle.csn_resolve.proofs.Meaning.SameLeaves as leaves
 
 module _ (rules : RulesV) (r : Reading) (d : DescV) where
   -- items and parts one behind the other: each item and its part mean and follow the same, whatever bits the

@@ -21,12 +21,12 @@ use Rattle.csn_grammar.specs.Meaning.{RuleMeans, TailMeans, with_turns, rule_pla
 use Rattle.csn_grammar.specs.Follow.{Begins, RuleFollows, TailFollows, follows_plain, follows_tail}
 use Rattle.csn_grammar.proofs.Prefixes.{rule_followed}
 use Rattle.csn_resolve.specs.Seen.{Seen}
-use Rattle.csn_resolve.proofs.Once.{same_tail}
-use Rattle.csn_resolve.proofs.Agreement.{Agree, agree_kept}
-use Rattle.csn_resolve.proofs.SameLeaves.{Same, meant_at, followed_at, lits_same}
-use Rattle.csn_resolve.proofs.SameParts.{SameItems, same_next, items_to, items_from, parts_follow, items_follow, more_to, more_from, more_follow, more_followed, seq_same}
-use Rattle.csn_resolve.proofs.SameForms.{SameRule}
-use Rattle.csn_resolve.proofs.TurnFacts.{turn_of, turn_full, Turns, turns_are, tail_turned, turned_tail, TailBegun, in_items, in_turns, in_stop, tail_begun, begun_tail}
+use Rattle.csn_resolve.proofs.Giving.Once.{same_tail}
+use Rattle.csn_resolve.proofs.Meaning.Agreement.{Agree, agree_kept}
+use Rattle.csn_resolve.proofs.Meaning.SameLeaves.{Same, meant_at, followed_at, lits_same}
+use Rattle.csn_resolve.proofs.Meaning.SameParts.{SameItems, same_next, items_to, items_from, parts_follow, items_follow, more_to, more_from, more_follow, more_followed, seq_same}
+use Rattle.csn_resolve.proofs.Meaning.SameForms.{SameRule}
+use Rattle.csn_resolve.proofs.Meaning.TurnFacts.{turn_of, turn_full, Turns, turns_are, tail_turned, turned_tail, TailBegun, in_items, in_turns, in_stop, tail_begun, begun_tail}
 
 -- no part stands before this number
 abbrev pub AllFrom : ℕ → List ℕ → Type 0

@@ -8,7 +8,7 @@ use Rattle.csn_grammar.specs.declared.rules.Rule.{Rule}
 use Rattle.csn_grammar.specs.RulesV.{RulesV}
 use Rattle.csn_grammar.specs.Names.{same_name, is_built_in, rule_of}
 use Rattle.csn_resolve.specs.Walk.{is_among}
-use Rattle.csn_resolve.proofs.Levels.{passing, Closed, closed_or_more, rule_closed}
+use Rattle.csn_resolve.proofs.Emptiness.Levels.{passing, Closed, closed_or_more, rule_closed}
 
 abbrev pub is_fresh : List (List ℕ) → Rule → Bool
 is_fresh names rule = not (is_among rule.name names)

@@ -15,7 +15,7 @@ use Rattle.csn_resolve.specs.Steps.{refused_if}
 use Rattle.csn_resolve.specs.Resolved.{twice_steps}
 use Rattle.csn_resolve.specs.Going.{way, stopped}
 use Rattle.csn_resolve.specs.Numbers.{number_in, rule_names}
-use Rattle.csn_resolve.proofs.Parts.{drop_at, take_next}
+use Rattle.csn_resolve.proofs.Basics.Parts.{drop_at, take_next}
 
 same_back : (a b : List ℕ) → same_name a b ≡ same_name b a
 same_back a b = nat_list_eq_equiv.symm a b

@@ -14,7 +14,7 @@ use Rattle.csn_resolve.specs.declared.around.Seen as s
 use Rattle.csn_resolve.specs.Seen.{Frame, with_labelled, inner_of, seen_in}
 use Rattle.csn_resolve.specs.Walk.{is_among}
 use Rattle.csn_resolve.specs.Views.{entered_view, frame_after, seen_view}
-use Rattle.csn_resolve.proofs.Parts.{take_next}
+use Rattle.csn_resolve.proofs.Basics.Parts.{take_next}
 
 pub entered-Rule : (n : Bor (List ℕ)) (outer : Bor e.Entered) → entered_view (e.Rule n outer) ≡ n.now ∷ entered_view outer.now
 entered-Rule n outer = search (rules, e.the_lemmas)

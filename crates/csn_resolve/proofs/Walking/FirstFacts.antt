@@ -12,8 +12,8 @@ use Rattle.csn_resolve.specs.Steps.{Step, begins, refused, refusals_after}
 use Rattle.csn_resolve.specs.Walk.{outermost, PartLeft, RuleWalk}
 use Rattle.csn_resolve.specs.Resolved.{twice_steps, asked_unknown, asked_rule, AreRefusals}
 use Rattle.csn_resolve.specs.Going.{way, gone, stopped, Stops, IsFirst}
-use Rattle.csn_resolve.proofs.GoingFacts.{none-refused, first-refused, stops-first}
-use Rattle.csn_resolve.proofs.Total.{part_left, rule_has_walk}
+use Rattle.csn_resolve.proofs.Walking.GoingFacts.{none-refused, first-refused, stops-first}
+use Rattle.csn_resolve.proofs.Walking.Total.{part_left, rule_has_walk}
 
 module _ (rules : RulesV) (r : Reading) (n : List ℕ) (once : twice_steps built_in_names rules ≡ []) where
   pub unknown : rule_of rules n ≡ None → IsFirst rules n r (Refused Undefined 0)

@@ -21,10 +21,10 @@ use Rattle.csn_resolve.specs.Steps.{Step, refused}
 use Rattle.csn_resolve.specs.Counts.{CountSteps}
 use Rattle.csn_resolve.specs.Walk.{Around, inside, putting_in, behind, in_turn, is_among, entering, node_at, turn_begun, PartLeft, BranchLeft, TurnLeft, Walk, ItemsWalk, ComponentsWalk, BranchesWalk, RuleWalk, walk_lits, walk_null, walk_bit, walk_octet, walk_field, walk_rest, walk_built_in, walk_undefined, walk_recursive, walk_name, walk_group, walk_labelled, walk_seq, walk_choice, walk_times, walk_many, walk_cut, walk_window, walk_window_behind, walk_no_window, walk_sends, items_end, items_next, components_end, components_next, branches_end, branches_next, rule_plain, rule_tail}
 use Rattle.csn_resolve.specs.Going.{gone, way, Stops, LeafGoes}
-use Rattle.csn_resolve.proofs.GoingFacts.{stops-later, stops-same, stops-second, way-on, way-third}
-use Rattle.csn_resolve.proofs.Once.{same_tail}
-use Rattle.csn_resolve.proofs.Bools.{no_both}
-use Rattle.csn_resolve.proofs.Options.{no_none}
+use Rattle.csn_resolve.proofs.Walking.GoingFacts.{stops-later, stops-same, stops-second, way-on, way-third}
+use Rattle.csn_resolve.proofs.Giving.Once.{same_tail}
+use Rattle.csn_resolve.proofs.Basics.Bools.{no_both}
+use Rattle.csn_resolve.proofs.Basics.Options.{no_none}
 
 stops-in-second :
     (begun after : ℕ) (first second steps : List Step) (fault : ResolveFault)

@@ -17,7 +17,7 @@ use Rattle.csn_resolve.specs.Steps.{Step, begins, refused, refusals_after}
 pub use Rattle.csn_resolve.specs.Steps.{Quiet}
 use Rattle.csn_resolve.specs.Counts.{CountSteps, count_number, count_unknown, count_wide, count_narrow}
 use Rattle.csn_resolve.specs.Walk.{Refuses, is_refused, is_accepted}
-use Rattle.csn_resolve.proofs.Bools.{no_both}
+use Rattle.csn_resolve.proofs.Basics.Bools.{no_both}
 
 quiet_first : (xs ys : List Step) → Quiet (xs ++ ys) → Quiet xs
 quiet_first [] ys q = tt

@@ -18,10 +18,10 @@ use Rattle.csn_resolve.specs.Steps.{Step, begins, refused, refused_if, Quiet}
 use Rattle.csn_resolve.specs.Counts.{is_zero, is_too_large, size_steps, CountSteps, count_number, count_unknown, count_wide, count_narrow}
 use Rattle.csn_resolve.specs.Walk.{Around, inside, putting_in, behind, entering, node_at, turn_begun, Walk, ItemsWalk, ComponentsWalk, BranchesWalk, RuleWalk, walk_field, walk_rest, walk_built_in, walk_undefined, walk_recursive, walk_name, walk_times, walk_many}
 use Rattle.csn_resolve.specs.Made.{QuietAt, AllQuiet, BranchesQuiet, RuleQuiet}
-use Rattle.csn_resolve.proofs.Quiet.{first_of, rest_of, quiet_along}
-use Rattle.csn_resolve.proofs.Inversion.{labelled-steps, group-steps, seq-steps, choice-steps, cut-steps, sends-steps, window-steps, window-behind-steps, items-next-steps, components-next-steps, branches-next-steps, plain-steps, tail-steps}
-use Rattle.csn_resolve.proofs.Bools.{no_both}
-use Rattle.csn_resolve.proofs.Options.{no_none}
+use Rattle.csn_resolve.proofs.Walking.Quiet.{first_of, rest_of, quiet_along}
+use Rattle.csn_resolve.proofs.Walking.Inversion.{labelled-steps, group-steps, seq-steps, choice-steps, cut-steps, sends-steps, window-steps, window-behind-steps, items-next-steps, components-next-steps, branches-next-steps, plain-steps, tail-steps}
+use Rattle.csn_resolve.proofs.Basics.Bools.{no_both}
+use Rattle.csn_resolve.proofs.Basics.Options.{no_none}
 
 not-refused : (b : Bool) (place : ℕ) → Quiet (refused_if b CountTooLarge place) → b ≡ false
 not-refused true place q = absurd q

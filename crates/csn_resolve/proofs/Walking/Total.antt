@@ -20,9 +20,9 @@ use Rattle.csn_resolve.specs.Steps.{Step}
 use Rattle.csn_resolve.specs.Counts.{Narrow, CountSteps, count_number, count_unknown, count_wide, count_narrow}
 use Rattle.csn_resolve.specs.Walk.{Around, inside, in_turn, putting_in, outermost, behind, is_among, PartLeft, BranchLeft, TurnLeft, is_refused, is_accepted, left_plain, left_error, left_sendable, Walk, ItemsWalk, ComponentsWalk, BranchesWalk, RuleWalk, walk_lits, walk_null, walk_bit, walk_octet, walk_field, walk_rest, walk_built_in, walk_undefined, walk_recursive, walk_name, walk_group, walk_labelled, walk_seq, walk_choice, walk_times, walk_many, walk_cut, walk_window, walk_window_behind, walk_no_window, walk_sends, items_end, items_next, components_end, components_next, branches_end, branches_next, rule_plain, rule_tail}
 use Rattle.csn_resolve.specs.Resolved.{asked_unknown, asked_rule, AreRefusals}
-use Rattle.csn_resolve.proofs.VoidDecided.{void_decided, some_void_decided}
-use Rattle.csn_resolve.proofs.NarrowDecided.{narrow_decided}
-use Rattle.csn_resolve.proofs.Fresh.{fresh, fewer}
+use Rattle.csn_resolve.proofs.Emptiness.VoidDecided.{void_decided, some_void_decided}
+use Rattle.csn_resolve.proofs.Emptiness.NarrowDecided.{narrow_decided}
+use Rattle.csn_resolve.proofs.Naming.Fresh.{fresh, fewer}
 
 -- the width of a field is counted
 field_counts : (x : ExprV) (k : Exponent) (w : WidthV) → width_of (expr 0 0 (power x k)) ≡ Some w → w.count ≡ k

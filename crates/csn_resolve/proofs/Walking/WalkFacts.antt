@@ -14,9 +14,9 @@ use Rattle.csn_resolve.specs.Seen.{Frame}
 use Rattle.csn_resolve.specs.Steps.{Step}
 use Rattle.csn_resolve.specs.Walk.{Around, inside, putting_in, behind, outermost, Walk, ItemsWalk, ComponentsWalk, BranchesWalk, BranchLeft, RuleWalk}
 use Rattle.csn_resolve.specs.Views.{entered_view, frame_after, seen_view, around_view}
-use Rattle.csn_resolve.proofs.Parts.{drop_at}
-use Rattle.csn_resolve.proofs.ViewFacts.{entered-Rule, entered-Nothing, seen-Behind, seen-Nothing}
-use Rattle.csn_resolve.proofs.Inversion.{items-as, components-as, branches-as}
+use Rattle.csn_resolve.proofs.Basics.Parts.{drop_at}
+use Rattle.csn_resolve.proofs.Naming.ViewFacts.{entered-Rule, entered-Nothing, seen-Behind, seen-Nothing}
+use Rattle.csn_resolve.proofs.Walking.Inversion.{items-as, components-as, branches-as}
 
 pub inside-view :
     (r : Reading) (a c : b.Around) → c.depth ≡ a.depth + 1 → c.names ≡ a.names → c.seen ≡ a.seen

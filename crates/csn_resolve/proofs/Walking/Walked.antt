@@ -18,8 +18,8 @@ use Rattle.csn_resolve.specs.Resolved.{ResolveSteps, asked_unknown, asked_rule, 
 use Rattle.csn_resolve.specs.Counts.{Narrow, CountSteps, count_number, count_unknown, count_wide, count_narrow}
 use Rattle.csn_resolve.specs.Gives.{Placed, start_of}
 use Rattle.csn_resolve.specs.Walk.{Around, inside, in_turn, putting_in, outermost, PartLeft, BranchLeft, TurnLeft, is_refused, is_accepted, left_plain, left_error, left_sendable, Walk, ItemsWalk, ComponentsWalk, BranchesWalk, RuleWalk, walk_lits, walk_null, walk_bit, walk_octet, walk_field, walk_rest, walk_built_in, walk_undefined, walk_recursive, walk_name, walk_group, walk_labelled, walk_seq, walk_choice, walk_times, walk_many, walk_cut, walk_window, walk_window_behind, walk_no_window, walk_sends, items_end, items_next, components_end, components_next, branches_end, branches_next, rule_plain, rule_tail, Refuses}
-use Rattle.csn_resolve.proofs.Once.{same_tail, name_once}
-use Rattle.csn_resolve.proofs.Bools.{no_both}
+use Rattle.csn_resolve.proofs.Giving.Once.{same_tail, name_once}
+use Rattle.csn_resolve.proofs.Basics.Bools.{no_both}
 
 no_none : {o : Option Rule} {rule : Rule} → o ≡ Some rule → o ≡ None → ⊥
 no_none p q = cc

@@ -3,7 +3,7 @@ use Rattle.csn_grammar.specs.ExprV.{ExprV}
 use Rattle.csn_grammar.specs.Names.{same_name}
 use Rattle.csn_resolve.specs.Seen.{seen_in}
 use Rattle.csn_resolve.specs.Views.{frame_after}
-use Rattle.csn_resolve.proofs.ViewFacts.{passed-by, other-label, has-label, take-min}
+use Rattle.csn_resolve.proofs.Naming.ViewFacts.{passed-by, other-label, has-label, take-min}
 use Rattle.csn_resolve.proofs.around.seen_in.Goals as goal
 
 pub loop-at-preserved-in_default : goal.loop-at-preserved-in_default

@@ -1,10 +1,10 @@
 use Rattle.std.proofs.Common.{◌≡◌, ◌∙◌, Some, refl}
 use Rattle.std.proofs.lemmas.Result.{err_from_is_err_and}
 use Rattle.csn_grammar.specs.Names.{rule_of}
-use Rattle.csn_resolve.proofs.GoingFacts.{stops-first, stops-later, way-on}
-use Rattle.csn_resolve.proofs.DepthFacts.{in_deepest}
-use Rattle.csn_resolve.proofs.WalkFacts.{outermost-in}
-use Rattle.csn_resolve.proofs.FirstFacts.{unknown, on-walk, accepted}
+use Rattle.csn_resolve.proofs.Walking.GoingFacts.{stops-first, stops-later, way-on}
+use Rattle.csn_resolve.proofs.Walking.DepthFacts.{in_deepest}
+use Rattle.csn_resolve.proofs.Walking.WalkFacts.{outermost-in}
+use Rattle.csn_resolve.proofs.Walking.FirstFacts.{unknown, on-walk, accepted}
 use Rattle.csn_resolve.proofs.first.first_refusal.Goals as goal
 
 pub returns-in_default-clause-refused : goal.returns-in_default-clause-refused

@@ -1,5 +1,5 @@
 use Rattle.std.proofs.Common.{refl}
-use Rattle.csn_resolve.proofs.Once.{gives_once, resolved_once}
+use Rattle.csn_resolve.proofs.Giving.Once.{gives_once, resolved_once}
 use Rattle.csn_resolve.proofs.laws.descriptions_are_one.Goals as goal
 
 pub returns-clause-expression : goal.returns-clause-expression

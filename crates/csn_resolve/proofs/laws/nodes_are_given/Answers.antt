@@ -1,5 +1,5 @@
-use Rattle.csn_resolve.proofs.Given.{nodes_given}
-use Rattle.csn_resolve.proofs.Numbered.{nodes_numbered}
+use Rattle.csn_resolve.proofs.Giving.Given.{nodes_given}
+use Rattle.csn_resolve.proofs.Laying.Numbered.{nodes_numbered}
 use Rattle.csn_resolve.proofs.laws.nodes_are_given.Goals as goal
 
 pub returns-clause-given : goal.returns-clause-given

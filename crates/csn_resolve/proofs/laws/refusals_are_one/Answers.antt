@@ -1,4 +1,4 @@
-use Rattle.csn_resolve.proofs.Walked.{walk_once, refusals_once, refused_once, not_both}
+use Rattle.csn_resolve.proofs.Walking.Walked.{walk_once, refusals_once, refused_once, not_both}
 use Rattle.csn_resolve.proofs.laws.refusals_are_one.Goals as goal
 
 pub returns-clause-walk : goal.returns-clause-walk

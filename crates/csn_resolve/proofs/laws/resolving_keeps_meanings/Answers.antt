@@ -1,4 +1,4 @@
-use Rattle.csn_resolve.proofs.MeaningFacts.{named_same, strings_kept, followed_kept, places_kept}
+use Rattle.csn_resolve.proofs.Meaning.MeaningFacts.{named_same, strings_kept, followed_kept, places_kept}
 use Rattle.csn_resolve.proofs.laws.resolving_keeps_meanings.Goals as goal
 
 pub returns-clause-means : goal.returns-clause-means

@@ -1,4 +1,4 @@
-use Rattle.csn_resolve.proofs.Full.{gives_full}
+use Rattle.csn_resolve.proofs.Emptiness.Full.{gives_full}
 use Rattle.csn_resolve.proofs.laws.void_gives_nothing.Goals as goal
 
 pub returns : goal.returns

@@ -1,6 +1,6 @@
-use Rattle.csn_resolve.proofs.VoidDecided.{void_decided}
-use Rattle.csn_resolve.proofs.NarrowDecided.{narrow_decided}
-use Rattle.csn_resolve.proofs.Total.{has_walk, has_refusals}
+use Rattle.csn_resolve.proofs.Emptiness.VoidDecided.{void_decided}
+use Rattle.csn_resolve.proofs.Emptiness.NarrowDecided.{narrow_decided}
+use Rattle.csn_resolve.proofs.Walking.Total.{has_walk, has_refusals}
 use Rattle.csn_resolve.proofs.laws.walks_end.Goals as goal
 
 pub returns-clause-empty : goal.returns-clause-empty

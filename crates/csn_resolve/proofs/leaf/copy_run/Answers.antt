@@ -1,5 +1,5 @@
 use Rattle.std.proofs.Common.{◌++◌, ◌∷◌, [], sym, ◌∙◌, ap}
-use Rattle.csn_resolve.proofs.Parts.{take_next}
+use Rattle.csn_resolve.proofs.Basics.Parts.{take_next}
 use Rattle.csn_resolve.proofs.leaf.copy_run.Goals as goal
 
 pub loop-at-preserved : goal.loop-at-preserved

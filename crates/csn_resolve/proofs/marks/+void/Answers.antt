@@ -4,8 +4,8 @@ use Rattle.csn_grammar.specs.ExprV.{BranchV}
 use Rattle.csn_grammar.specs.ExprCode.{expr_size}
 use Rattle.csn_resolve.specs.Tests.{is_void}
 use Rattle.csn_resolve.specs.Marked.{marked}
-use Rattle.csn_resolve.proofs.Parts.{item_size, branch_size_of}
-use Rattle.csn_resolve.proofs.MarkFacts.{some-next, some-here, all-next, all-not}
+use Rattle.csn_resolve.proofs.Basics.Parts.{item_size, branch_size_of}
+use Rattle.csn_resolve.proofs.Emptiness.MarkFacts.{some-next, some-here, all-next, all-not}
 use Rattle.csn_resolve.proofs.marks.+void.Goals.{all_void-else-not-branch-via-then-not-branch+else-not-is_void, all_void-else-not-branch-via-else-not-branch}
 use Rattle.csn_resolve.proofs.marks.+void.Goals as goal
 

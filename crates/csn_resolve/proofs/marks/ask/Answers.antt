@@ -2,7 +2,7 @@ use Rattle.std.proofs.Common.{◌≡◌, Bool, true, false, List, Some, ◌<◌,
 use Rattle.std.proofs.lemmas.List.{get_or_read}
 use Rattle.std.proofs.lemmas.Option.{slice_get-get_or}
 use Rattle.csn_resolve.specs.Marked.{passes, marked}
-use Rattle.csn_resolve.proofs.LeastFacts.{found_passes, sound_more, set_fewer}
+use Rattle.csn_resolve.proofs.Emptiness.LeastFacts.{found_passes, sound_more, set_fewer}
 use Rattle.csn_resolve.proofs.marks.ask.Goals as goal
 
 pub returns-clause-sound : goal.returns-clause-sound

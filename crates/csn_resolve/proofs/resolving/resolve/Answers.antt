@@ -5,11 +5,11 @@ use Rattle.std.proofs.lemmas.Result.{err_from_is_err_and}
 use Rattle.csn_grammar.specs.RulesV.{RulesV}
 use Rattle.csn_grammar.specs.Names.{built_in_names}
 use Rattle.csn_resolve.specs.Resolved.{twice_steps, IsRefused}
-use Rattle.csn_resolve.proofs.FirstFacts.{no-steps, defined-twice}
+use Rattle.csn_resolve.proofs.Walking.FirstFacts.{no-steps, defined-twice}
 use Rattle.csn_resolve.proofs.ResolveFacts.{first_refused}
 use Rattle.csn_resolve.specs.Resolved.{IsResolved}
 use Rattle.csn_resolve.specs.Saying.{SaysTheSame}
-use Rattle.csn_resolve.proofs.MeaningFacts.{named_same}
+use Rattle.csn_resolve.proofs.Meaning.MeaningFacts.{named_same}
 use Rattle.csn_resolve.proofs.resolving.resolve.Goals as goal
 
 if_ok_more : {E : Type 0} (answer : Result DescV E) (P Q : DescV → Type 0) → ((d : DescV) → P d → Q d) → IfOk answer P → IfOk answer Q

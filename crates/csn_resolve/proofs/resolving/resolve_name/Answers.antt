@@ -5,7 +5,7 @@ use Rattle.csn_grammar.specs.Names.{rule_of}
 use Rattle.csn_resolve.specs.Seen.{Seen}
 use Rattle.csn_resolve.specs.Gives.{Placed}
 use Rattle.csn_resolve.specs.Made.{RuleGivesFew, AddsRule}
-use Rattle.csn_resolve.proofs.MadeFacts.{shown-Nothing}
+use Rattle.csn_resolve.proofs.Giving.MadeFacts.{shown-Nothing}
 use Rattle.csn_resolve.proofs.ResolveFacts.{rule_quiet, rule_few, made_laid, if_resolved, crowded_refused, first_refused}
 use Rattle.csn_resolve.proofs.resolving.resolve_name.Goals as goal
 

@@ -2,7 +2,7 @@ use Rattle.std.proofs.Common.{◌==◌, [], ◌∷◌}
 use Rattle.std.proofs.lemmas.Result.{err_from_is_err_and}
 use Rattle.csn_resolve.specs.declared.why.Why.TheVariants.{TooDeep}
 use Rattle.csn_resolve.specs.Steps.{refused_if, begins}
-use Rattle.csn_resolve.proofs.GoingFacts.{stops-first}
+use Rattle.csn_resolve.proofs.Walking.GoingFacts.{stops-first}
 use Rattle.csn_resolve.proofs.steps.begin.Goals as goal
 
 pub returns-in_err-enter-clause-steps : goal.returns-in_err-enter-clause-steps

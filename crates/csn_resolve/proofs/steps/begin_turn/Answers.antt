@@ -2,7 +2,7 @@ use Rattle.std.proofs.Common.{◌≡◌, suc, arith}
 use Rattle.std.proofs.lemmas.Result.{err_from_is_err_and}
 use Rattle.csn_resolve.specs.Walk.{inside, entering, node_at}
 use Rattle.csn_resolve.specs.Views.{around_view}
-use Rattle.csn_resolve.proofs.GoingFacts.{stops-first, stops-later}
+use Rattle.csn_resolve.proofs.Walking.GoingFacts.{stops-first, stops-later}
 use Rattle.csn_resolve.proofs.steps.begin_turn.Goals as goal
 
 pub returns-in_err-enter-clause-steps : goal.returns-in_err-enter-clause-steps

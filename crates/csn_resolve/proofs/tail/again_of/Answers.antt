@@ -1,8 +1,8 @@
 use Rattle.std.proofs.Common.{◌≡◌, true, false, length, sym, ◌∙◌, ap, arith}
 use Rattle.csn_grammar.specs.Names.{same_name}
 use Rattle.csn_grammar.specs.TailForm.{again_of}
-use Rattle.csn_resolve.proofs.ViewFacts.{known}
-use Rattle.csn_resolve.proofs.TailFacts.{again-none, again-nameless, again-other, again-word}
+use Rattle.csn_resolve.proofs.Naming.ViewFacts.{known}
+use Rattle.csn_resolve.proofs.Naming.TailFacts.{again-none, again-nameless, again-other, again-word}
 use Rattle.csn_resolve.proofs.tail.again_of.Goals as goal
 
 pub returns-then-len-ne2 : goal.returns-then-len-ne2

@@ -1,8 +1,8 @@
 use Rattle.std.proofs.Common.{◌≡◌, length, sym, ◌∙◌, ap, arith}
 use Rattle.csn_grammar.specs.ExprV.{BranchV, expr, group}
 use Rattle.csn_grammar.specs.TailForm.{end_of}
-use Rattle.csn_resolve.proofs.ViewFacts.{known}
-use Rattle.csn_resolve.proofs.TailFacts.{end-none, end-left-error, end-right-error, end-sides}
+use Rattle.csn_resolve.proofs.Naming.ViewFacts.{known}
+use Rattle.csn_resolve.proofs.Naming.TailFacts.{end-none, end-left-error, end-right-error, end-sides}
 use Rattle.csn_resolve.proofs.tail.end_of.Goals as goal
 use Rattle.csn_resolve.proofs.tail.end_of.Goals.{then-left-via-then-left, then-left-via-else-left+then-right}
 

@@ -3,8 +3,8 @@ use Rattle.std.specs.Option.{option_map}
 use Rattle.csn_grammar.specs.ExprV.{exprs_of}
 use Rattle.csn_grammar.specs.TailForm.{EndV, end_of, tail_of_body}
 use Rattle.csn_resolve.specs.Views.{end_view}
-use Rattle.csn_resolve.proofs.ViewFacts.{known}
-use Rattle.csn_resolve.proofs.TailFacts.{tail-short, tail-is}
+use Rattle.csn_resolve.proofs.Naming.ViewFacts.{known}
+use Rattle.csn_resolve.proofs.Naming.TailFacts.{tail-short, tail-is}
 use Rattle.csn_resolve.proofs.tail.tail_of_body.Goals as goal
 
 pub returns-then-len-lt2-clause-tail : goal.returns-then-len-lt2-clause-tail

@@ -2,7 +2,7 @@ use Rattle.std.proofs.Common.{◌≡◌, true, false, sym, ◌∙◌, ap}
 use Rattle.csn_grammar.specs.Names.{same_name}
 use Rattle.csn_resolve.specs.Walk.{is_among}
 use Rattle.csn_resolve.specs.Views.{entered_view}
-use Rattle.csn_resolve.proofs.ViewFacts.{entered-Rule, entered-Nothing, among-here, among-later}
+use Rattle.csn_resolve.proofs.Naming.ViewFacts.{entered-Rule, entered-Nothing, among-here, among-later}
 use Rattle.csn_resolve.proofs.around.Entered.+has.Goals as goal
 
 pub returns-in-Nothing : goal.returns-in-Nothing

@@ -15,14 +15,14 @@ use Rattle.csn_grammar.specs.Environment.{label_of}
 use Rattle.csn_resolve.specs.Gives.{placed}
 use Rattle.csn_resolve.specs.Views.{width_view, tail_view}
 use Rattle.csn_resolve.specs.Made.{frame_before, shown_view, AllQuiet, GivesFew, ItemsGiveFew, Adds, AddsItems, AddsKept}
-use Rattle.csn_resolve.proofs.Parts.{item_size, branch_size_of, take_get, take_short, drop_at, get_within}
-use Rattle.csn_resolve.proofs.DepthFacts.{in_deepest, entered}
-use Rattle.csn_resolve.proofs.ViewFacts.{known}
-use Rattle.csn_resolve.proofs.MadeFacts.{shown-Behind, frame-push, no-nodes, not-bit}
-use Rattle.csn_resolve.proofs.QuietFacts.{quiet-as, quiet-labelled, quiet-group, quiet-left, quiet-right, quiet-seq, quiet-cut, quiet-choice, quiet-count, quiet-times, quiet-many, quiet-window, quiet-behind, quiet-name, quiet-plain, quiet-tail, quiet-at, quiet-branch}
-use Rattle.csn_resolve.proofs.AddFacts.{on-ok, adds-as, few-as, room, adds-lits, adds-null, adds-bit, adds-octet, adds-group, few-group, adds-received, adds-sent, few-received, few-sent, adds-name, few-name, adds-spare, adds-labelled, few-labelled, adds-rest, adds-many, few-many, adds-field, adds-times, few-times, counted-given, adds-window, few-window, window-count, some-window, adds-only, few-only, adds-choice, few-choice, adds-plain, few-plain, seq-gives, cut-gives, adds-row, few-row, spare-named}
-use Rattle.csn_resolve.proofs.BuildFacts.{ItemsLeft, items-begin, items-next, items-few, items-done, parts-room, kept-more, kept-past, kept-few, kept-done, kept-quiet, tail-few, tail-items, items-in, turn-few, parts-fit, stop-room, adds-tail, turn-items, adds-turn, items-longer, kept-longer, tail-longer}
-use Rattle.csn_resolve.proofs.Windows.{left_window, right_window}
+use Rattle.csn_resolve.proofs.Basics.Parts.{item_size, branch_size_of, take_get, take_short, drop_at, get_within}
+use Rattle.csn_resolve.proofs.Walking.DepthFacts.{in_deepest, entered}
+use Rattle.csn_resolve.proofs.Naming.ViewFacts.{known}
+use Rattle.csn_resolve.proofs.Giving.MadeFacts.{shown-Behind, frame-push, no-nodes, not-bit}
+use Rattle.csn_resolve.proofs.Walking.QuietFacts.{quiet-as, quiet-labelled, quiet-group, quiet-left, quiet-right, quiet-seq, quiet-cut, quiet-choice, quiet-count, quiet-times, quiet-many, quiet-window, quiet-behind, quiet-name, quiet-plain, quiet-tail, quiet-at, quiet-branch}
+use Rattle.csn_resolve.proofs.Giving.AddFacts.{on-ok, adds-as, few-as, room, adds-lits, adds-null, adds-bit, adds-octet, adds-group, few-group, adds-received, adds-sent, few-received, few-sent, adds-name, few-name, adds-spare, adds-labelled, few-labelled, adds-rest, adds-many, few-many, adds-field, adds-times, few-times, counted-given, adds-window, few-window, window-count, some-window, adds-only, few-only, adds-choice, few-choice, adds-plain, few-plain, seq-gives, cut-gives, adds-row, few-row, spare-named}
+use Rattle.csn_resolve.proofs.Giving.BuildFacts.{ItemsLeft, items-begin, items-next, items-few, items-done, parts-room, kept-more, kept-past, kept-few, kept-done, kept-quiet, tail-few, tail-items, items-in, turn-few, parts-fit, stop-room, adds-tail, turn-items, adds-turn, items-longer, kept-longer, tail-longer}
+use Rattle.csn_resolve.proofs.Basics.Windows.{left_window, right_window}
 use Rattle.csn_resolve.proofs.build.Builder.+build.Goals as goal
 
 pub build-build_name-requires : goal.build-build_name-requires

@@ -2,7 +2,7 @@ use Rattle.std.proofs.Common.{◌≡◌, ◌+◌, ◌*◌, ◌≤◌, max, take,
 use Rattle.csn_grammar.specs.ExprCode.{expr_size, list_size, branch_list_size}
 use Rattle.csn_resolve.specs.Depths.{left}
 use Rattle.csn_resolve.specs.Made.{frame_before, shown_view}
-use Rattle.csn_resolve.proofs.BuildFacts.{ItemsLeft, KeptLeft}
+use Rattle.csn_resolve.proofs.Giving.BuildFacts.{ItemsLeft, KeptLeft}
 use Rattle.csn_resolve.proofs.build.Builder.+build.Given as goal
 
 abbrev pub decreases-build : goal.decreases-build

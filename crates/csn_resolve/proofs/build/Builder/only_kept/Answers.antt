@@ -2,8 +2,8 @@ use Rattle.std.proofs.Common.{ap, arith}
 use Rattle.std.proofs.lemmas.List.{drop_all}
 use Rattle.std.proofs.lemmas.Bool.{both_ways}
 use Rattle.csn_grammar.specs.ExprV.{BranchV}
-use Rattle.csn_resolve.proofs.Parts.{drop_at}
-use Rattle.csn_resolve.proofs.KeptFacts.{only-first, only-past, only-second, only-all}
+use Rattle.csn_resolve.proofs.Basics.Parts.{drop_at}
+use Rattle.csn_resolve.proofs.Giving.KeptFacts.{only-first, only-past, only-second, only-all}
 use Rattle.csn_resolve.proofs.build.Builder.only_kept.Goals as goal
 
 pub returns-then-is_some : goal.returns-then-is_some

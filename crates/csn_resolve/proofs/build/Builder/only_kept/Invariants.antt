@@ -1,5 +1,5 @@
 use Rattle.std.proofs.Common.{drop}
-use Rattle.csn_resolve.proofs.KeptFacts.{OnlyAfter}
+use Rattle.csn_resolve.proofs.Giving.KeptFacts.{OnlyAfter}
 use Rattle.csn_resolve.proofs.build.Builder.only_kept.Given as goal
 
 abbrev pub invariant-loop-at : goal.invariant-loop-at

@@ -5,7 +5,7 @@ use Rattle.csn_desc.specs.Formed.{Spans}
 use Rattle.csn_desc.specs.WellFormed.{AreWellFormed}
 use Rattle.csn_desc.specs.Overfull.{IsOverfull, IsFirstOverfull}
 use Rattle.csn_resolve.specs.Resolved.{nodes_of}
-use Rattle.csn_resolve.proofs.MadeFacts.{paired_nodes, paired_at}
+use Rattle.csn_resolve.proofs.Giving.MadeFacts.{paired_nodes, paired_at}
 use Rattle.csn_resolve.proofs.ResolveFacts.{crowded_at}
 use Rattle.csn_resolve.proofs.made.Made.describe.Goals as goal
 

@@ -1,5 +1,5 @@
 use Rattle.std.proofs.Common.{length, arith, ap}
-use Rattle.csn_resolve.proofs.MadeFacts.{paired_long}
+use Rattle.csn_resolve.proofs.Giving.MadeFacts.{paired_long}
 use Rattle.csn_resolve.proofs.made.Made.len.Goals as goal
 
 pub returns-clause-len : goal.returns-clause-len

@@ -1,7 +1,7 @@
 use Rattle.std.proofs.Common.{◌≡◌, ◌++◌, ◌∷◌, [], length, ◌∙◌, rules, ap, arith, length-append}
 use Rattle.csn_resolve.specs.Gives.{placed}
 use Rattle.csn_resolve.specs.Made.{paired}
-use Rattle.csn_resolve.proofs.MadeFacts.{paired_long, paired_push}
+use Rattle.csn_resolve.proofs.Giving.MadeFacts.{paired_long, paired_push}
 use Rattle.csn_resolve.proofs.made.Made.push.Goals as goal
 
 pub invariant_of-self-else-is_err : goal.invariant_of-self-else-is_err

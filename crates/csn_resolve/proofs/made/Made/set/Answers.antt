@@ -1,5 +1,5 @@
 use Rattle.std.proofs.Common.{length, ◌∙◌, ap, arith}
-use Rattle.csn_resolve.proofs.MadeFacts.{paired_long, paired_set}
+use Rattle.csn_resolve.proofs.Giving.MadeFacts.{paired_long, paired_set}
 use Rattle.csn_resolve.proofs.made.Made.set.Goals as goal
 
 pub index_mut-requires : goal.index_mut-requires

@@ -1,6 +1,6 @@
 use Rattle.std.proofs.Common.{◌≡◌, Bool, List, sym, ◌∙◌, ap}
 use Rattle.csn_resolve.specs.Marked.{passes, marked}
-use Rattle.csn_resolve.proofs.LeastFacts.{found_passes, passes_found}
+use Rattle.csn_resolve.proofs.Emptiness.LeastFacts.{found_passes, passes_found}
 use Rattle.csn_resolve.proofs.marks.Marks.pass.Goals as goal
 
 pub returns : goal.returns

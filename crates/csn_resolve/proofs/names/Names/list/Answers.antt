@@ -7,8 +7,8 @@ use Rattle.csn_grammar.specs.declared.rules.Rule.{Rule}
 use Rattle.csn_grammar.specs.Names.{same_name, is_built_in, built_in_names}
 use Rattle.csn_resolve.specs.Walk.{is_among}
 use Rattle.csn_resolve.specs.Numbers.{rule_names}
-use Rattle.csn_resolve.proofs.Parts.{take_next}
-use Rattle.csn_resolve.proofs.NumberFacts.{taken_after, among-taken, key_there, twice-taken, twice-new, names-append, keys-append, own-append}
+use Rattle.csn_resolve.proofs.Basics.Parts.{take_next}
+use Rattle.csn_resolve.proofs.Naming.NumberFacts.{taken_after, among-taken, key_there, twice-taken, twice-new, names-append, keys-append, own-append}
 use Rattle.csn_resolve.proofs.names.Names.list.Goals.{then-is_built_in-via-then-is_built_in, then-is_built_in-via-else-is_built_in+in_ok-insert+then-not-branch}
 use Rattle.csn_resolve.proofs.names.Names.list.Goals as goal
 

@@ -4,7 +4,7 @@ use Rattle.csn_grammar.specs.Names.{built_in_names, is_built_in}
 use Rattle.csn_resolve.specs.Resolved.{twice_steps}
 use Rattle.csn_resolve.specs.Going.{way}
 use Rattle.csn_resolve.specs.Numbers.{rule_names}
-use Rattle.csn_resolve.proofs.NumberFacts.{taken_after}
+use Rattle.csn_resolve.proofs.Naming.NumberFacts.{taken_after}
 use Rattle.csn_resolve.proofs.names.Names.list.Given as goal
 
 abbrev pub invariant-loop-at : goal.invariant-loop-at

@@ -1,7 +1,7 @@
 use Rattle.std.proofs.Common.{◌≡◌, Some, None, sym, ◌∙◌, ap, arith}
 use Rattle.csn_grammar.specs.RulesV.{RulesV}
 use Rattle.csn_resolve.specs.Numbers.{number_in}
-use Rattle.csn_resolve.proofs.NumberFacts.{index_number, rule_found, rule_none}
+use Rattle.csn_resolve.proofs.Naming.NumberFacts.{index_number, rule_found, rule_none}
 use Rattle.csn_resolve.proofs.names.Names.number.Goals as goal
 
 pub overflow_cast-result : goal.overflow_cast-result

@@ -9,12 +9,12 @@ use Rattle.csn_resolve.specs.Gives.{start_of}
 use Rattle.csn_resolve.specs.Walk.{is_among, entering, node_at, turn_begun}
 use Rattle.csn_resolve.specs.Going.{way, stopped, LeafGoes}
 use Rattle.csn_resolve.specs.Views.{around_view, entered_view, seen_view, width_view, tail_view, end_view}
-use Rattle.csn_resolve.proofs.Parts.{item_size, branch_size_of, take_get, take_short, get_within}
-use Rattle.csn_resolve.proofs.DepthFacts.{in_deepest, entered}
-use Rattle.csn_resolve.proofs.ViewFacts.{known, frame-more}
-use Rattle.csn_resolve.proofs.GoingFacts.{stops-same, stops-in, stops-first, stops-later, stops-second, stops-third, goes-same, goes-after, goes-on, goes-third, way-on, way-third, refused-after}
-use Rattle.csn_resolve.proofs.Inversion.{lits-steps, null-steps, bit-steps, octet-steps, labelled-steps, group-steps, seq-steps, choice-steps, cut-steps, sends-steps, built-in-steps, name-steps, undefined-steps, recursive-steps, rule-steps, power-steps, both-steps, window-steps, window-behind-steps, no-window-steps, items-end-steps, items-next-steps, components-end-steps, components-next-steps, branches-end-steps, branches-next-steps, as-form, walk-in, items-in, components-in, branches-in, items-as, items-behind, components-as, components-behind, branches-as, count-at, tail-steps-at, power-stop, power-leaf, power-part}
-use Rattle.csn_resolve.proofs.WalkFacts.{inside-view, behind-in, putting-in, items-at, components-at, branches-at, branch-left-as}
+use Rattle.csn_resolve.proofs.Basics.Parts.{item_size, branch_size_of, take_get, take_short, get_within}
+use Rattle.csn_resolve.proofs.Walking.DepthFacts.{in_deepest, entered}
+use Rattle.csn_resolve.proofs.Naming.ViewFacts.{known, frame-more}
+use Rattle.csn_resolve.proofs.Walking.GoingFacts.{stops-same, stops-in, stops-first, stops-later, stops-second, stops-third, goes-same, goes-after, goes-on, goes-third, way-on, way-third, refused-after}
+use Rattle.csn_resolve.proofs.Walking.Inversion.{lits-steps, null-steps, bit-steps, octet-steps, labelled-steps, group-steps, seq-steps, choice-steps, cut-steps, sends-steps, built-in-steps, name-steps, undefined-steps, recursive-steps, rule-steps, power-steps, both-steps, window-steps, window-behind-steps, no-window-steps, items-end-steps, items-next-steps, components-end-steps, components-next-steps, branches-end-steps, branches-next-steps, as-form, walk-in, items-in, components-in, branches-in, items-as, items-behind, components-as, components-behind, branches-as, count-at, tail-steps-at, power-stop, power-leaf, power-part}
+use Rattle.csn_resolve.proofs.Walking.WalkFacts.{inside-view, behind-in, putting-in, items-at, components-at, branches-at, branch-left-as}
 use Rattle.csn_resolve.proofs.walker.Walker.+walk.Goals as goal
 
 pub walk-returns-in-Lits : goal.walk-returns-in-Lits

@@ -3,7 +3,7 @@ use Rattle.csn_resolve.specs.Seen.{seen_of}
 use Rattle.csn_resolve.specs.Counts.{Narrow, size_steps}
 use Rattle.csn_resolve.specs.Views.{seen_view}
 use Rattle.csn_resolve.specs.Marked.{MarksV, Passes}
-use Rattle.csn_resolve.proofs.LeftFacts.{narrow-steps, checks-same}
+use Rattle.csn_resolve.proofs.Walking.LeftFacts.{narrow-steps, checks-same}
 use Rattle.csn_resolve.proofs.walker.Walker.check_count.Goals as goal
 
 pub returns-else-not-pass : goal.returns-else-not-pass

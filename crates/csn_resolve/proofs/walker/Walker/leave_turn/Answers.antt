@@ -4,9 +4,9 @@ use Rattle.std.proofs.lemmas.Bool.{both_ways}
 use Rattle.csn_grammar.specs.Void.{Void}
 use Rattle.csn_resolve.specs.Marked.{MarksV, Passes}
 use Rattle.csn_resolve.specs.Going.{way}
-use Rattle.csn_resolve.proofs.Parts.{take_get, take_short}
-use Rattle.csn_resolve.proofs.LeftFacts.{refuses-where, refuses-not}
-use Rattle.csn_resolve.proofs.WalkFacts.{some-at, some-later, none-left}
+use Rattle.csn_resolve.proofs.Basics.Parts.{take_get, take_short}
+use Rattle.csn_resolve.proofs.Walking.LeftFacts.{refuses-where, refuses-not}
+use Rattle.csn_resolve.proofs.Walking.WalkFacts.{some-at, some-later, none-left}
 use Rattle.csn_resolve.proofs.walker.Walker.leave_turn.Goals as goal
 
 pub returns-then-pass : goal.returns-then-pass
