@@ -1,25 +1,26 @@
 -- The lines of an input, and the text that answers them. They are this project's own choice.
 use Rattle.std.specs.Prelude.{◌≢◌, ℕ, ◌==◌, Bool, if◌then◌else◌, ◌||◌, nat_lt, ◌-◌, slice_index, take, List, [], ◌∷◌, ◌++◌, length, map, filter, codes, nat_eq}
 use Rattle.std.specs.List.{AllByRecursion, flat_map, starts_with}
+use Rattle.csn_run.specs.declared.lines.TheConstants.{LINE_FEED, CARRIAGE_RETURN}
 
 -- a byte before the first of some lines
 abbrev pub begin_first : ℕ → List (List ℕ) → List (List ℕ)
 begin_first c [] = (c ∷ []) ∷ []
 begin_first c (line ∷ lines) = (c ∷ line) ∷ lines
 
--- the pieces of an input between its line feeds, each 10: the last piece is what stands behind the
+-- the pieces of an input between its line feeds: the last piece is what stands behind the
 -- last line feed
 abbrev pub between_feeds : List ℕ → List (List ℕ)
 between_feeds [] = [] ∷ []
-between_feeds (c ∷ bytes) = if c == 10 then [] ∷ between_feeds bytes else begin_first c (between_feeds bytes)
+between_feeds (c ∷ bytes) = if c == LINE_FEED then [] ∷ between_feeds bytes else begin_first c (between_feeds bytes)
 
 -- no line feed is among the bytes
 abbrev pub HasNoFeed : List ℕ → Type 0
-HasNoFeed bytes = AllByRecursion (λ c. c ≢ 10) bytes
+HasNoFeed bytes = AllByRecursion (λ c. c ≢ LINE_FEED) bytes
 
--- a line without one carriage return, 13, at its end
+-- a line without one carriage return at its end
 abbrev pub without_return : List ℕ → List ℕ
-without_return line = if slice_index line (length line - 1) == 13 then take (length line - 1) line else line
+without_return line = if slice_index line (length line - 1) == CARRIAGE_RETURN then take (length line - 1) line else line
 
 -- the lines among some pieces that have an answer, as they are answered: each without its carriage
 -- return, and no empty one
@@ -32,7 +33,7 @@ lines_of input = answered (between_feeds input)
 
 -- the answers as a text, each ended by a line feed
 abbrev pub text_of : List (List ℕ) → List ℕ
-text_of answers = flat_map (λ answer. answer ++ 10 ∷ []) answers
+text_of answers = flat_map (λ answer. answer ++ LINE_FEED ∷ []) answers
 
 -- an answer that refuses its line
 abbrev pub is_refusal : List ℕ → Bool

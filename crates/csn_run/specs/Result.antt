@@ -8,7 +8,7 @@ use Rattle.csn_grammar.specs.RulesV.{RulesV}
 use Rattle.csn_grammar.specs.Place.{HasRules, IsSyntaxPlace}
 use Rattle.csn_run.specs.declared.ended.Ended.{Ended}
 use Rattle.csn_run.specs.declared.ended.Ended.TheVariants.{Done, SomeRefused, Usage, BadDescription, NotCertified, ReadFault, WriteFault, NoMemory, TooLong}
-use Rattle.csn_run.specs.declared.lines.TheConstants.{MOST_INPUT}
+use Rattle.csn_run.specs.declared.lines.TheConstants.{LINE_FEED, MOST_INPUT}
 use Rattle.csn_run.specs.declared.top.TheConstants.{MOST_DESCRIPTION}
 use Rattle.csn_run.specs.Command.{IsShow, IsMigrate, NamesFile}
 use Rattle.csn_run.specs.Lines.{between_feeds}
@@ -52,10 +52,10 @@ pub data AnswersInput (Answer : List ℕ → List ℕ → Type 0) (input written
 pub data ShowsNone (name text written : List ℕ) (ended : Ended) : Type 0 where
   long_text : MOST_DESCRIPTION < length text → written ≡ [] → ended ≡ TooLong → ShowsNone name text written ended
   no_rules : (place : ℕ) → length text ≤ MOST_DESCRIPTION → IsSyntaxPlace text place
-      → written ≡ codes "syntax " ++ (decimal place ++ 10 ∷ []) → ended ≡ BadDescription
+      → written ≡ codes "syntax " ++ (decimal place ++ LINE_FEED ∷ []) → ended ≡ BadDescription
       → ShowsNone name text written ended
   not_built : (rules : RulesV) → length text ≤ MOST_DESCRIPTION → HasRules text rules
-      → (IsSimple rules name → ⊥) → written ≡ codes "later" ++ 10 ∷ [] → ended ≡ BadDescription
+      → (IsSimple rules name → ⊥) → written ≡ codes "later" ++ LINE_FEED ∷ [] → ended ≡ BadDescription
       → ShowsNone name text written ended
 
 -- what a run writes, and how it ends, where each file that its words name is there: it comes to no line,

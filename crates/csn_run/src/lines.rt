@@ -4,7 +4,7 @@ ghost use Rattle.std.specs.Prelude.{◌≡◌, ◌≤◌, ◌<◌, ◌+◌, ◌�
 ghost use Rattle.csn_io.specs.Faults.{Rose};
 ghost use Rattle.csn_io.specs.Got.{IfBytes, OnEnd, OnFailed, UnlessBytes, Gave, NothingLeft};
 ghost use Rattle.csn_io.specs.Put.{Appended};
-ghost use Rattle.csn_run.specs.declared.lines.TheConstants.{MOST_INPUT};
+ghost use Rattle.csn_run.specs.declared.lines.TheConstants.{LINE_FEED, MOST_INPUT};
 ghost use Rattle.csn_run.specs.Lines.{HasNoFeed, without_return, is_refusal};
 ghost use Rattle.csn_run.specs.Outside.{KeepsSteady};
 ghost use Rattle.csn_run.specs.Progress.{AddsAnswers, Advances, Halts, PassesOn, HaltsAt, AnswersAll, Stops};
@@ -17,6 +17,12 @@ use std::alloc::{AllocError, Global};
 
 /// The most bytes that an input may have.
 pub const MOST_INPUT: usize = 16_777_216;
+
+/// The end of a line.
+pub(crate) const LINE_FEED: u8 = b'\n';
+
+/// What may stand before it, and is no part of the line.
+const CARRIAGE_RETURN: u8 = b'\r';
 
 /// The most bytes that are asked for at once.
 const PIECE: usize = 4096;
@@ -41,7 +47,7 @@ fn strip_return(line: &[u8]) -> &[u8]
     ensures fits { length result.now ≤ length line.now }
 {
     match line {
-        [front @ .., b'\r'] => front,
+        [front @ .., CARRIAGE_RETURN] => front,
         _ => line,
     }
 }
@@ -49,9 +55,9 @@ fn strip_return(line: &[u8]) -> &[u8]
 /// The bytes before the first line feed, and those behind it.
 fn split_at_feed(bytes: &[u8]) -> Option<(&[u8], &[u8])>
     ensures none { IfNone result (HasNoFeed bytes.now) }
-    ensures some { IfSome result (λ parts. (bytes.now ≡ parts.0.now ++ 10 ∷ parts.1.now) × HasNoFeed parts.0.now) }
+    ensures some { IfSome result (λ parts. (bytes.now ≡ parts.0.now ++ LINE_FEED ∷ parts.1.now) × HasNoFeed parts.0.now) }
 {
-    let end = memchr(b'\n', bytes)?;
+    let end = memchr(LINE_FEED, bytes)?;
     Some((&bytes[..end], &bytes[end + 1..]))
 }
 
@@ -64,12 +70,12 @@ fn answer_with_feed<C: LineCommand>(
 ) -> Result<bool, AllocError>
     requires some { 0 < length line.now }
     requires fits { length line.now ≤ MOST_INPUT }
-    ensures ok { IfOk result (λ refused. (answer : List ℕ) × (out.new.items ≡ out.old.items ++ (answer ++ 10 ∷ []))
+    ensures ok { IfOk result (λ refused. (answer : List ℕ) × (out.new.items ≡ out.old.items ++ (answer ++ LINE_FEED ∷ []))
         × C.answers command.now line.now answer × (refused ≡ is_refusal answer)) }
     ensures err { OnErr result ((tail : List ℕ) × (out.new.items ≡ out.old.items ++ tail)) }
 {
     let refused = command.answer(alloc, line, out)?;
-    out.push(b'\n')?;
+    out.push(LINE_FEED)?;
     Ok(refused)
 }
 

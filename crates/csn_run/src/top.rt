@@ -5,6 +5,7 @@ ghost use Rattle.csn_io.specs.Faults.{Rose};
 ghost use Rattle.csn_io.specs.Got.{NothingLeft};
 ghost use Rattle.csn_io.specs.Put.{Appended, FlushedAll};
 ghost use Rattle.csn_io.specs.ShelfFault.{BeginsFile, LacksFile};
+ghost use Rattle.csn_run.specs.declared.lines.TheConstants.{LINE_FEED};
 ghost use Rattle.csn_run.specs.Command.{IsCommand, IsRowOf, IsShow, NamesFile};
 ghost use Rattle.csn_run.specs.Progress.{AnswersAll, Stops};
 ghost use Rattle.csn_run.specs.Outside.{CannotRead, KeepsSteady};
@@ -25,10 +26,11 @@ use crate::show::Show;
 use crate::simple::things_of;
 use csn_grammar::{GrammarFault, read_rules};
 use csn_io::{Shelf, ShelfFault, Sink, Source};
+use csn_lexer::MOST_TEXT;
 use std::alloc::{AllocError, Global};
 
 /// The most bytes that a description may have.
-pub const MOST_DESCRIPTION: u32 = 262_144;
+pub const MOST_DESCRIPTION: u32 = MOST_TEXT;
 
 /// How a job ended that met no fault.
 #[derive(Clone, Copy)]
@@ -61,7 +63,7 @@ fn description<B: Shelf>(alloc: Global, shelf: &mut B, file: &str) -> Result<Vec
 
 /// Writes the line that answers a text which has no rules.
 fn answer_syntax(place: u32, out: &mut Vec<u8>) -> Result<(), AllocError>
-    ensures ok { OnOk result (out.new.items ≡ out.old.items ++ (codes "syntax " ++ (decimal place ++ 10 ∷ []))) }
+    ensures ok { OnOk result (out.new.items ≡ out.old.items ++ (codes "syntax " ++ (decimal place ++ LINE_FEED ∷ []))) }
 {
     out.extend_from_slice(b"syntax ")?;
     push_number(out, place)?;
@@ -72,7 +74,7 @@ fn answer_syntax(place: u32, out: &mut Vec<u8>) -> Result<(), AllocError>
 fn refuse_text(fault: GrammarFault, pending: &mut Vec<u8>) -> Result<Outcome, Fault>
     requires { pending.old.items ≡ [] }
     ensures ok { IfOk result (λ outcome. (outcome ≡ Outcome.BadDescription) × (place : ℕ) × (fault ≡ GrammarFault.Syntax place)
-        × (pending.new.items ≡ codes "syntax " ++ (decimal place ++ 10 ∷ []))) }
+        × (pending.new.items ≡ codes "syntax " ++ (decimal place ++ LINE_FEED ∷ []))) }
     ensures err { IfErr result (λ cause. (cause ≡ Fault.Memory) × (pending.new.items ≡ [])) }
 {
     match fault {
