@@ -45,7 +45,8 @@ module _ (strings : StringsAreFollowed) (d : DescV) where
   components_followed some (follows_trunc h) = h
 
 module _ (d : DescV) where
-  lead_some : {parts : List ℕ} {o : ℕ} {v : Values} {b : List ℕ} {ts : Trees} → LeadMean d parts o v b ts → 0 < length b
+  -- some first parts of a truncation have a bit
+  pub lead_some : {parts : List ℕ} {o : ℕ} {v : Values} {b : List ℕ} {ts : Trees} → LeadMean d parts o v b ts → 0 < length b
   lead_some (lead_last some h) = some
   lead_some (lead_next b1 b2 cut h others) = let size = ap length cut in omega (arith, lead_some others, length-append b1 b2)
 

@@ -1,6 +1,6 @@
 -- In a certified description any bits have at most one tree, at the root and, whatever may stand behind, at
 -- each node.
-use Rattle.std.proofs.Common.{◌≡◌, ℕ, ◌+◌, ◌*◌, ◌%◌, ◌<◌, List, [], ◌∷◌, ◌++◌, length, refl, sym, ◌∙◌, ap, subst, arith, append_assoc, append-nil, length-append, Some, slice_get}
+use Rattle.std.proofs.Common.{◌≡◌, ℕ, ◌+◌, ◌*◌, ◌%◌, List, [], ◌∷◌, ◌++◌, length, refl, sym, ◌∙◌, ap, subst, arith, append_assoc, append-nil, length-append, Some, slice_get}
 use Rattle.csn_desc.specs.declared.node.Count.{Count}
 use Rattle.csn_desc.specs.declared.node.Node.{Node}
 use Rattle.csn_desc.specs.declared.node.Node.TheVariants.{Pad, Rest, Seq, Times, Many, Trunc}
@@ -18,6 +18,7 @@ use Rattle.csn_certify.specs.Conflicts.{Certified}
 use Rattle.csn_certify.specs.Known.{Known}
 use Rattle.csn_certify.proofs.Here.{Here, here_of, Stands, end_stands, fits_kept, ends, choice_reached, choice_stands, named_stands, seq_stands, lead_stands, last_stands, times_stands, many_stands}
 use Rattle.csn_certify.proofs.Pieces.{order, equal_numbers, first_less, second_less, same_length, same_ends, cut_first, cut_rest}
+use Rattle.csn_certify.proofs.Components.{lead_some}
 use Rattle.csn_certify.proofs.Decisions.{nothing_behind, no_loop, no_two}
 
 -- the bits are the same, and so are the trees
@@ -63,10 +64,6 @@ module _ (d : DescV) where
 
   pub meaning_along : {i k o : ℕ} {v : Values} {c : List ℕ} {u : TreeV} → i ≡ k → NMeans d k o v c u → NMeans d i o v c u
   meaning_along {o = o} {v = v} {c = c} {u = u} same h = let P : ℕ → Type 0 = λ i. NMeans d i o v c u in subst P (sym same) h
-
-  lead_some : {parts : List ℕ} {o : ℕ} {v : Values} {b : List ℕ} {ts : Trees} → LeadMean d parts o v b ts → 0 < length b
-  lead_some (lead_last some h) = some
-  lead_some (lead_next b1 b2 cut h others) = let size = ap length cut in omega (arith, lead_some others, length-append b1 b2)
 
 module _ (d : DescV) (most : ℕ) (here : Here d) (certified : Certified d most) where
   -- ---- one tree

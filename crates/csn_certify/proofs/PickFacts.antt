@@ -21,7 +21,7 @@ use Rattle.csn_certify.specs.declared.conflict.Conflict.TheVariants.{TwoEmpty, N
 use Rattle.csn_certify.specs.Conflicts.{IsNull, IsBegunBy, two_empty, choice_not_firm, overlap, empty_clash, loop_clash, Certified}
 use Rattle.csn_certify.specs.Picks.{BeginsWithKey, BeginsKey, StandsBehind, behind_bit, behind_end, TakesNone}
 use Rattle.csn_certify.proofs.Here.{Here, Stands, nullable, starts, follows, many_start, keys, near_keys, has_key, key_start}
-use Rattle.csn_certify.proofs.Pieces.{order, equal_numbers, first_less, second_less, null_or, begun_both}
+use Rattle.csn_certify.proofs.Pieces.{order, equal_numbers, first_less, second_less, null_or, begun_both, some_bit, no_front}
 use Rattle.csn_certify.proofs.Decisions.{null_bits, stands_here}
 
 -- numbers are the same where it cannot be that they differ
@@ -39,10 +39,6 @@ either_way (inr b) = inl b
 
 octet-lt : (o : ℕ) → o % 8 < 8
 octet-lt o = omega arith
-
-no_front : (a b : List ℕ) → a ++ b ≡ [] → a ≡ []
-no_front [] b none = refl
-no_front (x ∷ a) b none = absurd (cc)
 
 -- ---- the parts of a choice
 
@@ -222,26 +218,22 @@ module _ (d : DescV) (most : ℕ) (here : Here d) (certified : Certified d most)
           is_part = other.at;
           key = key.key;
           begins = (key.word, refl);
-          not_all = longer key.word (λ nothing. some_key other.j other.at real key.key nothing);
+          not_all = some_bit key.word (λ nothing. some_key other.j other.at real key.key nothing);
         }
       ]
-    where
-      longer : (w : List ℕ) → (w ≡ [] → ⊥) → 0 < length w
-      longer [] some = absurd (some refl)
-      longer (a ∷ w) some = omega arith
+
+  -- the held bits begin with a key of an alternative that takes bits; and so where they are all of it
+  with_key : {q : ℕ} {held word : List ℕ} {mark : Bool} (m : ℕ) (rest : List ℕ) → slice_get parts m ≡ Some q → (IsNull d q → ⊥) → InKeys d most q (o % 8) word mark → held ≡ word ++ rest → BeginsWithKey d most parts (o % 8) held m
+  with_key {q} {word = word} {mark = mark} m rest at_m real key is =
+      record { part = q; word = word; mark = mark; is_part = at_m; takes_bits = real; key = key; begins = (rest, is) }
+
+  all_held : (held word : List ℕ) → word ≡ held ++ [] → held ≡ word ++ []
+  all_held held word is = sym (append-nil held) ∙ sym is ∙ sym (append-nil word)
 
   -- a key that the held bits begin, where they are all of it or not
   key_left : {q : ℕ} {held word : List ℕ} {mark : Bool} (m : ℕ) (r : List ℕ) → slice_get parts m ≡ Some q → (IsNull d q → ⊥) → InKeys d most q (o % 8) word mark → word ≡ held ++ r → ((j : ℕ) → ¬ BeginsWithKey d most parts (o % 8) held j) → ¬ BeginsKey d most parts (o % 8) held → ⊥
-  key_left {q = q} {held = held} {word = word} {mark = mark} m [] at_m real key is no_key no_more =
-      no_key m (record {
-        part = q;
-        word = word;
-        mark = mark;
-        is_part = at_m;
-        takes_bits = real;
-        key = key;
-        begins = ([], sym (append-nil held) ∙ sym is ∙ sym (append-nil word));
-      })
+  key_left {held = held} {word = word} m [] at_m real key is no_key no_more =
+      no_key m (with_key m [] at_m real key (all_held held word is))
   key_left {q = q} {held = held} {word = word} {mark = mark} m (a ∷ r) at_m real key is no_key no_more =
       let size = ap length is in
       no_more (record {
@@ -257,24 +249,14 @@ module _ (d : DescV) (most : ℕ) (here : Here d) (certified : Certified d most)
 
   -- bits that begin with a key, and with the held bits
   begun_left : {q : ℕ} {held word : List ℕ} {mark : Bool} (m : ℕ) (rest more : List ℕ) (ended : Bool) → slice_get parts m ≡ Some q → (IsNull d q → ⊥) → InKeys d most q (o % 8) word mark → word ++ rest ≡ held ++ more → (ended ≡ true → more ≡ []) → ((j : ℕ) → ¬ BeginsWithKey d most parts (o % 8) held j) → (ended ≡ false → ¬ BeginsKey d most parts (o % 8) held) → ⊥
-  begun_left {q} {held = held} {word = word} {mark = mark} m rest more ended at_m real key e over no_key no_more =
+  begun_left {held = held} {word = word} m rest more ended at_m real key e over no_key no_more =
       by_split (splits word rest held more e) ended refl
     where
       by_split : Splits word rest held more → (last : Bool) → ended ≡ last → ⊥
       by_split (inside r p s) false is = key_left m r at_m real key p no_key (no_more is)
-      by_split (inside [] p s) true is =
-          no_key m (record {
-            part = q;
-            word = word;
-            mark = mark;
-            is_part = at_m;
-            takes_bits = real;
-            key = key;
-            begins = ([], sym (append-nil held) ∙ sym p ∙ sym (append-nil word));
-          })
+      by_split (inside [] p s) true is = no_key m (with_key m [] at_m real key (all_held held word p))
       by_split (inside (a ∷ r) p s) true is = let none = over is in absurd (cc)
-      by_split (behind r p s) last is =
-          no_key m (record { part = q; word = word; mark = mark; is_part = at_m; takes_bits = real; key = key; begins = (r, p) })
+      by_split (behind r p s) last is = no_key m (with_key m r at_m real key p)
 
   -- where look-ahead refuses, no bits ahead have a tree at an alternative
   pub refused_means : {q : ℕ} {v : Values} {held b : List ℕ} {t : TreeV} (m : ℕ) (ended : Bool) (x more : List ℕ) → ChoiceFormed d parts → ((j : ℕ) → ¬ BeginsWithKey d most parts (o % 8) held j) → ((i : ℕ) → ¬ TakesNone d most k parts (o % 8) held ended i) → (ended ≡ false → ¬ BeginsKey d most parts (o % 8) held) → (ended ≡ true → more ≡ []) → slice_get parts m ≡ Some q → NMeans d q o v b t → b ++ x ≡ held ++ more → Stands d k o b x → ⊥

@@ -1,5 +1,5 @@
 -- The answers of look-ahead, each against the trees of what lies ahead.
-use Rattle.std.proofs.Common.{◌≡◌, ℕ, ◌+◌, ◌%◌, ◌<◌, Bool, true, false, List, [], ◌∷◌, ◌++◌, length, refl, sym, ◌∙◌, ap, subst, arith, length-append, Some, slice_get}
+use Rattle.std.proofs.Common.{◌≡◌, ℕ, ◌+◌, ◌%◌, ◌<◌, Bool, true, false, List, [], ◌++◌, length, refl, sym, ◌∙◌, ap, subst, arith, length-append, Some, slice_get}
 use Rattle.csn_desc.specs.declared.node.Node.TheVariants.{Choice, Many}
 use Rattle.csn_desc.specs.TreeV.{TreeV, row, alt, Trees, none}
 use Rattle.csn_desc.specs.Nodes.{DescV}
@@ -15,6 +15,7 @@ use Rattle.csn_certify.specs.Conflicts.{Certified}
 use Rattle.csn_certify.specs.Picks.{Picks, BeginsWithKey, BeginsKey, TakesNone, pick_key, pick_none, pick_refuse, pick_again, pick_leave, pick_ended}
 use Rattle.csn_certify.specs.Ahead.{LiesAhead}
 use Rattle.csn_certify.proofs.Here.{Here, Stands}
+use Rattle.csn_certify.proofs.Pieces.{no_front}
 use Rattle.csn_certify.proofs.PickFacts.{ChoiceFormed, key_decides, key_decides_followed, none_decides, none_decides_followed, refused_means, refused_follows, goes_on, stops}
 
 -- ---- trees of the kinds of node
@@ -100,10 +101,6 @@ module _ (d : DescV) (most : ℕ) (here : Here d) (certified : Certified d most)
   goes_on_right later at reached ahead (pick_none parts is no_key h) same = absurd (cc)
 
 module _ (d : DescV) (here : Here d) where
-  no_own : (own others : List ℕ) → own ++ others ≡ [] → own ≡ []
-  no_own [] others e = refl
-  no_own (x ∷ own) others e = absurd (cc)
-
   pub stops_right : {most node part o : ℕ} {v : Values} {held later : List ℕ} {ended : Bool} {t : TreeV} → slice_get d.nodes node ≡ Some (Many part) → FitWidths d v → (ended ≡ true → later ≡ []) → LiesAhead d node o v (held ++ later) t → Picks d most node (o % 8) held ended Leave → t ≡ row none
   stops_right {node = node} {part = part} {o = o} {v = v} {later = later} at widths over ahead (pick_leave {bit = bit} {rest = rest} those is never) =
       let that : those ≡ part = cc in
@@ -113,4 +110,4 @@ module _ (d : DescV) (here : Here d) where
       of_many : {t : TreeV} → NodeMeans d (Many part) o v ahead.own t → (InStart d part (o % 8) bit → ⊥) → t ≡ row none
       of_many (means_many h) absent = none_row d (means_many h) (stops d here node ahead.others bit (rest ++ later) at widths absent h (sym ahead.split))
   stops_right at widths over ahead (pick_ended those is ended) =
-      none_row d (meaning_at d at ahead.means) (no_own ahead.own ahead.others (sym ahead.split ∙ over ended))
+      none_row d (meaning_at d at ahead.means) (no_front ahead.own ahead.others (sym ahead.split ∙ over ended))

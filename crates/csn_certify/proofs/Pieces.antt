@@ -9,6 +9,10 @@ use Rattle.csn_certify.specs.Conflicts.{IsBegunBy}
 
 -- ---- lists
 
+pub no_front : (a b : List ℕ) → a ++ b ≡ [] → a ≡ []
+no_front [] b none = refl
+no_front (x ∷ a) b none = absurd (cc)
+
 pub some_bit : (b : List ℕ) → (b ≡ [] → ⊥) → 0 < length b
 some_bit [] some = absurd (some refl)
 some_bit (a ∷ b) some = omega arith
