@@ -1,39 +1,23 @@
 -- Where a description has no windows, bits that are followed begin a string: each part that is still to come has one.
-use Rattle.std.proofs.Common.{◌≡◌, ℕ, zero, suc, ◌+◌, ◌*◌, true, List, [], ◌∷◌, ◌++◌, length, refl, sym, ◌∙◌, ap, subst, arith, append_assoc, append-nil, Some, None, Option, slice_get}
-use Rattle.std.specs.Prelude.{replicate, IsSome}
+use Rattle.std.proofs.Common.{◌≡◌, ℕ, zero, suc, ◌+◌, ◌*◌, true, List, [], ◌∷◌, ◌++◌, length, refl, sym, ◌∙◌, ap, subst, arith, append_assoc, append-nil, Some, slice_get}
+use Rattle.std.specs.Prelude.{replicate}
 use Rattle.std.proofs.lemmas.List.{length-replicate}
+use Rattle.csn_bits.proofs.Packing.{IsBits-zeros}
 use Rattle.csn_desc.specs.declared.symbol.Symbol.TheVariants.{Low}
-use Rattle.csn_desc.specs.declared.node.Count.{Count}
-use Rattle.csn_desc.specs.declared.node.Count.TheVariants.{Fixed, Counted}
 use Rattle.csn_desc.specs.declared.node.Node.{Node}
 use Rattle.csn_desc.specs.declared.node.Node.TheVariants.{Lits, Spare, Pad, Null, Field, Rest, Seq, Choice, Times, Many, Trunc, Window, Named}
 use Rattle.csn_desc.specs.TreeV.{TreeV, row, alt, named, Trees, none, more}
 use Rattle.csn_desc.specs.Nodes.{DescV, parts_of}
 use Rattle.csn_desc.specs.Spelled.{spelled}
-use Rattle.csn_desc.specs.Values.{Values, value_of, count_of, with_value}
+use Rattle.csn_desc.specs.Values.{Values, with_value}
 use Rattle.csn_desc.specs.Means.{NMeans, NodeMeans, PartsMean, TimesMean, ManyMean, LeadMean, means_at, means_lits, means_spare, means_pad, means_null, means_field, means_rest, means_seq, means_choice, means_times, means_many, means_cut, means_trunc, means_named, parts_end, parts_next, times_end, times_next, many_end, many_next, lead_last, lead_next}
 use Rattle.csn_desc.specs.Follows.{NFollow, NodeFollows, PartsFollow, TimesFollow, ManyFollow, follows_at, follows_whole, follows_lits, follows_spare, follows_pad, follows_field, follows_seq, follows_choice, follows_times, follows_many, follows_trunc, follows_window, follows_named, parts_here, parts_later, times_here, times_later, many_here, many_later}
-use Rattle.csn_desc.specs.Formed.{IsCount, shows_earlier, Formed, PartsFormed, formed, formed_end, formed_next, HaveValues, IsDescription}
+use Rattle.csn_desc.specs.Formed.{shows_earlier, Formed, PartsFormed, formed, formed_end, formed_next, HaveValues, IsDescription}
 use Rattle.csn_desc.proofs.BitFacts.{spelled_is_spare}
-use Rattle.csn_desc.proofs.Empties.{nothing_seen}
-use Rattle.csn_desc.proofs.ValuesKept.{values_kept}
 use Rattle.csn_look.proofs.NearFacts.{held_along}
 use Rattle.csn_look.proofs.KeyFollowed.{choice_formed}
 use Rattle.csn_certify.specs.Laws.{HasNoWindow}
-use Rattle.csn_bits.proofs.Packing.{IsBits-zeros}
-
--- a count that stands on a field with a value is a number
-record Number (v : Values) (count : Count) : Type 0 where
-  n : ℕ
-  is : count_of v count ≡ Some n
-
-number : (nodes : List Node) (seen : List ℕ) (v : Values) (count : Count) → HaveValues v seen → IsCount nodes seen count → Number v count
-number nodes seen v (Fixed n) values is = record { n = n; is = refl }
-number nodes seen v (Counted m field c) values is = found (value_of v field) refl (values field is.2)
-  where
-    found : (value : Option ℕ) → value_of v field ≡ value → IsSome value → Number v (Counted m field c)
-    found None e some = absurd (cc)
-    found (Some x) e some = record { n = m * x + c; is = rw e refl }
+use Rattle.csn_certify.specs.Known.{Known}
 
 module _ (d : DescV) where
   -- ---- strings
@@ -129,7 +113,7 @@ module _ (d : DescV) where
   lead_node (lead_empty nothing) = record { rest = []; tree = row none; means = means_cut (ap (λ l. l ++ []) nothing) }
   lead_node (lead_some {ts = ts} rest h) = record { rest = rest; tree = row ts; means = means_trunc h }
 
-module _ (d : DescV) (no_window : HasNoWindow d) where
+module _ (known : Known) (d : DescV) (no_window : HasNoWindow d) where
   mutual
     has_string : {seen : List ℕ} {round i : ℕ} (o : ℕ) (v : Values) → HaveValues v seen → Formed d.nodes seen round i → AString d i o v
     has_string o v values (formed (Lits run) at few head have room held) = at_node d (spelled run o) at (means_lits refl)
@@ -137,8 +121,8 @@ module _ (d : DescV) (no_window : HasNoWindow d) where
     has_string o v values (formed Pad at few head have room held) = at_node d (spelled (Low ∷ []) o) at (means_pad (omega arith) (spelled_is_spare d.reading Low o))
     has_string o v values (formed Null at few head have room held) = at_node d [] at (means_null refl)
     has_string {seen = seen} o v values (formed (Field unit count) at few head have room held) =
-        let c = number d.nodes seen v count values head.1 in
-        at_node d (replicate (unit * c.n) 0) at (means_field c.n c.is (length-replicate (unit * c.n) 0) (IsBits-zeros (unit * c.n)))
+        let c = known.counts d.nodes seen v count values head.1 in
+        at_node d (replicate (unit * c.0) 0) at (means_field c.0 c.1 (length-replicate (unit * c.0) 0) (IsBits-zeros (unit * c.0)))
     has_string o v values (formed Rest at few head have room held) = at_node d [] at (means_rest tt)
     has_string o v values (formed (Seq parts) at few head have room held) =
         let h = has_strings o v values held in at_node d h.word at (means_seq h.means)
@@ -146,9 +130,9 @@ module _ (d : DescV) (no_window : HasNoWindow d) where
     has_string o v values (formed (Choice (p ∷ ps)) at few head have room (formed_next first others)) =
         let h = has_string o v values first in at_node d h.word at (means_choice {j = 0} refl h.means)
     has_string {seen = seen} o v values (formed (Times count p) at few head have room (formed_next first others)) =
-        let c = number d.nodes seen v count values head in
-        let h = turns d c.n p o v (λ q. has_string q v values first) in
-        at_node d h.word at (means_times c.n c.is h.means)
+        let c = known.counts d.nodes seen v count values head in
+        let h = turns d c.0 p o v (λ q. has_string q v values first) in
+        at_node d h.word at (means_times c.0 c.1 h.means)
     has_string o v values (formed (Many p) at few head have room held) = at_node d [] at (means_many (many_end refl))
     has_string o v values (formed (Trunc parts) at few head have room held) = at_node d [] at (means_cut refl)
     has_string {i = i} o v values (formed (Window unit count p) at few head have room held) = absurd (no_window i unit p count at)
@@ -159,7 +143,7 @@ module _ (d : DescV) (no_window : HasNoWindow d) where
     has_strings o v values formed_end = record { word = []; trees = none; means = parts_end refl }
     has_strings {seen = seen} o v values (formed_next {i = i} first others) =
         let h = has_string o v values first in
-        let hs = has_strings (o + length h.word) (with_value d.nodes i h.word v) (values_kept d.nodes i h.word v seen values) others in
+        let hs = has_strings (o + length h.word) (with_value d.nodes i h.word v) (known.there d.nodes i v h.word seen values) others in
         record {
           word = h.word ++ hs.word;
           trees = more h.tree hs.trees;
@@ -196,14 +180,14 @@ module _ (d : DescV) (no_window : HasNoWindow d) where
     parts_extend {seen = seen} {o = o} {b = b} v values (formed_next {i = i} first others) (parts_here h) =
         let e = extend v values first h in
         let front = b ++ e.rest in
-        let hs = has_strings (o + length front) (with_value d.nodes i front v) (values_kept d.nodes i front v seen values) others in
+        let hs = has_strings (o + length front) (with_value d.nodes i front v) (known.there d.nodes i v front seen values) others in
         record {
           rest = e.rest ++ hs.word;
           trees = more e.tree hs.trees;
           means = parts_next front hs.word (sym (append_assoc b e.rest hs.word)) e.means hs.means;
         }
     parts_extend {seen = seen} v values (formed_next {i = i} first others) (parts_later {t = t} b1 b2 is h hs) =
-        let e = parts_extend (with_value d.nodes i b1 v) (values_kept d.nodes i b1 v seen values) others hs in
+        let e = parts_extend (with_value d.nodes i b1 v) (known.there d.nodes i v b1 seen values) others hs in
         record {
           rest = e.rest;
           trees = more t e.trees;
@@ -244,7 +228,7 @@ module _ (d : DescV) (no_window : HasNoWindow d) where
     lead_extend {b = b} v values (formed_next {parts = parts} first others) (parts_here h) =
         let e = extend v values first h in last_lead d parts b e.rest (b ++ e.rest) refl e.means
     lead_extend {seen = seen} v values (formed_next {i = i} first others) (parts_later b1 b2 is h hs) =
-        next_lead d b1 b2 is h (lead_extend (with_value d.nodes i b1 v) (values_kept d.nodes i b1 v seen values) others hs)
+        next_lead d b1 b2 is h (lead_extend (with_value d.nodes i b1 v) (known.there d.nodes i v b1 seen values) others hs)
 
-pub string_of : (d : DescV) → IsDescription d → HasNoWindow d → {b : List ℕ} → NFollow d 0 0 [] b → (rest : List ℕ) × (t : TreeV) × NMeans d 0 0 [] (b ++ rest) t
-string_of d is no_window h = let e = extend d no_window [] nothing_seen is.well_formed h in (e.rest, e.tree, e.means)
+pub string_of : Known → (d : DescV) → IsDescription d → HasNoWindow d → {b : List ℕ} → NFollow d 0 0 [] b → (rest : List ℕ) × (t : TreeV) × NMeans d 0 0 [] (b ++ rest) t
+string_of known d is no_window h = let e = extend known d no_window [] (known.no_values d).0 is.well_formed h in (e.rest, e.tree, e.means)

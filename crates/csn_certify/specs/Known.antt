@@ -1,11 +1,13 @@
 -- What the laws of csn_desc and csn_look say of values, of meant and followed bits and of what stands behind parts, in
 -- one record, which lemmas take. No public contract cites it.
-use Rattle.csn_desc.specs.Laws.{ValuesStayFitting, NoValuesFit}
+use Rattle.csn_desc.specs.Laws.{ValuesStayThere, ValuesStayFitting, NoValuesFit, CountsAreNumbers}
 use Rattle.csn_look.specs.Laws.{NoBitsAreOfNullable, MeantBitsEnd, MeantBitsStart, FollowedBitsStart, MeantBitsBeginWithKeys, FollowedBitsBeginKeys, NodesHaveKeys, KeysStart, BehindPartsOfSequences, FollowedBehindPartsOfSequences, BehindPartsOfTruncations, BehindLastOfTruncations, BehindTurns, FollowedBehindTurns, BehindFreeTurns, FollowedBehindFreeTurns, BehindAlternatives, BehindLabelledParts, ChoicesReach}
 
 pub record Known : Type 0 where
+  pub there : ValuesStayThere
   pub fitting : ValuesStayFitting
   pub no_values : NoValuesFit
+  pub counts : CountsAreNumbers
   pub nullable : NoBitsAreOfNullable
   pub ends : MeantBitsEnd
   pub starts : MeantBitsStart

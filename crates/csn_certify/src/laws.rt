@@ -130,7 +130,9 @@ pub fn waiting_is_followed()
 /// Where a description has no windows, bits that can be followed are the first of a string.
 pub fn followed_begin_strings()
     ensures { FollowedBeginStrings }
-{}
+{
+    known();
+}
 
 /// Bits are followed in one way where the description is certified: a node does not follow bits that have a
 /// tree there together with a bit that may stand behind it.

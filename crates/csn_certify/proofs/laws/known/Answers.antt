@@ -3,8 +3,10 @@ use Rattle.csn_certify.proofs.laws.known.Goals as goal
 pub returns : goal.returns
 returns c =
     record {
+      there = c.values_are_kept.ensures.there;
       fitting = c.values_are_kept.ensures.fitting;
       no_values = c.values_are_kept.ensures.none;
+      counts = c.values_are_kept.ensures.counts;
       nullable = c.no_bits_are_of_nullable.ensures;
       ends = c.bits_end.ensures.meant;
       starts = c.bits_start.ensures.meant;
