@@ -7,7 +7,7 @@ use Rattle.std.proofs.lemmas.Option.{slice_get_within}
 use Rattle.std.proofs.lemmas.List.{take_all, take-append-le, length-take, length-replicate}
 use Rattle.csn_bits.specs.Octets.{IsBits}
 use Rattle.csn_bits.proofs.Packing.{IsBits-append, IsBits-zeros}
-use Rattle.csn_desc.specs.declared.reading.Reading.{Reading}
+use Rattle.csn_desc.specs.declared.reading.Reading.TheVariants.{Received, Sent}
 use Rattle.csn_desc.specs.declared.symbol.Symbol.{Symbol}
 use Rattle.csn_desc.specs.declared.symbol.Symbol.TheVariants.{Low}
 use Rattle.csn_desc.specs.declared.node.Count.{Count}
@@ -94,64 +94,19 @@ spelled_all run o at size is low high =
 
 -- ---- spare bits
 
-module _ (reading : Reading) (symbol : Symbol) (whole : Bool) (o : ℕ) where
-  -- the bits below a limit that may be spare ones
-  pub record SpareBelow (limit : ℕ) (word : List ℕ) (mark : Bool) : Type 0 where
-    pub bit : ℕ
-    pub below : bit < limit
-    pub is : word ≡ bit ∷ []
-    pub spare : IsSpare reading symbol o (bit ∷ [])
-    pub same : mark ≡ whole
+-- one that is received may be either bit
+pub received_spare : (symbol : Symbol) (whole : Bool) (o : ℕ) (word : List ℕ) (mark : Bool) → IsWord word → ((length word ≡ 1) × (mark ≡ whole)) ↔ IsSpareKey Received symbol whole o word mark
+received_spare symbol whole o word mark is = ((λ h. (h.0, is.bits, h.1)), (λ h. (h.0, h.2)))
 
-  pub spare_none : (marks : List ℕ) → KeysAre marks (λ word mark. ⊥) → KeysAre marks (SpareBelow 0)
-  spare_none marks none = keys_as marks (λ word mark. ⊥) (SpareBelow 0) none (λ word mark is. (λ no. absurd no, λ h. let b = h.below in absurd (omega arith)))
-
-  pub spare_with :
-      (old new : List ℕ) (bit : ℕ) → KeysAre old (SpareBelow bit) → IsSpare reading symbol o (bit ∷ []) → Adds old new (λ key mark. (key ≡ bit ∷ []) × (mark ≡ whole))
-      → KeysAre new (SpareBelow (bit + 1))
-  spare_with old new bit are spare adds =
-      keys_as new (λ word mark. SpareBelow bit word mark ⊎ ((word ≡ bit ∷ []) × (mark ≡ whole))) (SpareBelow (bit + 1))
-      (keys_added old new (SpareBelow bit) (λ key mark. (key ≡ bit ∷ []) × (mark ≡ whole)) are adds)
-      (λ word mark is. (
-        (λ h. elim h [
-          | inl s ↦ let b = s.below in record { bit = s.bit; below = omega arith; is = s.is; spare = s.spare; same = s.same }
-          | inr e ↦ record { bit = bit; below = omega arith; is = e.0; spare = spare; same = e.1 }
-        ]),
-        (λ s. elim (last s.bit bit s.below) [
-          | inl b ↦ inl (record { bit = s.bit; below = b; is = s.is; spare = s.spare; same = s.same })
-          | inr e ↦ inr (s.is ∙ ap (λ n. n ∷ []) e, s.same)
-        ]),
-      ))
-    where
-      last : (m n : ℕ) → m < n + 1 → (m < n) ⊎ (m ≡ n)
-      last m n h = grind arith
-
-  pub spare_without : (marks : List ℕ) (bit : ℕ) → KeysAre marks (SpareBelow bit) → (IsSpare reading symbol o (bit ∷ []) → ⊥) → KeysAre marks (SpareBelow (bit + 1))
-  spare_without marks bit are not =
-      keys_as marks (SpareBelow bit) (SpareBelow (bit + 1)) are
-      (λ word mark is. (
-        (λ s. let b = s.below in record { bit = s.bit; below = omega arith; is = s.is; spare = s.spare; same = s.same }),
-        (λ s. elim (last s.bit bit s.below) [
-          | inl b ↦ record { bit = s.bit; below = b; is = s.is; spare = s.spare; same = s.same }
-          | inr e ↦ let P : ℕ → Type 0 = λ n. IsSpare reading symbol o (n ∷ []) in absurd (not (subst P e s.spare))
-        ]),
-      ))
-    where
-      last : (m n : ℕ) → m < n + 1 → (m < n) ⊎ (m ≡ n)
-      last m n h = grind arith
-
-  pub spare_all : (marks : List ℕ) (limit : ℕ) → 2 ≤ limit → KeysAre marks (SpareBelow limit) → KeysAre marks (IsSpareKey reading symbol whole o)
-  spare_all marks limit all are =
-      keys_as marks (SpareBelow limit) (IsSpareKey reading symbol whole o) are
-      (λ word mark is. (
-        (λ s. let P : List ℕ → Type 0 = λ w. IsSpare reading symbol o w in (ap length s.is, subst P (sym s.is) s.spare, s.same)),
-        (λ h. of_word word mark is h.0 h.1 h.2),
-      ))
-    where
-      of_word : (word : List ℕ) (mark : Bool) → IsWord word → length word ≡ 1 → IsSpare reading symbol o word → mark ≡ whole → SpareBelow limit word mark
-      of_word [] mark is one spare same = absurd (omega arith)
-      of_word (a ∷ []) mark is one spare same = let bit = is.bits.0 in record { bit = a; below = omega arith; is = refl; spare = spare; same = same }
-      of_word (a ∷ (b ∷ w)) mark is one spare same = absurd (omega arith)
+-- and one that is sent is its symbol's
+pub sent_spare : (symbol : Symbol) (whole : Bool) (o bit : ℕ) → bit ≡ symbol_bit symbol o → (word : List ℕ) (mark : Bool) → IsWord word → ((word ≡ bit ∷ []) × (mark ≡ whole)) ↔ IsSpareKey Sent symbol whole o word mark
+sent_spare symbol whole o bit told word mark is = (
+  (λ h.
+      let one : word ≡ symbol_bit symbol o ∷ [] = h.0 ∙ ap (λ b. b ∷ []) told in
+      let size : length word ≡ 1 = ap length one in
+      (size, one ∙ sym (ap (λ n. spelled (replicate n symbol) o) size), h.1)),
+  (λ h. (h.1 ∙ ap (λ n. spelled (replicate n symbol) o) h.0 ∙ ap (λ b. b ∷ []) (sym told), h.2)),
+)
 
 one_kept : (w x : List ℕ) (whole mark : Bool) → length w ≡ 1 → Cut 12 w whole x mark → (x ≡ w) × (mark ≡ whole)
 one_kept w x whole mark one (kept short is same) = (is, same)

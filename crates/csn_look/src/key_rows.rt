@@ -9,7 +9,7 @@ ghost use Rattle.csn_look.specs.KeyMarks.{KeysAre};
 ghost use Rattle.csn_look.specs.KeyRows.{table_of, HasTable, HasRow, IsMore, Makes, AreTables, IsSameRow, RowAfter, IsSpareKey, IsRowed, AreRowed, AreAlike, HasRows};
 
 use crate::key_table::KeyTable;
-use crate::known::{bit_of_symbol, spare_starts};
+use crate::known::bit_of_symbol;
 use crate::table_maker::TableMaker;
 use crate::word::{MOST_WORD, Word};
 use csn_bits::NoMemory;
@@ -282,34 +282,30 @@ fn spare_row(
 ) -> Result<[usize; 8], NoMemory>
     ensures { IfOk result (λ row. Makes tables.old tables.new row (IsSpareKey reading symbol whole)) }
 {
-    let mut row = [0; 8];
-    for octet in 0..8u8 {
-        let table = spare_table(alloc, reading, symbol, whole, octet)?;
-        row[octet as usize] = tables.keep(table)?;
+    match reading {
+        Reading::Received => {
+            let at = tables.keep_words(alloc, 1, whole)?;
+            Ok(same(at))
+        }
+        Reading::Sent => sent_row(alloc, tables, symbol, whole),
     }
-    Ok(row)
 }
 
-/// The keys of a spare bit at an octet position.
-fn spare_table(
+/// The row of a spare bit that is sent.
+fn sent_row(
     alloc: Global,
-    reading: Reading,
+    tables: &mut TableMaker,
     symbol: Symbol,
     whole: bool,
-    octet: u8,
-) -> Result<KeyTable, NoMemory>
-    requires { octet ≤ 7 }
-    ensures { IfOk result (λ table. KeysAre table (IsSpareKey reading symbol whole octet)) }
+) -> Result<[usize; 8], NoMemory>
+    ensures { IfOk result (λ row. Makes tables.old tables.new row (IsSpareKey Reading.Sent symbol whole)) }
 {
-    let mut table = KeyTable::new(alloc)?;
-    for bit in 0..2u8 {
-        if spare_starts(reading, symbol, bit).has(octet) {
-            let mut word = Word::new();
-            word.push(bit);
-            table.add(&word, whole);
-        }
+    let mut row = [0; 8];
+    for octet in 0..8u8 {
+        let word = Word::new().with(bit_of_symbol(symbol, octet));
+        row[octet as usize] = tables.keep_key(alloc, &word, whole)?;
     }
-    Ok(table)
+    Ok(row)
 }
 
 /// The row of a field.

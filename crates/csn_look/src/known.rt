@@ -278,7 +278,7 @@ fn literal_starts(run: &Run, bit: u8) -> OctetSet
 }
 
 /// The octet positions at which a spare bit may be this one.
-pub(crate) fn spare_starts(reading: Reading, symbol: Symbol, bit: u8) -> OctetSet
+fn spare_starts(reading: Reading, symbol: Symbol, bit: u8) -> OctetSet
     requires { bit ≤ 1 }
     ensures { OctetsAre result (λ o. IsSpare reading symbol o (bit ∷ [])) }
 {

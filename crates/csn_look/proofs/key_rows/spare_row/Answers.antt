@@ -1,9 +1,22 @@
-use Rattle.csn_look.specs.KeyRows.{IsSpareKey}
-use Rattle.csn_look.proofs.RowFacts.{row_next, kept_table}
+use Rattle.std.proofs.Common.{◌≡◌, ℕ, Bool, List, length, sym, subst}
+use Rattle.std.proofs.lemmas.Result.{IfOk-weaker}
+use Rattle.csn_desc.specs.declared.reading.Reading.{Reading}
+use Rattle.csn_desc.specs.declared.reading.Reading.TheVariants.{Received, Sent}
+use Rattle.csn_look.specs.KeyRows.{Makes, IsSpareKey}
+use Rattle.csn_look.proofs.ProductsMade.{has_leaf}
+use Rattle.csn_look.proofs.RowFacts.{makes_same}
+use Rattle.csn_look.proofs.RowKeys.{received_spare}
 use Rattle.csn_look.proofs.key_rows.spare_row.Goals as goal
 
-pub loop-octet-preserved : goal.loop-octet-preserved
-loop-octet-preserved c =
-    let keys = IsSpareKey c.args.reading c.args.symbol c.args.whole in
-    row_next c.args.tables.now c.loop-octet.tables c.keep.new.self c.loop-octet.row c.loop-octet.octet c.in_ok-row.field-0 keys c.loop-octet-test.true c.loop-octet.invariant
-    (kept_table c.loop-octet.tables c.keep.new.self c.in_ok-row.field-0 c.in_ok-table.table (keys c.loop-octet.octet) c.in_ok-row.ensures.more c.in_ok-row.ensures.kept.0 c.in_ok-row.ensures.kept.1 c.in_ok-table.ensures)
+pub returns-in_ok-at-in-Received : goal.returns-in_ok-at-in-Received
+returns-in_ok-at-in-Received c =
+    let old = c.args.tables.now in
+    let new = c.keep_words.new.self in
+    let at = c.in_ok-at-in-Received.at in
+    let row = c.same.result in
+    let keys = IsSpareKey Received c.args.symbol c.args.whole in
+    let P : List ℕ → Bool → Type 0 = λ key mark. (length key ≡ 1) × (mark ≡ c.args.whole) in
+    let Q : Reading → Type 0 = λ r. Makes old new row (IsSpareKey r c.args.symbol c.args.whole) in
+    subst Q (sym c.in-Received.is)
+    (makes_same old new row at keys c.same.ensures.eight c.same.ensures.same c.in_ok-at-in-Received.ensures.more
+    (λ o low. has_leaf new at P (keys o) (received_spare c.args.symbol c.args.whole o) c.in_ok-at-in-Received.ensures.kept))

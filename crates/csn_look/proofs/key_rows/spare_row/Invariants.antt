@@ -1,7 +1,0 @@
-use Rattle.csn_look.specs.KeyRows.{IsSpareKey}
-use Rattle.csn_look.proofs.RowFacts.{RowBelow}
-use Rattle.csn_look.proofs.key_rows.spare_row.Given as goal
-
--- the places before this one are filled
-abbrev pub invariant-loop-octet : goal.invariant-loop-octet
-invariant-loop-octet l = RowBelow l.initial.tables l.tables l.row l.octet (IsSpareKey l.reading l.symbol l.whole)
