@@ -191,9 +191,8 @@ NoBitFollowsTrees =
 
 -- ---- components of a truncation
 
--- where bits lie ahead, the truncation of the components that are left takes the first of these: its tree is one of
--- that, and one of the truncation of those behind it, of which the last need not have a bit before it is known
--- whether a later one has
+-- where bits lie ahead, the truncation of the components that are left takes the first of them: its bits and trees are
+-- those of that component, which may have no bits, and then those of a truncation of the components behind it
 abbrev pub TruncationsGoOn : Type 0
 TruncationsGoOn =
     (d : DescV) (most node from i o : ℕ) (parts before after : List ℕ) (v : Values) (own others : List ℕ) (ts : Trees)
@@ -202,7 +201,7 @@ TruncationsGoOn =
     → MayStandBehind d node ((o + length own) % 8) others → ¬ (own ++ others ≡ [])
     → NodeMeans d (Trunc (i ∷ after)) o v own (row ts) ↔ TakesComponent d i after o v own ts
 
--- and where bits, and not none, are followed, they are by the first of these components, or by later ones behind it
+-- bits, and not none, that a truncation follows are followed by its components one after another, as of a sequence
 abbrev pub FollowedTruncationsGoOn : Type 0
 FollowedTruncationsGoOn =
     (d : DescV) (o : ℕ) (parts : List ℕ) (v : Values) (b : List ℕ) → ¬ (b ≡ []) → NodeFollows d (Trunc parts) o v b
