@@ -14,6 +14,7 @@ use Rattle.csn_resolve.specs.declared.fault.ResolveFault.TheVariants.{Refused, N
 use Rattle.csn_resolve.specs.declared.why.Why.{Why}
 use Rattle.csn_resolve.specs.declared.why.Why.TheVariants.{Undefined, TooManyVals}
 use Rattle.csn_grammar.specs.Shaped.{AreShaped}
+use Rattle.csn_resolve.specs.Seen.{Seen}
 use Rattle.csn_resolve.specs.Gives.{Placed, RuleGives}
 use Rattle.csn_resolve.specs.Going.{IsFirst}
 use Rattle.csn_resolve.specs.Made.{RuleQuiet, RuleGivesFew, AddsRule, IsOverfullAt}
@@ -89,6 +90,14 @@ module _ (rules : RulesV) (r : Reading) (n : List ℕ) where
       let there = rule_gives at h in
       let same : made ≡ there.0 = adds there.0 there.2 in
       let P : List Placed → Type 0 = λ z. NameGives rules n r z in subst P (sym same) there.1
+
+  -- where nothing is seen, and nothing was made before
+  pub adds_first :
+      {rule : Rule} {shown : Seen ℕ} {before made : List Placed}
+      → shown ≡ [] → before ≡ [] → AddsRule rules r rule shown before made → AddsRule rules r rule [] [] made
+  adds_first {rule} {shown} {before} {made} p q h =
+      let P : Seen ℕ → Type 0 = λ z. AddsRule rules r rule z before made in
+      let Q : List Placed → Type 0 = λ z. AddsRule rules r rule [] z made in subst Q q (subst P p h)
 
   pub made_laid :
       {rule : Rule} {made : List Placed} → AreShaped rules → rule_of rules n ≡ Some rule → AreRefusals rules n r [] → AddsRule rules r rule [] [] made

@@ -114,11 +114,10 @@ module _ (r : Reading) where
   frame-next frame (y ∷ xs) (m ∷ nodes) (suc at) x node h g = frame-next (with_labelled (label_of r y) m frame) xs nodes at x node h g
 
   frame-more :
-      (xs : List ExprV) (nodes : List ℕ) (at : ℕ) (x : ExprV) (node : ℕ) → slice_get xs at ≡ Some x → slice_get nodes at ≡ Some node
-      → frame_before r [] (take (at + 1) xs) (take (at + 1) nodes) ≡ with_labelled (label_of r x) node (frame_before r [] (take at xs) (take at nodes))
-  frame-more xs nodes at x node h g =
-      let more : at + 1 ≡ suc at = omega arith in
-      ap (λ k. frame_before r [] (take k xs) (take k nodes)) more ∙ frame-next [] xs nodes at x node h g
+      (xs : List ExprV) (nodes : List ℕ) (at more : ℕ) (x : ExprV) (node : ℕ) → more ≡ suc at → slice_get xs at ≡ Some x → slice_get nodes at ≡ Some node
+      → frame_before r [] (take more xs) (take more nodes) ≡ with_labelled (label_of r x) node (frame_before r [] (take at xs) (take at nodes))
+  frame-more xs nodes at more x node is h g =
+      ap (λ k. frame_before r [] (take k xs) (take k nodes)) is ∙ frame-next [] xs nodes at x node h g
 
   pub frame-all :
       (frame : Frame ℕ) (xs : List ExprV) (nodes : List ℕ) (many : ℕ) → many ≡ min (length nodes) (length xs)
@@ -132,28 +131,28 @@ module _ (r : Reading) where
       frame-all (with_labelled (label_of r x) m frame) xs nodes many (omega (arith, is))
 
   pub passed-by :
-      (xs : List ExprV) (nodes : List ℕ) (at : ℕ) (x : ExprV) (node : ℕ) (label : List ℕ) → slice_get xs at ≡ Some x → slice_get nodes at ≡ Some node
+      (xs : List ExprV) (nodes : List ℕ) (at more : ℕ) (x : ExprV) (node : ℕ) (label : List ℕ) → more ≡ suc at → slice_get xs at ≡ Some x → slice_get nodes at ≡ Some node
       → label_of r x ≡ None
-      → seen_in (frame_before r [] (take (at + 1) xs) (take (at + 1) nodes)) label ≡ seen_in (frame_before r [] (take at xs) (take at nodes)) label
-  passed-by xs nodes at x node label h g none =
-      ap (λ f. seen_in f label) (frame-more xs nodes at x node h g)
+      → seen_in (frame_before r [] (take more xs) (take more nodes)) label ≡ seen_in (frame_before r [] (take at xs) (take at nodes)) label
+  passed-by xs nodes at more x node label is h g none =
+      ap (λ f. seen_in f label) (frame-more xs nodes at more x node is h g)
       ∙ ap (λ o. seen_in (with_labelled o node (frame_before r [] (take at xs) (take at nodes))) label) none
 
   pub other-label :
-      (xs : List ExprV) (nodes : List ℕ) (at : ℕ) (x : ExprV) (node : ℕ) (label other : List ℕ) → slice_get xs at ≡ Some x → slice_get nodes at ≡ Some node
+      (xs : List ExprV) (nodes : List ℕ) (at more : ℕ) (x : ExprV) (node : ℕ) (label other : List ℕ) → more ≡ suc at → slice_get xs at ≡ Some x → slice_get nodes at ≡ Some node
       → label_of r x ≡ Some other → same_name other label ≡ false
-      → seen_in (frame_before r [] (take (at + 1) xs) (take (at + 1) nodes)) label ≡ seen_in (frame_before r [] (take at xs) (take at nodes)) label
-  other-label xs nodes at x node label other h g some unlike =
-      ap (λ f. seen_in f label) (frame-more xs nodes at x node h g)
+      → seen_in (frame_before r [] (take more xs) (take more nodes)) label ≡ seen_in (frame_before r [] (take at xs) (take at nodes)) label
+  other-label xs nodes at more x node label other is h g some unlike =
+      ap (λ f. seen_in f label) (frame-more xs nodes at more x node is h g)
       ∙ (ap (λ o. seen_in (with_labelled o node (frame_before r [] (take at xs) (take at nodes))) label) some
       ∙ ap (λ b. if b then Some node else seen_in (frame_before r [] (take at xs) (take at nodes)) label) unlike)
 
   pub has-label :
-      (xs : List ExprV) (nodes : List ℕ) (at : ℕ) (x : ExprV) (node : ℕ) (label other : List ℕ) → slice_get xs at ≡ Some x → slice_get nodes at ≡ Some node
+      (xs : List ExprV) (nodes : List ℕ) (at more : ℕ) (x : ExprV) (node : ℕ) (label other : List ℕ) → more ≡ suc at → slice_get xs at ≡ Some x → slice_get nodes at ≡ Some node
       → label_of r x ≡ Some other → same_name other label ≡ true
-      → seen_in (frame_before r [] (take (at + 1) xs) (take (at + 1) nodes)) label ≡ Some node
-  has-label xs nodes at x node label other h g some sure =
-      ap (λ f. seen_in f label) (frame-more xs nodes at x node h g)
+      → seen_in (frame_before r [] (take more xs) (take more nodes)) label ≡ Some node
+  has-label xs nodes at more x node label other is h g some sure =
+      ap (λ f. seen_in f label) (frame-more xs nodes at more x node is h g)
       ∙ (ap (λ o. seen_in (with_labelled o node (frame_before r [] (take at xs) (take at nodes))) label) some
       ∙ ap (λ b. if b then Some node else seen_in (frame_before r [] (take at xs) (take at nodes)) label) sure)
 

@@ -57,10 +57,13 @@ module _ (all : List Node) where
   -- one part, and the others
   next_spans :
       {at : ℕ} {parts later : List ℕ} {nodes : List Placed} (first rest : List Placed) → parts ≡ at ∷ later → nodes ≡ first ++ rest
-      → Spans all at (at + length first) → PartsSpan all later (at + length first) (at + length first + length rest)
-      → PartsSpan all parts at (at + length nodes)
-  next_spans {at} first rest p q one others =
-      parts_along (sym p) (span_next (at + length first) refl one (parts_to (omega (arith, ap length q, length-append first rest)) others))
+      → (Holds all at first → Spans all at (at + length first))
+      → (Holds all (at + length first) rest → PartsSpan all later (at + length first) (at + length first + length rest))
+      → Holds all at nodes → PartsSpan all parts at (at + length nodes)
+  next_spans {at} first rest p q one others h =
+      let here = holds_along all at q h in
+      parts_along (sym p) (span_next (at + length first) refl (one (holds_first all at first rest here))
+      (parts_to (omega (arith, ap length q, length-append first rest)) (others (holds_rest all at first rest here))))
 
   -- the repetition of a rule in tail form, and the word that stops it
   tail_spans :
@@ -115,18 +118,16 @@ module _ (all : List Node) where
           → ItemsGive rules r xs at frame seen parts nodes → Holds all at nodes
           → PartsSpan all parts at (at + length nodes)
       items_spans {at = at} (items_end p q) h = parts_along (sym p) (span_end (omega (arith, ap length q)))
-      items_spans {at = at} (items_next first rest g others p q) h =
-          let here = holds_along all at q h in
-          next_spans first rest p q (gives_spans g (holds_first all at first rest here)) (items_spans others (holds_rest all at first rest here))
+      items_spans (items_next first rest g others p q) h =
+          next_spans first rest p q (λ k. gives_spans g k) (λ k. items_spans others k) h
 
       each_spans :
           {xs : List ExprV} {at : ℕ} {seen : Seen ℕ} {parts : List ℕ} {nodes : List Placed}
           → EachGives rules r xs at seen parts nodes → Holds all at nodes
           → PartsSpan all parts at (at + length nodes)
       each_spans {at = at} (each_end p q) h = parts_along (sym p) (span_end (omega (arith, ap length q)))
-      each_spans {at = at} (each_next first rest g others p q) h =
-          let here = holds_along all at q h in
-          next_spans first rest p q (gives_spans g (holds_first all at first rest here)) (each_spans others (holds_rest all at first rest here))
+      each_spans (each_next first rest g others p q) h =
+          next_spans first rest p q (λ k. gives_spans g k) (λ k. each_spans others k) h
 
       rule_spans :
           {rule : Rule} {at : ℕ} {seen : Seen ℕ} {nodes : List Placed}
