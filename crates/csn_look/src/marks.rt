@@ -25,9 +25,10 @@ pub(crate) fn next_marked(marks: &[u64], from: usize, end: usize) -> usize
 {
     let mut at = from;
     while at < end {
-        if marks[at / 64] == 0 {
+        let left = marks[at / 64] >> (at % 64);
+        if left == 0 {
             at = 64 * (at / 64 + 1);
-        } else if is_marked(marks, at) {
+        } else if left % 2 == 1 {
             return at;
         } else {
             at += 1;
