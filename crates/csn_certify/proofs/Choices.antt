@@ -33,14 +33,14 @@ module _ (d : DescV) (parts : List ℕ) (octet : ℕ) (held : List ℕ) where
   pub is_none : {j part : ℕ} → slice_get parts j ≡ Some part → IsNull d part → IsNone d parts j
   is_none {part = part} at null = record { part = part; is_part = at; is_null = null }
 
-  not_none : {j part : ℕ} → slice_get parts j ≡ Some part → (IsNull d part → ⊥) → IsNone d parts j → ⊥
+  pub not_none : {j part : ℕ} → slice_get parts j ≡ Some part → (IsNull d part → ⊥) → IsNone d parts j → ⊥
   not_none {part = part} at real h =
       let same : h.part ≡ part = cc in
       let P : ℕ → Type 0 = λ p. IsNull d p in
       real (subst P same h.is_null)
 
   module _ (j part : ℕ) (table : List ℕ) (at : slice_get parts j ≡ Some part) (are : marks.KeysAre table (InKeys d 12 part octet)) where
-    with_key : (IsNull d part → ⊥) → marks.IsWord held → marks.BeginsWithKey table held → BeginsWithKey d 12 parts octet held j
+    pub with_key : (IsNull d part → ⊥) → marks.IsWord held → marks.BeginsWithKey table held → BeginsWithKey d 12 parts octet held j
     with_key real word h =
         let P : List ℕ → Type 0 = λ l. marks.IsWord l in
         let front = word_front h.front h.back (subst P h.parts word) in
@@ -54,7 +54,7 @@ module _ (d : DescV) (parts : List ℕ) (octet : ℕ) (held : List ℕ) where
           begins = (h.back, h.parts);
         }
 
-    no_key_of : (marks.BeginsWithKey table held → ⊥) → BeginsWithKey d 12 parts octet held j → ⊥
+    pub no_key_of : (marks.BeginsWithKey table held → ⊥) → BeginsWithKey d 12 parts octet held j → ⊥
     no_key_of absent h =
         let is_part = h.is_part in
         let same : h.part ≡ part = cc in
@@ -62,7 +62,7 @@ module _ (d : DescV) (parts : List ℕ) (octet : ℕ) (held : List ℕ) where
         let key = subst P same h.key in
         absent (record { front = h.word; back = h.begins.0; parts = h.begins.1; whole = h.mark; key = (are h.word h.mark (key_word d key)).1 key })
 
-    begins_key : marks.StartsKey table held → BeginsKeyOf d parts octet held j
+    pub begins_key : marks.StartsKey table held → BeginsKeyOf d parts octet held j
     begins_key h =
         let longer = length-append held (h.next ∷ h.back) in
         record {
@@ -80,7 +80,7 @@ module _ (d : DescV) (parts : List ℕ) (octet : ℕ) (held : List ℕ) where
           its = refl;
         }
 
-    begins_none : (marks.StartsKey table held → ⊥) → BeginsKeyOf d parts octet held j → ⊥
+    pub begins_none : (marks.StartsKey table held → ⊥) → BeginsKeyOf d parts octet held j → ⊥
     begins_none absent h = by_rest h.key.begins.0 h.key.begins.1
       where
         by_rest : (rest : List ℕ) → h.key.word ≡ held ++ rest → ⊥
@@ -126,7 +126,7 @@ module _ (d : DescV) (parts : List ℕ) (octet : ℕ) (held : List ℕ) where
       }
 
   -- the fact of a later alternative, since this one has it not
-  later : {count j : ℕ} (P : ℕ → Type 0) → (P count → ⊥) → P j → count ≤ j → count + 1 ≤ j
+  pub later : {count j : ℕ} (P : ℕ → Type 0) → (P count → ⊥) → P j → count ≤ j → count + 1 ≤ j
   later {count} {j} P never h low = by_order (either count j low)
     where
       either : (m n : ℕ) → m ≤ n → (n ≡ m) ⊎ (m + 1 ≤ n)
@@ -139,7 +139,7 @@ module _ (d : DescV) (parts : List ℕ) (octet : ℕ) (held : List ℕ) where
   no_key_of_none : {j : ℕ} → IsNone d parts j → BeginsWithKey d 12 parts octet held j → ⊥
   no_key_of_none none h = not_none h.is_part h.takes_bits none
 
-  begins_none_of_none : {j : ℕ} → IsNone d parts j → BeginsKeyOf d parts octet held j → ⊥
+  pub begins_none_of_none : {j : ℕ} → IsNone d parts j → BeginsKeyOf d parts octet held j → ⊥
   begins_none_of_none none h =
       let is_part = h.key.is_part in
       let part = none.is_part in

@@ -21,6 +21,9 @@ pub mod MoreHeld
 pub mod BeginsString
 pub mod NoFurther
 pub mod OnePick
+pub mod PickTables
+pub mod FillingFacts
 pub mod Choices
+pub mod ChooserFacts
 pub mod Answered
 pub mod ExampleFacts

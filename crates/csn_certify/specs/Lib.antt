@@ -4,6 +4,8 @@ pub mod Overlaps
 pub mod Certifying
 pub mod Picks
 pub mod Choosing
+pub mod PickTables
+pub mod Filling
 pub mod Plans
 pub mod Ahead
 pub mod Laws

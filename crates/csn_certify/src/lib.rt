@@ -4,14 +4,17 @@
 
 mod alternatives;
 mod certifying;
+mod chooser;
 mod clashes;
 mod conflict;
 pub mod examples;
+mod filling;
 mod lasts;
 pub mod laws;
 mod meets;
 mod overlaps;
 mod pick;
+mod pick_table;
 mod plan;
 mod repeats;
 mod search;

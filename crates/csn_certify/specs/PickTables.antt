@@ -1,0 +1,65 @@
+-- Tables of what look-ahead tells at a choice: an entry for each word of as many bits as the choice needs.
+use Rattle.std.specs.Prelude.{◌≡◌, ℕ, ◌+◌, ◌^◌, ◌<◌, ◌≤◌, List, length, take, slice_index_or, Option, Some, None, true, false, refl}
+use Rattle.std.specs.Coded.{Coded, code_by, coded×, coded_ℕ, coded_list, coded_option}
+use Rattle.csn_desc.specs.Nodes.{DescV}
+use Rattle.csn_look.specs.KeyMarks.{IsWord, place_of}
+use Rattle.csn_certify.specs.declared.pick_table.Entry.{Entry}
+use Rattle.csn_certify.specs.declared.pick_table.Entry.TheVariants.{Refuse, Wait, Take}
+use Rattle.csn_certify.specs.Picks.{BeginsWithKey}
+use Rattle.csn_certify.specs.Choosing.{AreWithoutKey}
+
+-- the alternative that takes no bits, where there is one, and the entries
+pub record PickTableV : Type 0 where
+  pub none : Option ℕ
+  pub width : ℕ
+  pub entries : List Entry
+
+-- tables are stored as their parts
+abbrev pub content_of : Entry → Option (Option (ℕ × ℕ))
+content_of Refuse = None
+content_of Wait = Some None
+content_of (Take j bits) = Some (Some (j, bits))
+
+abbrev pub content_entry : Option (Option (ℕ × ℕ)) → Entry
+content_entry None = Refuse
+content_entry (Some None) = Wait
+content_entry (Some (Some p)) = Take p.0 p.1
+
+abbrev pub content_back : (e : Entry) → content_entry (content_of e) ≡ e
+content_back Refuse = refl
+content_back Wait = refl
+content_back (Take j bits) = refl
+
+abbrev pub entry_code : Coded Entry
+entry_code = code_by (Option (Option (ℕ × ℕ))) (coded_option (coded_option (coded× coded_ℕ coded_ℕ))) content_of content_entry content_back
+
+abbrev pub pick_table_code : Coded PickTableV
+pick_table_code =
+    code_by (Option ℕ × (ℕ × List Entry)) (coded× (coded_option coded_ℕ) (coded× coded_ℕ (coded_list entry_code)))
+    (λ t. (t.none, (t.width, t.entries))) (λ p. record { none = p.0; width = p.1.0; entries = p.1.1 }) (λ t. refl)
+
+-- one entry for each word of at most so many bits, and one more, since no word has the place 0
+pub record HasEntries (width : ℕ) (entries : List Entry) : Type 0 where
+  pub short : width ≤ 12
+  pub count : length entries ≡ 2 ^ (width + 1)
+
+-- the entry of a word
+abbrev pub entry_of : List Entry → List ℕ → Entry
+entry_of entries word = slice_index_or entries (place_of word) Refuse
+
+-- the entry of held bits, which are cut to the width
+abbrev pub entry_at : PickTableV → List ℕ → Entry
+entry_at table held = entry_of table.entries (take table.width held)
+
+module _ (d : DescV) (parts : List ℕ) (octet : ℕ) where
+  -- the entry tells how the held bits stand to the keys of the alternatives, of which `none` takes no bits
+  abbrev pub Tells : List ℕ → Option ℕ → Entry → Type 0
+  Tells held none Refuse = AreWithoutKey d parts octet held none false
+  Tells held none Wait = AreWithoutKey d parts octet held none true
+  Tells held none (Take j bits) =
+      (bits ≤ length held → BeginsWithKey d 12 parts octet held j)
+      × (length held < bits → AreWithoutKey d parts octet held none true)
+
+  -- the table tells it of all held bits
+  abbrev pub IsPickTable : PickTableV → Type 0
+  IsPickTable table = (held : List ℕ) → IsWord held → Tells held table.none (entry_at table held)

@@ -1,0 +1,97 @@
+//! Making the table of what look-ahead tells at a choice.
+
+ghost use Rattle.std.specs.Prelude.{◌≡◌, ◌<◌, ◌≤◌, length, MatchOption, IfOk};
+ghost use Rattle.csn_desc.specs.declared.node.Node.TheVariants.{Choice};
+ghost use Rattle.csn_look.specs.LookKeys.{IsKeysOf};
+ghost use Rattle.csn_look.specs.Steps.{HasPartsBelow};
+ghost use Rattle.csn_certify.specs.Choosing.{IsNone};
+ghost use Rattle.csn_certify.specs.PickTables.{IsPickTable};
+ghost use Rattle.csn_certify.specs.Filling.{AreEmpty, HasMarks, AreDeep};
+
+use crate::filling::{Filling, depth, greater};
+use crate::pick_table::{Entry, PickTable};
+use csn_bits::NoMemory;
+use csn_desc::{Desc, Node, Parts};
+use csn_look::{KeyTable, Look, Word};
+use std::alloc::Global;
+
+/// The alternatives of a choice, and what is known of their keys at an octet position.
+#[derive(Clone, Copy)]
+pub(crate) struct Chooser<'a> {
+    pub desc: &'a Desc,
+    pub look: &'a Look,
+    pub parts: &'a Parts,
+    pub octet: u8,
+}
+
+impl Chooser<'_> {
+    /// The table of the choice.
+    pub fn table(&self, alloc: Global) -> Result<PickTable, NoMemory>
+        requires keys { IsKeysOf self.now.desc.now self.now.look.now }
+        requires below { HasPartsBelow (Choice self.now.parts.now) (length self.now.desc.now.nodes) }
+        requires octet { self.now.octet ≤ 7 }
+        ensures { IfOk result (IsPickTable self.now.desc.now self.now.parts.now self.now.octet) }
+    {
+        let width = self.width();
+        let mut entries = no_entries(alloc, width)?;
+        let mut none = None;
+        for j in 0..self.parts.len() {
+            match self.keys(j) {
+                None => none = Some(j),
+                Some(table) => {
+                    let filling = Filling {
+                        table,
+                        alternative: j,
+                        width,
+                    };
+                    filling.fill(entries.as_mut_slice(), &Word::new());
+                }
+            }
+        }
+        Ok(PickTable::new(none, width, entries))
+    }
+
+    /// How many bits are looked at.
+    fn width(&self) -> u8
+        requires keys { IsKeysOf self.now.desc.now self.now.look.now }
+        requires below { HasPartsBelow (Choice self.now.parts.now) (length self.now.desc.now.nodes) }
+        requires octet { self.now.octet ≤ 7 }
+        ensures most { result ≤ 12 }
+        ensures deep { AreDeep self.now.desc.now self.now.parts.now self.now.octet (length self.now.parts.now) result }
+    {
+        let mut width = 0;
+        for j in 0..self.parts.len() {
+            match self.keys(j) {
+                None => {}
+                Some(table) => width = greater(width, depth(table, &Word::new())),
+            }
+        }
+        width
+    }
+
+    /// The keys of an alternative; `None` where it takes no bits.
+    fn keys(&self, j: u16) -> Option<&KeyTable>
+        requires keys { IsKeysOf self.now.desc.now self.now.look.now }
+        requires below { HasPartsBelow (Choice self.now.parts.now) (length self.now.desc.now.nodes) }
+        requires octet { self.now.octet ≤ 7 }
+        requires alternative { j < length self.now.parts.now }
+        ensures { MatchOption result (IsNone self.now.desc.now self.now.parts.now j) (λ table. HasMarks self.now.desc.now self.now.parts.now self.now.octet j table.now) }
+    {
+        let part = self.parts.get(j);
+        match self.desc.node(part) {
+            Node::Null => None,
+            _ => Some(self.look.key_table(part, self.octet)),
+        }
+    }
+}
+
+/// As many entries as there are words of at most so many bits, and one more.
+fn no_entries(alloc: Global, width: u8) -> Result<Vec<Entry>, NoMemory>
+    requires { width ≤ 12 }
+    ensures { IfOk result (λ entries. AreEmpty width entries.items) }
+{
+    match vec![in alloc; Entry::Refuse; 2 << width] {
+        Ok(entries) => Ok(entries),
+        Err(_) => Err(NoMemory),
+    }
+}

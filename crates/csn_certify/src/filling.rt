@@ -1,0 +1,118 @@
+//! Filling the entries of a choice, from the keys of one alternative after another.
+
+ghost use Rattle.std.specs.Prelude.{◌≡◌, ℕ, ◌<◌, ◌≤◌, List, length};
+ghost use Rattle.csn_look.specs.KeyMarks.{IsWord};
+ghost use Rattle.csn_certify.specs.PickTables.{HasEntries, entry_of};
+ghost use Rattle.csn_certify.specs.Filling.{started, IsDeep, IsFilled, IsTaken, FillsUnder, FillsAt};
+
+use crate::meets::longer;
+use crate::pick_table::Entry;
+use csn_look::{Begins, KeyTable, Word};
+
+/// How many bits are looked at of what goes on from the word, to see the keys of a table.
+pub(crate) fn depth(table: &KeyTable, word: &Word) -> u8
+    requires { IsWord word.now }
+    ensures deep { IsDeep table.now word.now result }
+    ensures more { length word.now ≤ result }
+    ensures most { result ≤ 12 }
+{
+    match table.begins(word) {
+        Begins::Key => word.len(),
+        Begins::Neither => word.len(),
+        Begins::Proper => greater(
+            depth(table, &longer(word, 0)),
+            depth(table, &longer(word, 1)),
+        ),
+    }
+}
+
+/// The greater number.
+pub(crate) fn greater(a: u8, b: u8) -> u8
+    ensures first { a ≤ result }
+    ensures second { b ≤ result }
+    ensures one { (n : ℕ) → a ≤ n → b ≤ n → result ≤ n }
+{
+    if a < b { b } else { a }
+}
+
+/// The keys of one alternative, and the entries that they fill.
+#[derive(Clone, Copy)]
+pub(crate) struct Filling<'a> {
+    pub table: &'a KeyTable,
+    pub alternative: u16,
+    pub width: u8,
+}
+
+impl Filling<'_> {
+    /// Fills the entries of the word and of those that go on from it, as the keys tell.
+    pub fn fill(&self, entries: &mut [Entry], word: &Word)
+        requires size { HasEntries self.now.width entries.old }
+        requires word { IsWord word.now }
+        requires within { length word.now ≤ self.now.width }
+        requires deep { IsDeep self.now.table.now word.now self.now.width }
+        ensures size { HasEntries self.now.width entries.new }
+        ensures fills { FillsUnder word.now self.now.width (IsFilled self.now.table.now self.now.alternative) entries.old entries.new }
+    {
+        match self.table.begins(word) {
+            Begins::Neither => {}
+            Begins::Key => self.cover(entries, word, word.len()),
+            Begins::Proper => {
+                self.put(entries, word, self.entry(entries, word).started());
+                self.fill(entries, &longer(word, 0));
+                self.fill(entries, &longer(word, 1));
+            }
+        }
+    }
+
+    /// Takes the alternative, by so many bits, at the word and at those that go on from it.
+    fn cover(&self, entries: &mut [Entry], word: &Word, bits: u8)
+        requires size { HasEntries self.now.width entries.old }
+        requires word { IsWord word.now }
+        requires within { length word.now ≤ self.now.width }
+        ensures size { HasEntries self.now.width entries.new }
+        ensures fills { FillsUnder word.now self.now.width (IsTaken self.now.alternative bits) entries.old entries.new }
+    {
+        let entry = Entry::Take {
+            alternative: self.alternative,
+            bits,
+        };
+        self.put(entries, word, entry);
+        if word.len() < self.width {
+            self.cover(entries, &longer(word, 0), bits);
+            self.cover(entries, &longer(word, 1), bits);
+        }
+    }
+
+    /// The entry of a word.
+    fn entry(&self, entries: &[Entry], word: &Word) -> Entry
+        requires size { HasEntries self.now.width entries.now }
+        requires within { length word.now ≤ self.now.width }
+        ensures { result ≡ entry_of entries.now word.now }
+    {
+        entries[word.place()]
+    }
+
+    /// Puts an entry at a word.
+    fn put(&self, entries: &mut [Entry], word: &Word, entry: Entry)
+        requires size { HasEntries self.now.width entries.old }
+        requires word { IsWord word.now }
+        requires within { length word.now ≤ self.now.width }
+        ensures size { HasEntries self.now.width entries.new }
+        ensures put { FillsAt word.now self.now.width entry entries.old entries.new }
+    {
+        entries[word.place()] = entry;
+    }
+}
+
+impl Entry {
+    /// The entry where the held bits are also the beginning of a key.
+    fn started(self) -> Entry
+        ensures { result ≡ started self }
+    {
+        match self {
+            Entry::Refuse => Entry::Wait,
+            Entry::Wait => Entry::Wait,
+            Entry::Take { alternative, bits } => Entry::Take { alternative, bits },
+        }
+    }
+}
