@@ -1,16 +1,11 @@
 -- What look-ahead answers at a choice and at a free repetition, from what was found there.
-use Rattle.std.proofs.Common.{◌≡◌, ℕ, ◌<◌, ◌≤◌, Bool, true, false, ◌&&◌, List, [], ◌∷◌, length, ◌↔◌, refl, sym, subst, arith, Option, Some, None, slice_get}
+use Rattle.std.proofs.Common.{◌≡◌, ℕ, ◌<◌, Bool, true, false, ◌&&◌, List, [], ◌∷◌, length, ◌↔◌, refl, sym, subst, arith, Option, Some, None, slice_get}
 use Rattle.std.specs.Prelude.{IsTrue, if◌then◌else◌, not, slice_index}
 use Rattle.csn_desc.specs.declared.node.Node.{Node}
 use Rattle.csn_desc.specs.declared.node.Node.TheVariants.{Choice, Many}
 use Rattle.csn_desc.specs.Nodes.{DescV}
-use Rattle.csn_look.specs.declared.symbol_set.Sign.{Sign}
-use Rattle.csn_look.specs.SignsV.{SignsV}
-use Rattle.csn_look.specs.Signs.{has_sign, bit_of_sign}
-use Rattle.csn_look.specs.FollowV.{IsFollow}
 use Rattle.csn_look.specs.Starts.{InStart}
-use Rattle.csn_look.specs.Reached.{InFollow}
-use Rattle.csn_look.proofs.LookFacts.{follow_has}
+use Rattle.csn_look.specs.Reached.{Reached, InFollow}
 use Rattle.csn_certify.specs.declared.pick.Pick.{Pick}
 use Rattle.csn_certify.specs.declared.pick.Pick.TheVariants.{Take, Leave, Wait, Refuse}
 use Rattle.csn_certify.specs.Picks.{IsAsked, asked_choice, asked_many, StandsBehind, behind_bit, behind_end, TakesNone, Picks, pick_none, pick_wait, pick_refuse, pick_bit, pick_again, pick_leave, pick_ended}
@@ -20,6 +15,11 @@ use Rattle.csn_certify.specs.Choosing.{AreWithoutKey}
 pub not_asked : (d : DescV) (node octet : ℕ) (n : Node) → slice_get d.nodes node ≡ Some n → ((parts : List ℕ) → n ≡ Choice parts → ⊥) → ((part : ℕ) → n ≡ Many part → ⊥) → IsAsked d node octet → ⊥
 not_asked d node octet n at no_choice no_many (asked_choice parts is reached) = no_choice parts (cc)
 not_asked d node octet n at no_choice no_many (asked_many part is reached) = no_many part (cc)
+
+-- at a choice it is asked where this is reached
+pub reached_where_asked : (d : DescV) (node octet : ℕ) (parts : List ℕ) → slice_get d.nodes node ≡ Some (Choice parts) → IsAsked d node octet → Reached d node octet
+reached_where_asked d node octet parts at (asked_choice those is reached) = reached
+reached_where_asked d node octet parts at (asked_many part is reached) = absurd (cc)
 
 -- ---- a choice
 
@@ -49,16 +49,6 @@ module _ (d : DescV) {node octet : ℕ} {parts held : List ℕ} {ended : Bool} (
             subst P (sym is) (pick_refuse parts at h.no_key no_none (λ goes_on begins. let some = h.begins.1 begins in absurd (cc)))
 
 -- ---- what stands next
-
--- the sets of a node and an octet position say whether a bit may follow there
-pub may_follow : (d : DescV) (node octet bit : ℕ) (follow : List SignsV) (here : SignsV) (sign : Sign) → bit_of_sign sign ≡ Some bit → octet ≤ 7 → slice_get follow octet ≡ Some here → IsFollow follow (InFollow d node) → IsTrue (has_sign here sign) ↔ InFollow d node octet (Some bit)
-may_follow d node octet bit follow here sign is small there says =
-    let in_sets = follow_has follow octet here sign there in
-    let right = says octet sign small in
-    let P : Option ℕ → Type 0 = λ s. InFollow d node octet s in (
-      (λ h. subst P is (right.0 (in_sets.0 h))),
-      (λ h. in_sets.1 (right.1 (subst P (sym is) h))),
-    )
 
 module _ (d : DescV) {node octet : ℕ} {ended : Bool} where
   pub behind_none : (held : List ℕ) → length held ≡ 0 → IsTrue ended ↔ StandsBehind d 12 node octet held ended

@@ -4,11 +4,11 @@ use Rattle.std.proofs.Common.{◌≡◌, ℕ, ◌+◌, ◌≤◌, ◌⊎◌, inl
 use Rattle.std.specs.Prelude.{IsTrue}
 use Rattle.std.proofs.lemmas.Option.{slice_get_within}
 use Rattle.csn_desc.specs.declared.node.Node.{Node}
-use Rattle.csn_desc.specs.declared.node.Node.TheVariants.{Null, Choice}
+use Rattle.csn_desc.specs.declared.node.Node.TheVariants.{Null}
 use Rattle.csn_desc.specs.Nodes.{DescV}
 use Rattle.csn_look.specs.declared.key_table.Begins.{Begins}
 use Rattle.csn_look.specs.declared.key_table.Begins.TheVariants as answer
-use Rattle.csn_look.specs.Keys.{InKeys, NodeKeys, keys_at, keys_null, keys_choice}
+use Rattle.csn_look.specs.Keys.{InKeys, NodeKeys, keys_at, keys_null}
 use Rattle.csn_look.specs.KeyMarks as marks
 use Rattle.csn_look.proofs.Places.{word_front}
 use Rattle.csn_look.proofs.KeyWords.{key_word}
@@ -220,86 +220,3 @@ module _ (d : DescV) (parts : List ℕ) (octet : ℕ) (held : List ℕ) where
             let inside = slice_get_within parts h.j h.part h.is_part in
             let low = among.begins_not is h.j (record { key = h; its = refl }) in
             absurd (omega arith)
-
--- ---- the keys of the choice
-
-module _ (d : DescV) (node octet : ℕ) (parts held table : List ℕ) (at : slice_get d.nodes node ≡ Some (Choice parts)) (are : marks.KeysAre table (InKeys d 12 node octet)) where
-  -- a key of an alternative is one of the choice
-  key_up : {p : ℕ} {w : List ℕ} {mark : Bool} (j : ℕ) → slice_get parts j ≡ Some p → InKeys d 12 p octet w mark → InKeys d 12 node octet w mark
-  key_up j at_j key = keys_at (Choice parts) at (keys_choice j at_j key)
-
-  record OfPart (w : List ℕ) (mark : Bool) : Type 0 where
-    j : ℕ
-    part : ℕ
-    is_part : slice_get parts j ≡ Some part
-    key : InKeys d 12 part octet w mark
-
-  -- and a key of the choice is one of an alternative
-  key_down : {w : List ℕ} {mark : Bool} → InKeys d 12 node octet w mark → OfPart w mark
-  key_down {w} {mark} (keys_at n is h) =
-      let same : n ≡ Choice parts = cc in
-      let P : Node → Type 0 = λ m. NodeKeys d 12 m octet w mark in
-      of_choice (subst P same h)
-    where
-      of_choice : NodeKeys d 12 (Choice parts) octet w mark → OfPart w mark
-      of_choice (keys_choice {i = i} j at_j key) = record { j = j; part = i; is_part = at_j; key = key }
-
-  held_key : {w : List ℕ} {mark : Bool} (rest : List ℕ) → InKeys d 12 node octet w mark → held ≡ w ++ rest → marks.BeginsWithKey table held
-  held_key {w} {mark} rest key is =
-      record { front = w; back = rest; parts = is; whole = mark; key = (are w mark (key_word d key)).1 key }
-
-  no_key_up : (marks.BeginsWithKey table held → ⊥) → (j : ℕ) → BeginsWithKey d 12 parts octet held j → ⊥
-  no_key_up absent j h = absent (held_key h.begins.0 (key_up j h.is_part h.key) h.begins.1)
-
-  -- an alternative that takes no bits has the key of no bits
-  no_none_up : (marks.BeginsWithKey table held → ⊥) → (j : ℕ) → IsNone d parts j → ⊥
-  no_none_up absent j h = absent (held_key {w = []} {mark = true} held (key_up j h.is_part (keys_at Null h.is_null (keys_null refl refl))) refl)
-
-  begins_up : (j : ℕ) → BeginsKeyOf d parts octet held j → marks.StartsKey table held
-  begins_up j h = by_rest h.key.begins.0 h.key.begins.1
-    where
-      by_rest : (rest : List ℕ) → h.key.word ≡ held ++ rest → marks.StartsKey table held
-      by_rest [] is =
-          let size : length h.key.word ≡ length held = ap length (is ∙ append-nil held) in
-          let more = h.key.not_all in
-          absurd (omega arith)
-      by_rest (x ∷ back) is =
-          let P : List ℕ → Type 0 = λ l. InKeys d 12 node octet l h.key.mark in
-          let key = subst P is (key_up h.key.j h.key.is_part h.key.key) in
-          let word = key_word d key in
-          record { next = x; back = back; whole = h.key.mark; word = word; key = (are (held ++ x ∷ back) h.key.mark word).1 key }
-
-  begins_down : marks.StartsKey table held → BeginsKey d 12 parts octet held
-  begins_down h =
-      let word : List ℕ = held ++ h.next ∷ h.back in
-      let one = key_down ((are word h.whole h.word).0 h.key) in
-      let longer = length-append held (h.next ∷ h.back) in
-      record {
-        j = one.j;
-        part = one.part;
-        word = word;
-        mark = h.whole;
-        is_part = one.is_part;
-        key = one.key;
-        begins = (h.next ∷ h.back, refl);
-        not_all = omega (arith, longer);
-      }
-
-  -- where the held bits begin with no key of the choice, they begin with none of an alternative
-  pub begun_by_choice : (marks.BeginsWithKey table held → ⊥) → marks.StartsKey table held → AreWithoutKey d parts octet held None true
-  begun_by_choice absent h =
-      record {
-        no_key = no_key_up absent;
-        is_none = λ j is. absurd (cc);
-        no_none = λ is. no_none_up absent;
-        begins = ((λ is. begins_down h), (λ key. refl));
-      }
-
-  pub neither_by_choice : (marks.BeginsWithKey table held → ⊥) → (marks.StartsKey table held → ⊥) → AreWithoutKey d parts octet held None false
-  neither_by_choice absent never =
-      record {
-        no_key = no_key_up absent;
-        is_none = λ j is. absurd (cc);
-        no_none = λ is. no_none_up absent;
-        begins = ((λ is. absurd (cc)), (λ key. absurd (never (begins_up key.j (record { key = key; its = refl })))));
-      }

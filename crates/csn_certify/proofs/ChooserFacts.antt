@@ -1,18 +1,18 @@
 -- The table of a choice, from the keys of its alternatives one after another.
-use Rattle.std.proofs.Common.{◌≡◌, ℕ, ◌+◌, ◌<◌, ◌≤◌, ◌⊎◌, inl, inr, Bool, true, false, List, [], ◌∷◌, ◌++◌, length, take, drop, refl, sym, ◌∙◌, ap, subst, arith, length-append, append_assoc, take-append-drop, Option, Some, None, slice_get}
-use Rattle.std.specs.Prelude.{IsTrue}
+use Rattle.std.proofs.Common.{◌≡◌, ℕ, ◌+◌, ◌<◌, ◌≤◌, ◌⊎◌, inl, inr, true, false, List, [], ◌∷◌, ◌++◌, length, take, drop, refl, sym, ◌∙◌, ap, subst, arith, length-append, append_assoc, take-append-drop, Option, Some, None}
 use Rattle.std.proofs.lemmas.List.{length-take, take_all, append-nil}
 use Rattle.std.proofs.lemmas.Option.{slice_get_within}
 use Rattle.csn_desc.specs.Nodes.{DescV}
+use Rattle.csn_look.specs.declared.key_table.Begins.{Begins}
 use Rattle.csn_look.specs.declared.key_table.Begins.TheVariants as answer
 use Rattle.csn_look.specs.KeyMarks as marks
 use Rattle.csn_look.proofs.Places.{word_take}
 use Rattle.csn_certify.specs.declared.pick_table.Entry.{Entry}
 use Rattle.csn_certify.specs.declared.pick_table.Entry.TheVariants.{Refuse, Wait, Take}
-use Rattle.csn_certify.specs.Conflicts.{IsBegunBy}
+use Rattle.csn_certify.specs.Conflicts.{IsNull, IsBegunBy}
 use Rattle.csn_certify.specs.Picks.{BeginsWithKey, BeginsKey}
-use Rattle.csn_certify.specs.Choosing.{IsNone, BeginsKeyOf, AreWithoutKey}
-use Rattle.csn_certify.specs.PickTables.{PickTableV, HasEntries, entry_of, entry_at, Tells, IsPickTable}
+use Rattle.csn_certify.specs.Choosing.{IsNone, BeginsKeyOf, StandsTo, AreWithoutKey}
+use Rattle.csn_certify.specs.PickTables.{entry_of, Tells, IsPickTable}
 use Rattle.csn_certify.specs.Filling.{started, IsDeep, IsFilled, with_key, with_start, with_none, FillsUnder, AreEmpty, HasMarks, AreDeep}
 use Rattle.csn_certify.proofs.Pieces.{begun_both}
 use Rattle.csn_certify.proofs.Choices as choice
@@ -48,8 +48,8 @@ module _ (d : DescV) (parts : List ℕ) (octet : ℕ) where
   pub deep_table : (j width : ℕ) (table word : List ℕ) → j < length parts → word ≡ [] → HasMarks d parts octet j table → AreDeep d parts octet (length parts) width → IsDeep table word width
   deep_table j width table word inside empty has deep held is begun long none start =
       let late =
-          deep held j is long (choice.begins_key d parts octet held j has.part table has.is_part has.are start)
-          (λ key. choice.no_key_of d parts octet held j has.part table has.is_part has.are none key) in
+      deep held j is long (choice.begins_key d parts octet held j has.part table has.is_part has.are start)
+      (λ key. choice.no_key_of d parts octet held j has.part table has.is_part has.are none key) in
       absurd (omega arith)
 
   -- ---- the entries of the first few alternatives
@@ -82,6 +82,7 @@ module _ (d : DescV) (parts : List ℕ) (octet : ℕ) where
   all_marks count width none table old new has word empty fills all held is short =
       by_filled (entry_of old held) (entry_of new held) (all held is short) ((fills held is short).0 (held, ap (λ l. l ++ held) (sym empty)))
     where
+      stands : (told : Begins) → (IsNull d has.part → ⊥) → marks.IsWord held → marks.IsBeginning told table held → StandsTo d parts octet held count (Some told)
       stands = choice.standing d parts octet held count has.part table has.is_part has.are
 
       by_start : (e : Entry) → TellsOf count none held e → ¬ marks.BeginsWithKey table held → marks.StartsKey table held → TellsOf (count + 1) none held (started e)
@@ -158,8 +159,8 @@ module _ (d : DescV) (parts : List ℕ) (octet : ℕ) where
 
   -- ---- the table
 
-  pub table_done : (count width : ℕ) (none : Option ℕ) (entries : List Entry) → AreDeep d parts octet count width → length parts ≤ count → AllTell count none width entries → IsPickTable d parts octet (record { none = none; width = width; entries = entries })
-  table_done count width none entries deep all tells held is = by_entry (entry_of entries front) (tells front is_front short)
+  pub table_done : (looked count width : ℕ) (none : Option ℕ) (entries : List Entry) → AreDeep d parts octet looked width → length parts ≤ looked → length parts ≤ count → AllTell count none width entries → IsPickTable d parts octet (record { none = none; width = width; entries = entries })
+  table_done looked count width none entries deep whole_looked all tells held is = by_entry (entry_of entries front) (tells front is_front short)
     where
       front : List ℕ
       front = take width held
@@ -187,7 +188,7 @@ module _ (d : DescV) (parts : List ℕ) (octet : ℕ) where
           let size = full many in
           let late = deep front start.j is_front (omega (arith, size)) (record { key = start; its = refl }) (a.no_key start.j) in
           let inside = slice_get_within parts start.j start.part start.is_part in
-          absurd (omega (arith, late, inside, all))
+          absurd (omega (arith, late, inside, whole_looked))
 
       either : (m n : ℕ) → (m ≤ n) ⊎ (n < m)
       either m n = grind arith

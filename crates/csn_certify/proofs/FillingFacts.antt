@@ -1,5 +1,5 @@
 -- How the entries of a choice are filled word by word.
-use Rattle.std.proofs.Common.{◌≡◌, ◌≢◌, ℕ, zero, suc, ◌+◌, ◌<◌, ◌≤◌, ◌⊎◌, inl, inr, List, [], ◌∷◌, ◌++◌, length, refl, sym, ◌∙◌, ap, subst, arith, append_assoc, append-nil, length-append}
+use Rattle.std.proofs.Common.{◌≡◌, ℕ, zero, suc, ◌<◌, ◌≤◌, ◌⊎◌, inl, inr, List, [], ◌∷◌, ◌++◌, length, refl, sym, ◌∙◌, ap, subst, arith, append_assoc, append-nil, length-append}
 use Rattle.std.specs.Prelude.{IsTrue}
 use Rattle.std.proofs.lemmas.List.{append_cancel_left}
 use Rattle.csn_bits.specs.Octets.{IsBits}
@@ -8,10 +8,9 @@ use Rattle.csn_look.specs.KeyMarks.{IsWord, has_key, BeginsWithKey, StartsKey}
 use Rattle.csn_look.proofs.Places.{word_front}
 use Rattle.csn_look.proofs.Products.{bits_back}
 use Rattle.csn_certify.specs.declared.pick_table.Entry.{Entry}
-use Rattle.csn_certify.specs.declared.pick_table.Entry.TheVariants.{Take}
 use Rattle.csn_certify.specs.Conflicts.{IsBegunBy}
 use Rattle.csn_certify.specs.PickTables.{entry_of}
-use Rattle.csn_certify.specs.Filling.{started, IsDeep, IsFilled, with_key, with_start, with_none, IsTaken, FillsUnder, FillsAt}
+use Rattle.csn_certify.specs.Filling.{IsDeep, IsFilled, with_key, with_none, IsTaken, FillsUnder, FillsAt}
 use Rattle.csn_certify.proofs.Pieces.{begun_both}
 
 -- ---- words that go on from a word
@@ -154,36 +153,36 @@ module _ (word : List ℕ) (width : ℕ) (R : List ℕ → Entry → Entry → T
   -- the word alone, where no longer one has an entry
   pub fills_last : (entry : Entry) (old new : List Entry) → width ≤ length word → R word (entry_of old word) entry → FillsAt word width entry old new → FillsUnder word width R old new
   fills_last entry old new full here put held is short = (
-      (λ begun. elim (goes_on word held is begun) [
-        | no_more same ↦ subst (λ (l : List ℕ). R l (entry_of old l) (entry_of new l)) (sym same) (subst (λ (e : Entry). R word (entry_of old word) e) (sym put.here) here)
-        | by_zero further ↦ let more = begun_more word held 0 further in absurd (omega arith)
-        | by_one further ↦ let more = begun_more word held 1 further in absurd (omega arith)
-      ]),
-      (λ never. put.others held is short (λ same. never (subst (λ (l : List ℕ). IsBegunBy held l) same (begun_itself held)))),
-    )
+    (λ begun. elim (goes_on word held is begun) [
+      | no_more same ↦ subst (λ (l : List ℕ). R l (entry_of old l) (entry_of new l)) (sym same) (subst (λ (e : Entry). R word (entry_of old word) e) (sym put.here) here)
+      | by_zero further ↦ let more = begun_more word held 0 further in absurd (omega arith)
+      | by_one further ↦ let more = begun_more word held 1 further in absurd (omega arith)
+    ]),
+    (λ never. put.others held is short (λ same. never (subst (λ (l : List ℕ). IsBegunBy held l) same (begun_itself held)))),
+  )
 
   -- the word, and then what goes on by a 0, and by a 1
   pub fills_both : (entry : Entry) (low high : List ℕ) (old a b new : List Entry) → low ≡ word ++ 0 ∷ [] → high ≡ word ++ 1 ∷ [] → R word (entry_of old word) entry → FillsAt word width entry old a → FillsUnder low width R a b → FillsUnder high width R b new → FillsUnder word width R old new
   fills_both entry low high old a b new is_low is_high here put zeros ones held is short = (
-      (λ begun. elim (goes_on word held is begun) [
-        | no_more same ↦ subst (λ (l : List ℕ). R l (entry_of old l) (entry_of new l)) (sym same) (subst (λ (e : Entry). R word (entry_of old word) e) (sym kept_here) here)
-        | by_zero further ↦
-            let first : entry_of a held ≡ entry_of old held = put.others held is short (λ same. let more = begun_more word held 0 further in let size = ap length same in absurd (omega arith)) in
-            let last : entry_of new held ≡ entry_of b held = (ones held is short).1 (λ other. apart word held further (subst (λ (l : List ℕ). IsBegunBy held l) is_high other)) in
-            let made = (zeros held is short).0 (subst (λ (l : List ℕ). IsBegunBy held l) (sym is_low) further) in
-            subst (λ (e : Entry). R held e (entry_of new held)) first (subst (λ (e : Entry). R held (entry_of a held) e) (sym last) made)
-        | by_one further ↦
-            let first : entry_of a held ≡ entry_of old held = put.others held is short (λ same. let more = begun_more word held 1 further in let size = ap length same in absurd (omega arith)) in
-            let mid : entry_of b held ≡ entry_of a held = (zeros held is short).1 (λ other. apart word held (subst (λ (l : List ℕ). IsBegunBy held l) is_low other) further) in
-            let made = (ones held is short).0 (subst (λ (l : List ℕ). IsBegunBy held l) (sym is_high) further) in
-            subst (λ (e : Entry). R held e (entry_of new held)) (mid ∙ first) made
-      ]),
-      (λ never.
-          let first : entry_of a held ≡ entry_of old held = put.others held is short (λ same. never (subst (λ (l : List ℕ). IsBegunBy held l) same (begun_itself held))) in
-          let mid : entry_of b held ≡ entry_of a held = (zeros held is short).1 (λ other. never (begun_before word held 0 (subst (λ (l : List ℕ). IsBegunBy held l) is_low other))) in
-          let last : entry_of new held ≡ entry_of b held = (ones held is short).1 (λ other. never (begun_before word held 1 (subst (λ (l : List ℕ). IsBegunBy held l) is_high other))) in
-          last ∙ mid ∙ first),
-    )
+    (λ begun. elim (goes_on word held is begun) [
+      | no_more same ↦ subst (λ (l : List ℕ). R l (entry_of old l) (entry_of new l)) (sym same) (subst (λ (e : Entry). R word (entry_of old word) e) (sym kept_here) here)
+      | by_zero further ↦
+          let first : entry_of a held ≡ entry_of old held = put.others held is short (λ same. let more = begun_more word held 0 further in let size = ap length same in absurd (omega arith)) in
+          let last : entry_of new held ≡ entry_of b held = (ones held is short).1 (λ other. apart word held further (subst (λ (l : List ℕ). IsBegunBy held l) is_high other)) in
+          let made = (zeros held is short).0 (subst (λ (l : List ℕ). IsBegunBy held l) (sym is_low) further) in
+          subst (λ (e : Entry). R held e (entry_of new held)) first (subst (λ (e : Entry). R held (entry_of a held) e) (sym last) made)
+      | by_one further ↦
+          let first : entry_of a held ≡ entry_of old held = put.others held is short (λ same. let more = begun_more word held 1 further in let size = ap length same in absurd (omega arith)) in
+          let mid : entry_of b held ≡ entry_of a held = (zeros held is short).1 (λ other. apart word held (subst (λ (l : List ℕ). IsBegunBy held l) is_low other) further) in
+          let made = (ones held is short).0 (subst (λ (l : List ℕ). IsBegunBy held l) (sym is_high) further) in
+          subst (λ (e : Entry). R held e (entry_of new held)) (mid ∙ first) made
+    ]),
+    (λ never.
+        let first : entry_of a held ≡ entry_of old held = put.others held is short (λ same. never (subst (λ (l : List ℕ). IsBegunBy held l) same (begun_itself held))) in
+        let mid : entry_of b held ≡ entry_of a held = (zeros held is short).1 (λ other. never (begun_before word held 0 (subst (λ (l : List ℕ). IsBegunBy held l) is_low other))) in
+        let last : entry_of new held ≡ entry_of b held = (ones held is short).1 (λ other. never (begun_before word held 1 (subst (λ (l : List ℕ). IsBegunBy held l) is_high other))) in
+        last ∙ mid ∙ first),
+  )
     where
       not_begun : (bit : ℕ) (more : List ℕ) → more ≡ word ++ bit ∷ [] → IsBegunBy word more → ⊥
       not_begun bit more same begun =
@@ -195,18 +194,18 @@ module _ (word : List ℕ) (width : ℕ) (R : List ℕ → Entry → Entry → T
 module _ (marks : List ℕ) (j : ℕ) (word : List ℕ) (width : ℕ) where
   pub filled_none : (entries : List Entry) → ¬ BeginsWithKey marks word → ¬ StartsKey marks word → FillsUnder word width (IsFilled marks j) entries entries
   filled_none entries no_key no_start held is short = (
-      (λ begun.
-          with_none
-          (λ key. elim (key_back marks word held begun is key) [ inl here ↦ no_key here | inr start ↦ no_start start ])
-          (λ start. no_start (starts_front marks word held begun start))
-          refl),
-      (λ never. refl),
-    )
+    (λ begun.
+        with_none
+        (λ key. elim (key_back marks word held begun is key) [ inl here ↦ no_key here | inr start ↦ no_start start ])
+        (λ start. no_start (starts_front marks word held begun start))
+        refl),
+    (λ never. refl),
+  )
 
   pub filled_key : (bits : ℕ) (old new : List Entry) → bits ≡ length word → BeginsWithKey marks word → FillsUnder word width (IsTaken j bits) old new → FillsUnder word width (IsFilled marks j) old new
   filled_key bits old new size key taken held is short = (
-      (λ begun.
-          let longer = begun_longer word held begun in
-          with_key bits (key_on marks word held begun key) (omega (arith, size, longer)) ((taken held is short).0 begun)),
-      (taken held is short).1,
-    )
+    (λ begun.
+        let longer = begun_longer word held begun in
+        with_key bits (key_on marks word held begun key) (omega (arith, size, longer)) ((taken held is short).0 begun)),
+    (taken held is short).1,
+  )

@@ -25,5 +25,6 @@ pub mod PickTables
 pub mod FillingFacts
 pub mod Choices
 pub mod ChooserFacts
+pub mod TableFacts
 pub mod Answered
 pub mod ExampleFacts

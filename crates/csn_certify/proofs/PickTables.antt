@@ -1,14 +1,14 @@
 -- The places of words in the entries of a choice.
-use Rattle.std.proofs.Common.{◌≡◌, ◌≢◌, ℕ, zero, suc, ◌+◌, ◌-◌, ◌*◌, ◌/◌, ◌^◌, ◌<◌, ◌≤◌, List, [], ◌∷◌, ◌++◌, length, take, drop, refl, sym, ap, ◌∙◌, subst, arith, take-append-drop, get_or-set_other}
+use Rattle.std.proofs.Common.{◌≡◌, ℕ, suc, ◌+◌, ◌-◌, ◌*◌, ◌/◌, ◌^◌, ◌<◌, ◌≤◌, List, length, take, drop, sym, ap, ◌∙◌, arith, take-append-drop, get_or-set_other}
 use Rattle.std.specs.Prelude.{slice_set}
 use Rattle.std.proofs.lemmas.Grind.{get_or-set_at}
 use Rattle.std.proofs.lemmas.List.{length-drop, length-take}
-use Rattle.std.proofs.lemmas.Nat.{div-mul-add, pow_pos}
+use Rattle.std.proofs.lemmas.Nat.{div-mul-add}
 use Rattle.std.proofs.Math.Nat.{pow-le-pow_right}
 use Rattle.csn_look.proofs.Products.{bits_back}
-use Rattle.csn_desc.specs.Values.{number_of}
+use Rattle.csn_bits.specs.Numbers.{number_of}
 use Rattle.csn_desc.proofs.BitFacts.{IsBits-along}
-use Rattle.csn_desc.proofs.NumberFacts.{number_of-lt}
+use Rattle.csn_bits.proofs.NumberFacts.{number_of-lt}
 use Rattle.csn_look.specs.KeyMarks.{IsWord, place_of}
 use Rattle.csn_look.proofs.Places.{place_of-append, place_of-most, place_of-same, word_take}
 use Rattle.csn_certify.specs.declared.pick_table.Entry.{Entry}

@@ -3,8 +3,6 @@ use Rattle.std.specs.Prelude.{◌≡◌, ℕ, Bool, ◌↔◌, List, slice_get, 
 use Rattle.csn_look.specs.declared.key_table.Begins.{Begins}
 use Rattle.csn_look.specs.declared.key_table.Begins.TheVariants as answer
 use Rattle.csn_desc.specs.Nodes.{DescV}
-use Rattle.csn_certify.specs.declared.pick.Alternatives.{Alternatives}
-use Rattle.csn_certify.specs.declared.pick.Alternatives.TheVariants.{WithKey, NoKey}
 use Rattle.csn_certify.specs.Conflicts.{IsNull}
 use Rattle.csn_certify.specs.Picks.{BeginsWithKey, BeginsKey}
 
@@ -36,8 +34,3 @@ module _ (d : DescV) (parts : List ℕ) where
       pub is_none : (j : ℕ) → none ≡ Some j → IsNone j
       pub no_none : none ≡ None → (j : ℕ) → ¬ IsNone j
       pub begins : IsTrue begun ↔ BeginsKey d 12 parts octet held
-
-    -- and so of all alternatives
-    abbrev pub AreAlternatives : Alternatives → Type 0
-    AreAlternatives (WithKey j) = BeginsWithKey d 12 parts octet held j
-    AreAlternatives (NoKey none begun) = AreWithoutKey none begun

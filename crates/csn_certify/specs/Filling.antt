@@ -3,6 +3,8 @@
 use Rattle.std.specs.Prelude.{◌≡◌, ◌≢◌, ℕ, ◌≤◌, List, length, slice_get, Some}
 use Rattle.csn_desc.specs.Nodes.{DescV}
 use Rattle.csn_look.specs.Keys.{InKeys}
+use Rattle.csn_look.specs.LookV.{LookV}
+use Rattle.csn_look.specs.LookKeys.{table_at}
 use Rattle.csn_look.specs.KeyMarks.{IsWord, KeysAre, BeginsWithKey, StartsKey}
 use Rattle.csn_certify.specs.declared.pick_table.Entry.{Entry}
 use Rattle.csn_certify.specs.declared.pick_table.Entry.TheVariants.{Refuse, Wait, Take}
@@ -72,3 +74,8 @@ module _ (d : DescV) (parts : List ℕ) (octet : ℕ) where
       (held : List ℕ) (j : ℕ) → IsWord held → width ≤ length held → BeginsKeyOf d parts octet held j
       → ¬ pick.BeginsWithKey d 12 parts octet held j
       → count ≤ j
+
+-- each alternative has one table at both octet positions
+abbrev pub HaveSameTables : LookV → List ℕ → ℕ → ℕ → Type 0
+HaveSameTables look parts octet other =
+    (j part : ℕ) → slice_get parts j ≡ Some part → table_at look part octet ≡ table_at look part other

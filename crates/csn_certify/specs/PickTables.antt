@@ -1,7 +1,9 @@
 -- Tables of what look-ahead tells at a choice: an entry for each word of as many bits as the choice needs.
-use Rattle.std.specs.Prelude.{◌≡◌, ℕ, ◌+◌, ◌^◌, ◌<◌, ◌≤◌, List, length, take, slice_index_or, Option, Some, None, true, false, refl}
+use Rattle.std.specs.Prelude.{◌≡◌, ℕ, ◌+◌, ◌*◌, ◌^◌, ◌<◌, ◌≤◌, List, length, take, slice_get, slice_index, slice_index_or, Option, Some, None, true, false, refl}
 use Rattle.std.specs.Coded.{Coded, code_by, coded×, coded_ℕ, coded_list, coded_option}
+use Rattle.csn_desc.specs.declared.node.Node.TheVariants.{Choice}
 use Rattle.csn_desc.specs.Nodes.{DescV}
+use Rattle.csn_look.specs.Reached.{Reached}
 use Rattle.csn_look.specs.KeyMarks.{IsWord, place_of}
 use Rattle.csn_certify.specs.declared.pick_table.Entry.{Entry}
 use Rattle.csn_certify.specs.declared.pick_table.Entry.TheVariants.{Refuse, Wait, Take}
@@ -63,3 +65,38 @@ module _ (d : DescV) (parts : List ℕ) (octet : ℕ) where
   -- the table tells it of all held bits
   abbrev pub IsPickTable : PickTableV → Type 0
   IsPickTable table = (held : List ℕ) → IsWord held → Tells held table.none (entry_at table held)
+
+-- the tables of a description, and for each node eight of their numbers, for the octet positions
+pub record PickTablesV : Type 0 where
+  pub tables : List PickTableV
+  pub numbers : List ℕ
+
+abbrev pub pick_tables_code : Coded PickTablesV
+pick_tables_code =
+    code_by (List PickTableV × List ℕ) (coded× (coded_list pick_table_code) (coded_list coded_ℕ))
+    (λ p. (p.tables, p.numbers)) (λ p. record { tables = p.0; numbers = p.1 }) (λ p. refl)
+
+-- the table of node i at the octet position o
+abbrev pub table_of : PickTablesV → ℕ → ℕ → Option PickTableV
+table_of picks i o = slice_get picks.tables (slice_index picks.numbers (8 * i + o))
+
+module _ (d : DescV) where
+  -- the number is that of a table of a choice with these parts
+  abbrev pub HasNumber : List ℕ → ℕ → List PickTableV → ℕ → Type 0
+  HasNumber parts o tables number = (t : PickTableV) × (slice_get tables number ≡ Some t) × IsPickTable d parts o t
+
+  -- the node, a choice with these parts, has its table at the octet position
+  abbrev pub HasTable : PickTablesV → ℕ → List ℕ → ℕ → Type 0
+  HasTable picks i parts o = (t : PickTableV) × (table_of picks i o ≡ Some t) × IsPickTable d parts o t
+
+  -- each choice has its table where it is reached, if node and octet position are among the first so many
+  pub record HaveTables (count : ℕ) (picks : PickTablesV) : Type 0 where
+    pub size : length picks.numbers ≡ 8 * length d.nodes
+    pub tables :
+        (i o : ℕ) (parts : List ℕ) → 8 * i + o < count → o ≤ 7 → slice_get d.nodes i ≡ Some (Choice parts)
+        → Reached d i o
+        → HasTable picks i parts o
+
+  -- and so of all nodes
+  abbrev pub ArePickTables : PickTablesV → Type 0
+  ArePickTables picks = HaveTables (8 * length d.nodes) picks

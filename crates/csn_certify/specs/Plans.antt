@@ -11,22 +11,24 @@ use Rattle.csn_look.specs.NodeSets.{IsLookOf}
 use Rattle.csn_look.specs.ReachV.{ReachV, IsReachOf}
 use Rattle.csn_look.specs.FollowV.{IsFollowOf}
 use Rattle.csn_certify.specs.Conflicts.{Certified}
+use Rattle.csn_certify.specs.PickTables.{PickTablesV, ArePickTables}
 
 -- any bits, of any length, have at most one tree
 abbrev pub HasOneTree : DescV → Type 0
 HasOneTree d = (b : List ℕ) (t u : TreeV) → NMeans d 0 0 [] b t → NMeans d 0 0 [] b u → t ≡ u
 
 -- the tables are those of the description, which is certified
-pub record IsPlan (d : DescV) (look : LookV) (reach : ReachV) : Type 0 where
+pub record IsPlan (d : DescV) (look : LookV) (reach : ReachV) (tables : PickTablesV) : Type 0 where
   pub description : IsDescription d
   pub certified : Certified d 12
   pub sets : IsLookOf d look.sets
   pub keys : IsKeysOf d look
   pub reached : IsReachOf d reach.reached
   pub follow : IsFollowOf d reach.follow
+  pub picks : ArePickTables d tables
 
 -- look-ahead is asked by these tables, at an octet position where a word is held
-pub record IsReady (d : DescV) (look : LookV) (reach : ReachV) (octet : ℕ) (held : List ℕ) : Type 0 where
-  pub plan : IsPlan d look reach
+pub record IsReady (d : DescV) (look : LookV) (reach : ReachV) (tables : PickTablesV) (octet : ℕ) (held : List ℕ) : Type 0 where
+  pub plan : IsPlan d look reach tables
   pub position : octet ≤ 7
   pub word : IsWord held

@@ -4,6 +4,7 @@ ghost use Rattle.csn_certify.specs.Certifying.{IsFaultOf};
 ghost use Rattle.csn_certify.specs.Plans.{HasOneTree};
 
 use crate::conflict::Conflict;
+use crate::pick_tables::PickTables;
 use crate::plan::Plan;
 use crate::search::first_conflict;
 use csn_bits::NoMemory;
@@ -43,7 +44,10 @@ pub fn certify(alloc: Global, desc: Desc) -> Result<Plan, CertifyFault>
     let reach = Reach::new(alloc, &desc, &look)?;
     match first_conflict(alloc, &desc, &look, &reach)? {
         Some(conflict) => Err(CertifyFault::Conflict(conflict)),
-        None => Ok(Plan::new(desc, look, reach)),
+        None => {
+            let picks = PickTables::new(alloc, &desc, &look, &reach)?;
+            Ok(Plan::new(desc, look, reach, picks))
+        }
     }
 }
 

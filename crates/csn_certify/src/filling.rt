@@ -5,7 +5,6 @@ ghost use Rattle.csn_look.specs.KeyMarks.{IsWord};
 ghost use Rattle.csn_certify.specs.PickTables.{HasEntries, entry_of};
 ghost use Rattle.csn_certify.specs.Filling.{started, IsDeep, IsFilled, IsTaken, FillsUnder, FillsAt};
 
-use crate::meets::longer;
 use crate::pick_table::Entry;
 use csn_look::{Begins, KeyTable, Word};
 
@@ -19,10 +18,7 @@ pub(crate) fn depth(table: &KeyTable, word: &Word) -> u8
     match table.begins(word) {
         Begins::Key => word.len(),
         Begins::Neither => word.len(),
-        Begins::Proper => greater(
-            depth(table, &longer(word, 0)),
-            depth(table, &longer(word, 1)),
-        ),
+        Begins::Proper => greater(depth(table, &word.with(0)), depth(table, &word.with(1))),
     }
 }
 
@@ -58,8 +54,8 @@ impl Filling<'_> {
             Begins::Key => self.cover(entries, word, word.len()),
             Begins::Proper => {
                 self.put(entries, word, self.entry(entries, word).started());
-                self.fill(entries, &longer(word, 0));
-                self.fill(entries, &longer(word, 1));
+                self.fill(entries, &word.with(0));
+                self.fill(entries, &word.with(1));
             }
         }
     }
@@ -78,8 +74,8 @@ impl Filling<'_> {
         };
         self.put(entries, word, entry);
         if word.len() < self.width {
-            self.cover(entries, &longer(word, 0), bits);
-            self.cover(entries, &longer(word, 1), bits);
+            self.cover(entries, &word.with(0), bits);
+            self.cover(entries, &word.with(1), bits);
         }
     }
 

@@ -15,6 +15,7 @@ mod meets;
 mod overlaps;
 mod pick;
 mod pick_table;
+mod pick_tables;
 mod plan;
 mod repeats;
 mod search;

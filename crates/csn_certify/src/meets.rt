@@ -36,7 +36,7 @@ pub(crate) fn tables_meet(left: &KeyTable, right: &KeyTable, word: &Word) -> boo
 }
 
 /// The word and a bit behind it.
-pub(crate) fn longer(word: &Word, bit: u8) -> Word
+fn longer(word: &Word, bit: u8) -> Word
     requires bit { bit ≤ 1 }
     requires room { length word.now < 12 }
     ensures value { result ≡ word.now ++ bit ∷ [] }

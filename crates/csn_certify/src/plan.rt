@@ -6,10 +6,12 @@ ghost use Rattle.csn_look.specs.ReachV.{IsReachOf};
 ghost use Rattle.csn_look.specs.FollowV.{IsFollowOf};
 ghost use Rattle.csn_certify.specs.Conflicts.{Certified};
 ghost use Rattle.csn_certify.specs.Picks.{IsAsked, Picks};
+ghost use Rattle.csn_certify.specs.PickTables.{ArePickTables};
 ghost use Rattle.csn_certify.specs.Plans.{HasOneTree};
 
 use crate::laws::blocks_have_one_tree;
 use crate::pick::{Asked, Pick};
+use crate::pick_tables::PickTables;
 use crate::steps::Steps;
 use csn_desc::{Desc, MOST_NODES, Node, Reading};
 use csn_look::{Look, MOST_WORD, Reach, Word};
@@ -26,6 +28,7 @@ pub struct Plan {
     desc: Desc,
     look: Look,
     reach: Reach,
+    picks: PickTables,
 }
 
 impl Model for Plan {
@@ -36,24 +39,30 @@ impl Model for Plan {
 
     ghost view = { λ p. p.desc };
 
-    ghost invariant = { λ p. IsPlan p.desc p.look p.reach };
+    ghost invariant = { λ p. IsPlan p.desc p.look p.reach p.picks };
 }
 
 impl Plan {
     /// The plan of a certified description, with the tables that look-ahead has of it.
-    pub(crate) fn new(desc: Desc, look: Look, reach: Reach) -> Plan
+    pub(crate) fn new(desc: Desc, look: Look, reach: Reach, picks: PickTables) -> Plan
         requires certified { Certified desc MOST_WORD }
         requires sets { IsLookOf desc look.sets }
         requires keys { IsKeysOf desc look }
         requires reached { IsReachOf desc reach.reached }
         requires follow { IsFollowOf desc reach.follow }
+        requires picks { ArePickTables desc picks }
         ensures plan { result ≡ desc }
         ensures one_tree { HasOneTree desc }
     {
         blocks_have_one_tree();
         // its length tells that it is well formed
         let _count = desc.len();
-        Plan { desc, look, reach }
+        Plan {
+            desc,
+            look,
+            reach,
+            picks,
+        }
     }
 
     /// How many nodes the description has. It is certified, so any bits have at most one tree.
@@ -92,6 +101,7 @@ impl Plan {
             desc,
             look: _,
             reach: _,
+            picks: _,
         } = self;
         desc
     }
@@ -129,6 +139,7 @@ impl Plan {
             desc: &self.desc,
             look: &self.look,
             reach: &self.reach,
+            picks: &self.picks,
             octet,
             held,
             ended,

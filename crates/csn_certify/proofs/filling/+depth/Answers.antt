@@ -1,4 +1,3 @@
-use Rattle.std.proofs.Common.{arith}
 use Rattle.csn_certify.proofs.FillingFacts.{deep_at_key, deep_at_none, deep_both}
 use Rattle.csn_certify.proofs.filling.+depth.Goals as goal
 
@@ -10,8 +9,8 @@ returns-in-Neither-clause-deep t c = deep_at_none c.args.table.now c.args.word.n
 
 pub returns-in-Proper-clause-deep : goal.returns-in-Proper-clause-deep
 returns-in-Proper-clause-deep t c =
-    deep_both c.args.table.now c.args.word.now c.depth.result c.depth-in-Proper.result c.greater.result c.longer.result c.longer-in-Proper.result
-    c.longer.ensures c.longer-in-Proper.ensures c.depth.ensures.deep c.depth-in-Proper.ensures.deep c.depth.ensures.more c.greater.ensures.first c.greater.ensures.second
+    deep_both c.args.table.now c.args.word.now c.depth.result c.depth-in-Proper.result c.greater.result c.with.result c.with-in-Proper.result
+    c.with.ensures.value c.with-in-Proper.ensures.value c.depth.ensures.deep c.depth-in-Proper.ensures.deep c.depth.ensures.more c.greater.ensures.first c.greater.ensures.second
 
 pub returns-in-Proper-clause-most : goal.returns-in-Proper-clause-most
 returns-in-Proper-clause-most t c = c.greater.ensures.one 12 c.depth.ensures.most c.depth-in-Proper.ensures.most

@@ -1,4 +1,4 @@
-use Rattle.std.proofs.Common.{rules, ◌≡◌, ◌+◌, ◌-◌, ◌<◌, [], ◌∷◌, length, length-append, ap, ◌∙◌, arith, inr}
+use Rattle.std.proofs.Common.{rules, ◌-◌, ◌<◌, [], ◌∷◌, length, length-append, ap, ◌∙◌, arith, inr}
 use Rattle.csn_certify.proofs.SearchFacts.{denied}
 use Rattle.csn_certify.specs.Overlaps.{MeetUnder}
 use Rattle.csn_certify.proofs.TablesMeet.{apart_left, apart_right, by_left_key, by_right_key, no_touch, never, always, met_at_zero, met_at_one}

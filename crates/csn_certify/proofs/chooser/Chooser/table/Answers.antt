@@ -1,4 +1,5 @@
-use Rattle.std.proofs.Common.{◌≡◌, ◌≤◌, ℕ, List, length, Option, subst, sym, ap, arith}
+use Rattle.std.proofs.Common.{◌≡◌, ◌+◌, ℕ, List, length, Option, Some, subst, sym, ap, ◌∙◌, arith}
+use Rattle.csn_look.proofs.ReachedParts.{written_back}
 use Rattle.csn_certify.specs.declared.pick_table.Entry.{Entry}
 use Rattle.csn_certify.specs.PickTables.{PickTableV, HasEntries, IsPickTable}
 use Rattle.csn_certify.proofs.ChooserFacts.{AllTell, deep_table, all_null, all_marks, table_done}
@@ -19,8 +20,23 @@ loop-j-preserved c =
     let width = c.width-width.result in
     let j = c.loop-j.j in
     elim c.match-keys.branch [
-      | in-None w ↦ ?
-      | in-Some w ↦ ?
+      | in-None w ↦
+          let P : List Entry → Type 0 = λ entries. HasEntries width entries × AllTell d parts octet (j + 1) (Some j) width entries in
+          let Q : Option ℕ → Type 0 = λ none. HasEntries width c.match-keys.entries.items × AllTell d parts octet (j + 1) none width c.match-keys.entries.items in
+          subst Q (sym w.none-is) (subst P (sym (ap (λ v. v.items) w.entries-is))
+          (c.loop-j.invariant.0, all_null d parts octet j width c.loop-j.none c.loop-j.entries.items w.in-None.ensures c.loop-j.invariant.1))
+      | in-Some w ↦
+          let P : List Entry → Type 0 = λ entries. HasEntries width entries × AllTell d parts octet (j + 1) c.loop-j.none width entries in
+          let Q : Option ℕ → Type 0 = λ none. HasEntries width c.match-keys.entries.items × AllTell d parts octet (j + 1) none width c.match-keys.entries.items in
+          let R : List Entry → Type 0 = λ entries. AllTell d parts octet j c.loop-j.none width entries in
+          let before = c.loop-j.invariant.0.count in
+          let after = w.fill.ensures.size.count in
+          let back : c.match-keys.entries.items ≡ w.fill.new.entries = ap (λ v. v.items) w.entries-is ∙ written_back w.fill.new.entries c.loop-j.entries.items c.loop-j.entries.len (after ∙ sym before) c.loop-j.entries.ok.0 in
+          subst Q (sym w.none-is) (subst P (sym back) (
+            w.fill.ensures.size,
+            all_marks d parts octet j width c.loop-j.none w.in-Some.table.now w.as_mut_slice.result.now w.fill.new.entries w.in-Some.ensures w.new.result w.new.ensures w.fill.ensures.fills
+                (subst R (sym w.as_mut_slice.ensures.value) c.loop-j.invariant.1),
+          ))
     ]
 
 pub returns : goal.returns
@@ -31,4 +47,4 @@ returns c =
     let count = c.len-j-end.ensures.len in
     let end = c.loop-j-test.false in
     let P : PickTableV → Type 0 = λ t. IsPickTable d parts octet t in
-    subst P (sym c.new-2.ensures) (table_done d parts octet (length parts) c.width-width.result c.loop-j.none c.loop-j.entries.items c.width-width.ensures.deep (omega arith) ?)
+    subst P (sym c.new-2.ensures) (table_done d parts octet (length parts) c.loop-j.j c.width-width.result c.loop-j.none c.loop-j.entries.items c.width-width.ensures.deep (omega arith) (omega arith) c.loop-j.invariant.1)

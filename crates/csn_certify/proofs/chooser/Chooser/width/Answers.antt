@@ -1,5 +1,4 @@
-use Rattle.std.proofs.Common.{◌≡◌, ◌≤◌, ℕ, Option, subst, sym, Bor}
-use Rattle.std.specs.Prelude.{MatchOption}
+use Rattle.std.proofs.Common.{◌≤◌, ◌+◌, ℕ, subst, sym}
 use Rattle.csn_certify.specs.Filling.{AreDeep}
 use Rattle.csn_certify.proofs.ChooserFacts.{deep_null, deep_more}
 use Rattle.csn_certify.proofs.chooser.Chooser.width.Goals.{in-None, in-Some}

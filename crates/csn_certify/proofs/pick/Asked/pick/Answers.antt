@@ -3,7 +3,7 @@ use Rattle.std.specs.Prelude.{slice_get}
 use Rattle.csn_desc.specs.declared.node.Node.{Node}
 use Rattle.csn_desc.specs.Nodes.{parts_of}
 use Rattle.csn_look.proofs.ReachedParts.{parts_below}
-use Rattle.csn_certify.proofs.Answered.{not_asked}
+use Rattle.csn_certify.proofs.Answered.{not_asked, reached_where_asked}
 use Rattle.csn_certify.proofs.pick.Asked.pick.Goals as goal
 
 pub many-requires-clause-part : goal.many-requires-clause-part
@@ -15,3 +15,9 @@ many-requires-clause-part c =
 pub returns-in_default : goal.returns-in_default
 returns-in_default c =
     absurd (not_asked c.args.self.now.desc.now c.args.node c.args.self.now.octet c.node.result.now c.node.ensures c.in_default.not-Choice c.in_default.not-Many c.requires.asked)
+
+pub choice-requires-clause-reached : goal.choice-requires-clause-reached
+choice-requires-clause-reached c =
+    let at = c.node.ensures in
+    let is = c.in-Choice.is in
+    reached_where_asked c.args.self.now.desc.now c.args.node c.args.self.now.octet c.in-Choice.field-0 (cc) c.requires.asked

@@ -1,7 +1,7 @@
-use Rattle.std.proofs.Common.{◌≡◌, ◌<◌, ◌↔◌, Bool, Some, length, sym, subst, arith}
+use Rattle.std.proofs.Common.{◌≡◌, ◌<◌, ◌↔◌, ℕ, Option, length, subst, arith}
 use Rattle.std.specs.Prelude.{IsTrue}
 use Rattle.csn_look.specs.Reached.{InFollow}
-use Rattle.csn_certify.proofs.Answered.{behind_none, behind_first, may_follow}
+use Rattle.csn_certify.proofs.Answered.{behind_none, behind_first}
 use Rattle.csn_certify.proofs.pick.Asked.stands_behind.Goals as goal
 
 pub returns-then-len-eq0 : goal.returns-then-len-eq0
@@ -18,6 +18,5 @@ returns-else-len-eq0 c =
     let count = c.len.ensures.count in
     let is = c.if-len-eq0.false in
     let some : 0 < length c.args.self.now.held.now = omega arith in
-    let P : Bool → Type 0 = λ r. IsTrue r ↔ InFollow d c.args.node octet (Some c.get.result) in
-    let tells = may_follow d c.args.node octet c.get.result c.follow.result c.at.result c.sign_of-first.result c.sign_of-first.ensures c.requires.ready.position c.at.ensures (c.follow.ensures d c.requires.ready.plan.follow) in
-    behind_first d c.has.result c.get.result c.args.self.now.held.now some c.get.ensures.value (subst P (sym c.has.ensures) tells)
+    let P : Option ℕ → Type 0 = λ sign. IsTrue c.may_follow.result ↔ InFollow d c.args.node octet sign in
+    behind_first d c.may_follow.result c.get.result c.args.self.now.held.now some c.get.ensures.value (subst P c.sign_of-first.ensures (c.may_follow.ensures d c.requires.ready.plan.follow))

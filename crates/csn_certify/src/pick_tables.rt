@@ -1,0 +1,209 @@
+//! The tables of all choices of a description.
+
+ghost use Rattle.std.specs.Prelude.{◌≡◌, ℕ, List, ◌+◌, ◌*◌, ◌<◌, ◌≤◌, ◌++◌, [], ◌∷◌, length, slice_get, slice_set, Some, IsTrue, IfOk, IfSome};
+ghost use Rattle.csn_desc.specs.declared.node.Node.TheVariants.{Choice};
+ghost use Rattle.csn_look.specs.NodeSets.{IsLookOf};
+ghost use Rattle.csn_look.specs.LookKeys.{IsKeysOf};
+ghost use Rattle.csn_look.specs.ReachV.{IsReachOf};
+ghost use Rattle.csn_look.specs.FollowV.{IsFollowOf};
+ghost use Rattle.csn_certify.specs.Search.{IsSurveyed};
+ghost use Rattle.csn_look.specs.Steps.{HasPartsBelow};
+ghost use Rattle.csn_certify.specs.PickTables.{PickTableV, table_of, HasNumber, HaveTables, ArePickTables};
+ghost use Rattle.csn_certify.specs.Filling.{HaveSameTables};
+
+use crate::chooser::Chooser;
+use crate::pick_table::PickTable;
+use crate::search::Search;
+use csn_bits::NoMemory;
+use csn_desc::{Desc, Node, Parts};
+use csn_look::{Look, Reach};
+use std::alloc::Global;
+use std::marker::Model;
+
+/// The tables of the choices of a description at the octet positions at which these are reached. A contract sees
+/// the tables and their numbers, and `ArePickTables` says that they are those of a description.
+#[derive(Drop)]
+pub(crate) struct PickTables {
+    tables: Vec<PickTable>,
+    // for each node, and each octet position from 0 to 7, which table it has
+    numbers: Vec<usize>,
+}
+
+impl Model for PickTables {
+    ghost use Rattle.csn_certify.specs.PickTables.{PickTablesV, pick_tables_code};
+
+    ghost Value = { PickTablesV };
+
+    ghost coded = { pick_tables_code };
+
+    ghost view = { λ p. record { tables = p.tables.items; numbers = p.numbers.items } };
+}
+
+impl PickTables {
+    /// The tables of a description.
+    pub fn new(
+        alloc: Global,
+        desc: &Desc,
+        look: &Look,
+        reach: &Reach,
+    ) -> Result<PickTables, NoMemory>
+        requires sets { IsLookOf desc.now look.now.sets }
+        requires keys { IsKeysOf desc.now look.now }
+        requires reached { IsReachOf desc.now reach.now.reached }
+        requires follow { IsFollowOf desc.now reach.now.follow }
+        ensures { IfOk result (ArePickTables desc.now) }
+    {
+        let known = Search { desc, look, reach };
+        let count = desc.len();
+        let mut picks = PickTables {
+            tables: Vec::new(alloc),
+            numbers: no_numbers(alloc, count)?,
+        };
+        for node in 0..count {
+            if let Node::Choice(parts) = desc.node(node) {
+                picks.add_choice(alloc, &known, node, parts)?;
+            }
+        }
+        Ok(picks)
+    }
+
+    /// The table of a choice at an octet position.
+    pub fn table(&self, node: u16, octet: u8) -> &PickTable
+        requires octet { octet ≤ 7 }
+        requires within { 8 * node + octet < length self.now.numbers }
+        requires there { (t : PickTableV) × (table_of self.now node octet ≡ Some t) }
+        ensures { table_of self.now node octet ≡ Some result.now }
+    {
+        self.of(self.numbers.as_slice()[place(node, octet)])
+    }
+
+    /// The table with this number.
+    fn of(&self, number: usize) -> &PickTable
+        requires { number < length self.now.tables }
+        ensures { slice_get self.now.tables number ≡ Some result.now }
+    {
+        &self.tables[number]
+    }
+
+    /// Adds the tables of a choice.
+    fn add_choice(
+        &mut self,
+        alloc: Global,
+        known: &Search,
+        node: u16,
+        parts: &Parts,
+    ) -> Result<(), NoMemory>
+        requires known { IsSurveyed known.now.desc.now known.now.look.now known.now.reach.now }
+        requires choice { slice_get known.now.desc.now.nodes node ≡ Some (Choice parts.now) }
+        requires before { HaveTables known.now.desc.now (8 * node) self.old }
+        ensures { IfOk result (λ done. HaveTables known.now.desc.now (8 * (node + 1)) self.new) }
+    {
+        for octet in 0..8 {
+            if known.reach.reached(node).has(octet) {
+                let number = self.number(alloc, known, node, parts, octet)?;
+                self.put(place(node, octet), number);
+            }
+        }
+        Ok(())
+    }
+
+    /// The number of the table of a choice at an octet position: that of an earlier octet position, where the
+    /// alternatives have the same keys there, and else that of a new table.
+    fn number(
+        &mut self,
+        alloc: Global,
+        known: &Search,
+        node: u16,
+        parts: &Parts,
+        octet: u8,
+    ) -> Result<usize, NoMemory>
+        requires known { IsSurveyed known.now.desc.now known.now.look.now known.now.reach.now }
+        requires choice { slice_get known.now.desc.now.nodes node ≡ Some (Choice parts.now) }
+        requires octet { octet ≤ 7 }
+        requires before { HaveTables known.now.desc.now (8 * node + octet) self.old }
+        ensures number { IfOk result (HasNumber known.now.desc.now parts.now octet self.new.tables) }
+        ensures numbers { self.new.numbers ≡ self.old.numbers }
+        ensures more { (more : List PickTableV) × (self.new.tables ≡ self.old.tables ++ more) }
+    {
+        if let Some(number) = self.shared(known, node, parts, octet) {
+            return Ok(number);
+        }
+        let chooser = Chooser {
+            desc: known.desc,
+            look: known.look,
+            parts,
+            octet,
+        };
+        self.keep(chooser.table(alloc)?)
+    }
+
+    /// The number of the table of a choice at an earlier octet position, where the alternatives have the same keys.
+    fn shared(&self, known: &Search, node: u16, parts: &Parts, octet: u8) -> Option<usize>
+        requires known { IsSurveyed known.now.desc.now known.now.look.now known.now.reach.now }
+        requires choice { slice_get known.now.desc.now.nodes node ≡ Some (Choice parts.now) }
+        requires octet { octet ≤ 7 }
+        requires before { HaveTables known.now.desc.now (8 * node + octet) self.now }
+        ensures { IfSome result (HasNumber known.now.desc.now parts.now octet self.now.tables) }
+    {
+        for other in 0..octet {
+            if known.reach.reached(node).has(other) && have_same_keys(known, parts, octet, other) {
+                return Some(self.numbers.as_slice()[place(node, other)]);
+            }
+        }
+        None
+    }
+
+    /// Puts a number at a place.
+    fn put(&mut self, place: usize, number: usize)
+        requires { place < length self.old.numbers }
+        ensures tables { self.new.tables ≡ self.old.tables }
+        ensures numbers { self.new.numbers ≡ slice_set self.old.numbers place number }
+    {
+        self.numbers[place] = number;
+    }
+
+    /// Keeps a table, and answers its number.
+    fn keep(&mut self, table: PickTable) -> Result<usize, NoMemory>
+        ensures number { IfOk result (λ number. slice_get self.new.tables number ≡ Some table) }
+        ensures numbers { self.new.numbers ≡ self.old.numbers }
+        ensures more { (more : List PickTableV) × (self.new.tables ≡ self.old.tables ++ more) }
+    {
+        let number = self.tables.len();
+        self.tables.push(table)?;
+        Ok(number)
+    }
+}
+
+/// Where the number of a node's table at an octet position stands.
+fn place(node: u16, octet: u8) -> usize
+    requires { octet ≤ 7 }
+    ensures { result ≡ 8 * node + octet }
+{
+    8 * node as usize + octet as usize
+}
+
+/// Whether the alternatives of a choice have the same keys at two octet positions.
+fn have_same_keys(known: &Search, parts: &Parts, octet: u8, other: u8) -> bool
+    requires known { IsSurveyed known.now.desc.now known.now.look.now known.now.reach.now }
+    requires below { HasPartsBelow (Choice parts.now) (length known.now.desc.now.nodes) }
+    requires octet { octet ≤ 7 }
+    requires other { other ≤ 7 }
+    ensures { IsTrue result → HaveSameTables known.now.look.now parts.now octet other }
+{
+    for j in 0..parts.len() {
+        if !known.look.same_keys(parts.get(j), octet, other) {
+            return false;
+        }
+    }
+    true
+}
+
+/// As many numbers as there are nodes and octet positions.
+fn no_numbers(alloc: Global, count: u16) -> Result<Vec<usize>, NoMemory>
+    ensures { IfOk result (λ numbers. length numbers.items ≡ 8 * count) }
+{
+    match vec![in alloc; 0; 8 * count as usize] {
+        Ok(numbers) => Ok(numbers),
+        Err(_) => Err(NoMemory),
+    }
+}
