@@ -139,4 +139,5 @@ def main():
             print(f"| {title} | {cells} |")
 
 
-main()
+if __name__ == "__main__":
+    main()
