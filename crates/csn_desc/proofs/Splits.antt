@@ -18,3 +18,12 @@ splits {A} (x ∷ a) b (y ∷ c) e p =
     let rest : a ++ b ≡ c ++ e = cc in
     let P : A → Type 0 = λ z. Splits (x ∷ a) b (z ∷ c) e in
     subst P same (longer x (splits a b c e rest))
+
+-- both pieces of the empty list are empty
+pub front_empty : {A : Type 0} (a b : List A) → a ++ b ≡ [] → a ≡ []
+front_empty [] b none = refl
+front_empty (x ∷ a) b none = absurd (cc)
+
+pub rest_empty : {A : Type 0} (a b : List A) → a ++ b ≡ [] → b ≡ []
+rest_empty [] b none = none
+rest_empty (x ∷ a) b none = absurd (cc)

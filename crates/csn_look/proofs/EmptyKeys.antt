@@ -4,6 +4,7 @@ use Rattle.csn_desc.specs.declared.symbol.Symbol.{Symbol}
 use Rattle.csn_desc.specs.declared.node.Node.{Node}
 use Rattle.csn_desc.specs.Nodes.{DescV}
 use Rattle.csn_desc.specs.Spelled.{spelled}
+use Rattle.csn_desc.proofs.Splits.{front_empty, rest_empty}
 use Rattle.csn_look.specs.Keys.{Cut, kept, cut, InKeys, NodeKeys, PartsKeys, TimesKeys, keys_at, keys_lits, keys_spare, keys_field, keys_pad, keys_null, keys_rest, keys_many, keys_trunc, keys_window, keys_counted_field, keys_counted_times, keys_seq, keys_times, keys_choice, keys_named, parts_none, parts_cut, parts_whole, times_none, times_cut, times_whole}
 
 -- what is left empty was empty, and keeps its mark
@@ -21,8 +22,7 @@ pub empty_cut : {most : ℕ} {whole mark : Bool} (w : List ℕ) → w ≡ [] →
 empty_cut w none same = kept (rw none (omega arith)) (sym none) same
 
 pub no_words : (a b : List ℕ) → a ++ b ≡ [] → (a ≡ []) × (b ≡ [])
-no_words [] b none = (refl, none)
-no_words (x ∷ a) b none = absurd (cc)
+no_words a b none = (front_empty a b none, rest_empty a b none)
 
 spelled-none : (run : List Symbol) (o p : ℕ) → spelled run o ≡ [] → spelled run p ≡ []
 spelled-none [] o p none = refl

@@ -8,6 +8,7 @@ use Rattle.csn_desc.specs.TreeV.{TreeV, Trees}
 use Rattle.csn_desc.specs.Nodes.{DescV}
 use Rattle.csn_desc.specs.Values.{Values, value_of, count_of}
 use Rattle.csn_desc.specs.Means.{NMeans, NodeMeans, PartsMean, means_at, means_lits, means_spare, means_pad, means_null, means_field, means_rest, means_seq, means_choice, means_times, means_many, means_cut, means_trunc, means_window, means_named, parts_end, parts_next, times_end, times_next}
+use Rattle.csn_desc.proofs.Splits.{front_empty, rest_empty}
 use Rattle.csn_look.specs.Nullable.{Nullable, NodeNullable, AllNullable, nullable_at, nullable_null, nullable_rest, nullable_many, nullable_trunc, nullable_field, nullable_times, nullable_no_times, nullable_window, nullable_seq, nullable_choice, nullable_named, all_end, all_next}
 use Rattle.csn_look.proofs.ShapeFacts.{CountIs, NodeIs, Shaped}
 
@@ -22,14 +23,6 @@ no_units unit (suc n) b some wide none =
 none_added : (m c : ℕ) (value : Option ℕ) → option_map (λ x. m * x + c) value ≡ Some 0 → c ≡ 0
 none_added m c None counts = absurd (cc)
 none_added m c (Some x) counts = let sum : m * x + c ≡ 0 = cc in omega arith
-
-none_before : (a b : List ℕ) → a ++ b ≡ [] → a ≡ []
-none_before [] b none = refl
-none_before (x ∷ a) b none = absurd (cc)
-
-none_behind : (a b : List ℕ) → a ++ b ≡ [] → b ≡ []
-none_behind [] b none = none
-none_behind (x ∷ a) b none = absurd (cc)
 
 module _ (d : DescV) where
   no_field : (unit : ℕ) (count : Count) (v : Values) {n : ℕ} → CountIs d.nodes count → count_of v count ≡ Some n → n ≡ 0 → NodeNullable d (Field unit count)
@@ -65,7 +58,7 @@ module _ (d : DescV) (shaped : Shaped d) where
     node_nullable is (means_choice {j = j} at h) none = nullable_choice j at (nullable h none)
     node_nullable {v = v} is (means_times {count = count} n counts (times_end over h)) none = no_times d count v is counts over
     node_nullable is (means_times n counts (times_next m over b1 b2 cut h others)) none =
-        nullable_times (nullable h (none_before b1 b2 (sym cut ∙ none)))
+        nullable_times (nullable h (front_empty b1 b2 (sym cut ∙ none)))
     node_nullable is (means_many h) none = nullable_many
     node_nullable is (means_cut h) none = nullable_trunc
     node_nullable is (means_trunc h) none = nullable_trunc
@@ -76,4 +69,4 @@ module _ (d : DescV) (shaped : Shaped d) where
     pub parts_nullable : {parts : List ℕ} {o : ℕ} {v : Values} {b : List ℕ} {ts : Trees} → PartsMean d parts o v b ts → b ≡ [] → AllNullable d parts
     parts_nullable (parts_end h) none = all_end
     parts_nullable (parts_next b1 b2 cut h others) none =
-        all_next (nullable h (none_before b1 b2 (sym cut ∙ none))) (parts_nullable others (none_behind b1 b2 (sym cut ∙ none)))
+        all_next (nullable h (front_empty b1 b2 (sym cut ∙ none))) (parts_nullable others (rest_empty b1 b2 (sym cut ∙ none)))
