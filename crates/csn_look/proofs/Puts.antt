@@ -1,5 +1,5 @@
 -- Lists in which something was put, and parted at a place.
-use Rattle.std.proofs.Common.{◌≡◌, ◌≢◌, ℕ, zero, suc, ◌<◌, ◌≤◌, List, [], ◌∷◌, ◌++◌, length, take, drop, refl, sym, ap, ◌∙◌, arith, inl, inr, Some, get_or-set_same, get_or-set_other}
+use Rattle.std.proofs.Common.{◌≡◌, ◌≢◌, ℕ, zero, suc, ◌<◌, ◌≤◌, List, [], ◌∷◌, ◌++◌, length, take, drop, refl, sym, ap, ◌∙◌, subst, arith, inl, inr, Some, get_or-set_same, get_or-set_other}
 use Rattle.std.specs.Prelude.{slice_get}
 use Rattle.std.proofs.Math.ListN.{set as put, length-set}
 use Rattle.std.proofs.lemmas.Bool.{cases_order}
@@ -55,3 +55,8 @@ pub split_drop : (parts : List ℕ) (j p : ℕ) → slice_get parts j ≡ Some p
 split_drop [] j p at = cc
 split_drop (x ∷ parts) zero p at = let same : x ≡ p = cc in ap (λ y. y ∷ parts) same
 split_drop (x ∷ parts) (suc j) p at = ap (λ l. x ∷ l) (split_drop parts j p at)
+
+-- what is read of a list that is another one
+pub read_through : {A : Type 0} (items table : List A) (at : ℕ) (found : A) → items ≡ table → at < length table → (at < length items → slice_get items at ≡ Some found) → slice_get table at ≡ Some found
+read_through items table at found same inside there =
+    let within : at < length items = omega (arith, ap length same, inside) in subst (λ l. slice_get l at ≡ Some found) same (there within)

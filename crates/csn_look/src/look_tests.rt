@@ -1,4 +1,5 @@
 use super::*;
+use crate::tests::marks_of;
 use csn_desc::{Count, Desc, DescBuilder, Head, Label, MOST_SYMBOLS, Reading, Run, Symbol};
 use std::alloc::Global;
 use std::process::Abort;
@@ -115,16 +116,6 @@ fn last_kinds(alloc: Global, builder: &mut DescBuilder) -> Result<(), Fail> {
     leave(builder)?;
     leaf(builder, Head::Null)?;
     leaf(builder, Head::Pad)
-}
-
-fn marks_of(set: OctetSet) -> u8 {
-    let mut marks = 0;
-    for octet in 0..8 {
-        if set.has(octet) {
-            marks |= 1 << octet;
-        }
-    }
-    marks
 }
 
 fn word_of(bits: &[u8], rt: &impl Abort) -> Word {

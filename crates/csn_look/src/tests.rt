@@ -48,7 +48,7 @@ fn set_of(marks: u8) -> OctetSet {
     set
 }
 
-fn marks_of(set: OctetSet) -> u8 {
+pub(crate) fn marks_of(set: OctetSet) -> u8 {
     let mut marks = 0;
     for octet in 0..8 {
         if set.has(octet) {

@@ -8,15 +8,14 @@ use Rattle.csn_look.specs.FollowV.{IsFollowOf, FollowsAre}
 use Rattle.csn_look.specs.Reached.{InFollow}
 use Rattle.csn_look.specs.ReachV.{ReachV}
 use Rattle.csn_look.specs.Signs.{bit_of_sign}
+use Rattle.csn_look.proofs.Puts.{read_through}
 use Rattle.csn_look.proofs.FollowedParts.{known_follow}
 use Rattle.csn_look.proofs.Telling.{is_so}
 use Rattle.csn_look.proofs.reach.Reach.may_follow.Goals as goal
 
 -- what is kept of the node says what may follow it
 follows : (d : DescV) (items table : List Following) (node : ℕ) (found : Following) → items ≡ table → node < length table → (node < length items → slice_get items node ≡ Some found) → IsFollowOf d table → FollowsAre d node found
-follows d items table node found same inside at t =
-    let there : node < length items = omega (arith, ap length same, inside) in
-    known_follow d table node found t (subst (λ (l : List Following). slice_get l node ≡ Some found) same (at there))
+follows d items table node found same inside at t = known_follow d table node found t (read_through items table node found same inside at)
 
 pub returns-in-Zero : goal.returns-in-Zero
 returns-in-Zero c = λ d table.
