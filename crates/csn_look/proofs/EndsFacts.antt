@@ -11,9 +11,8 @@ use Rattle.csn_desc.specs.Means.{NMeans, NodeMeans, PartsMean, TimesMean, ManyMe
 use Rattle.csn_desc.specs.Means as mean
 use Rattle.csn_desc.specs.Formed.{FitWidths}
 use Rattle.csn_desc.proofs.BitFacts.{length-spelled}
-use Rattle.csn_desc.proofs.ValuesKept.{fits_kept}
 use Rattle.csn_look.specs.Ends.{InEnds, NodeEnds, PartsEnd, TimesEnd, ManyEnd, LeadEnd, ends_at, ends_lits, ends_spare, ends_null, ends_pad, ends_rest, ends_field, ends_window, ends_seq, ends_choice, ends_times, ends_counted, ends_many, ends_trunc, ends_named, parts_end, parts_next, times_end, times_next, many_end, many_next, lead_end, lead_next}
-use Rattle.csn_look.proofs.ShapeFacts.{NodeIs, Shaped, may_count, octet-on, octet-same, place-split}
+use Rattle.csn_look.proofs.ShapeFacts.{NodeIs, Shaped, may_count, octet-on, octet-same, place-split, kept}
 
 octet-lt : (p : ℕ) → p % 8 < 8
 octet-lt p = omega arith
@@ -29,7 +28,7 @@ module _ (d : DescV) (shaped : Shaped d) where
   mutual
     -- p is the place behind the bits
     pub ends : {i o : ℕ} {v : Values} {b : List ℕ} {t : TreeV} (p : ℕ) → p ≡ o + length b → FitWidths d v → NMeans d i o v b t → InEnds d i (o % 8) (p % 8)
-    ends {i = i} p is widths (means_at n at h) = ends_at n at (node_ends p is (shaped i n at) widths h)
+    ends {i = i} p is widths (means_at n at h) = ends_at n at (node_ends p is (shaped.node i n at) widths h)
 
     pub node_ends : {n : Node} {o : ℕ} {v : Values} {b : List ℕ} {t : TreeV} (p : ℕ) → p ≡ o + length b → NodeIs d.nodes n → FitWidths d v → NodeMeans d n o v b t → NodeEnds d n (o % 8) (p % 8)
     node_ends {o = o} {b = b} p is shape widths (means_lits {run = run} h) =
@@ -54,7 +53,7 @@ module _ (d : DescV) (shaped : Shaped d) where
     pub parts_ends : {parts : List ℕ} {o : ℕ} {v : Values} {b : List ℕ} {ts : Trees} (p : ℕ) → p ≡ o + length b → FitWidths d v → PartsMean d parts o v b ts → PartsEnd d parts (o % 8) (p % 8)
     parts_ends {o = o} {b = b} p is widths (mean.parts_end h) = parts_end (octet-same o p (length b) is (ap length h))
     parts_ends {o = o} p is widths (mean.parts_next b1 b2 cut h others) =
-        parts_next ((o + length b1) % 8) (ends (o + length b1) refl widths h) (parts_ends p (place-split o b1 b2 p is cut) (fits_kept d widths h) others)
+        parts_next ((o + length b1) % 8) (ends (o + length b1) refl widths h) (parts_ends p (place-split o b1 b2 p is cut) (kept d shaped widths h) others)
 
     pub times_ends : {n i o : ℕ} {v : Values} {b : List ℕ} {ts : Trees} (p : ℕ) → p ≡ o + length b → FitWidths d v → TimesMean d n i o v b ts → TimesEnd d n i (o % 8) (p % 8)
     times_ends {o = o} {b = b} p is widths (mean.times_end over h) = times_end over (octet-same o p (length b) is (ap length h))
@@ -74,4 +73,4 @@ module _ (d : DescV) (shaped : Shaped d) where
     pub lead_ends : {parts : List ℕ} {o : ℕ} {v : Values} {b : List ℕ} {ts : Trees} (p : ℕ) → p ≡ o + length b → FitWidths d v → LeadMean d parts o v b ts → LeadEnd d parts (o % 8) (p % 8)
     lead_ends {o = o} p is widths (lead_last some h) = lead_next (p % 8) (ends p is widths h) (lead_end refl)
     lead_ends {o = o} p is widths (mean.lead_next b1 b2 cut h others) =
-        lead_next ((o + length b1) % 8) (ends (o + length b1) refl widths h) (lead_ends p (place-split o b1 b2 p is cut) (fits_kept d widths h) others)
+        lead_next ((o + length b1) % 8) (ends (o + length b1) refl widths h) (lead_ends p (place-split o b1 b2 p is cut) (kept d shaped widths h) others)

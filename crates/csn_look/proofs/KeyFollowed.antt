@@ -11,16 +11,24 @@ use Rattle.csn_desc.specs.Values.{Values, count_of, with_value}
 use Rattle.csn_desc.specs.Means.{NMeans, PartsMean, TimesMean, means_lits, means_spare, means_pad, means_field, means_seq, means_times, parts_end, parts_next, times_end, times_next}
 use Rattle.csn_desc.specs.Follows.{NFollow, NodeFollows, PartsFollow, TimesFollow, follows_at, follows_whole, follows_lits, follows_spare, follows_pad, follows_field, follows_seq, follows_choice, follows_times, follows_named, parts_here, parts_later, times_here, times_later}
 use Rattle.csn_desc.specs.Formed.{shows_earlier, Formed, PartsFormed, formed, formed_end, formed_next, HaveValues}
+use Rattle.csn_desc.specs.Laws.{PrefixesAreFollowed, EmptyBitsAreFollowed, ValuesStayThere}
 use Rattle.csn_desc.proofs.Nodewise.{follow_at}
-use Rattle.csn_desc.proofs.Empties.{empty_followed}
-use Rattle.csn_desc.proofs.Prefixes.{prefix_followed}
-use Rattle.csn_desc.proofs.ValuesKept.{values_kept}
 use Rattle.csn_look.specs.Keys.{InKeys, NodeKeys, PartsKeys, TimesKeys, keys_at, keys_lits, keys_spare, keys_field, keys_pad, keys_null, keys_rest, keys_many, keys_trunc, keys_window, keys_counted_field, keys_counted_times, keys_seq, keys_times, keys_choice, keys_named, parts_none, parts_cut, parts_whole, times_none, times_cut, times_whole}
 use Rattle.csn_look.proofs.KeyFacts.{spelled-octet}
 use Rattle.csn_look.proofs.KeyMeant.{cut_rest, spare_at, octet_next, octet_again, key_meant}
 use Rattle.csn_look.proofs.NearFacts.{held_along}
 
 module _ (d : DescV) (most : ℕ) where
+  -- a part of a choice sees what the choice sees
+  pub choice_formed : {seen : List ℕ} {round : ℕ} {parts : List ℕ} (j i : ℕ) → PartsFormed d.nodes false seen round parts → slice_get parts j ≡ Some i → Formed d.nodes seen round i
+  choice_formed j i formed_end at = absurd (cc)
+  choice_formed {seen} {round} zero i (formed_next {i = p} first others) at =
+      let same : p ≡ i = cc in
+      let P : ℕ → Type 0 = λ k. Formed d.nodes seen round k in
+      subst P same first
+  choice_formed (suc j) i (formed_next first others) at = choice_formed j i others at
+
+module _ (d : DescV) (most : ℕ) (prefixes : PrefixesAreFollowed) (empties : EmptyBitsAreFollowed) (there : ValuesStayThere) where
   -- bits, with these first, that some parts follow or have trees for all of
   data Extends (parts : List ℕ) (o : ℕ) (v : Values) (x : List ℕ) : Type 0 where
     extends_follow : (w rest : List ℕ) → w ≡ x ++ rest → PartsFollow d parts o v w → Extends parts o v x
@@ -45,7 +53,8 @@ module _ (d : DescV) (most : ℕ) where
 
   -- the first few of what a node follows
   front_followed : {n : Node} {o : ℕ} {v : Values} {w : List ℕ} (i : ℕ) (x rest : List ℕ) → slice_get d.nodes i ≡ Some n → w ≡ x ++ rest → NodeFollows d n o v w → NodeFollows d n o v x
-  front_followed {n} i x rest at is h = follow_at d at (prefix_followed d (follows_at n at h) x rest is)
+  front_followed {n} {o} {v} i x rest at is h =
+      let P : List ℕ → Type 0 = λ l. NFollow d i o v l in follow_at d at (prefixes d i o v x rest (subst P is (follows_at n at h)))
 
   seq_followed : {o : ℕ} {parts : List ℕ} {v : Values} {x : List ℕ} (i : ℕ) → slice_get d.nodes i ≡ Some (Seq parts) → Extends parts o v x → NodeFollows d (Seq parts) o v x
   seq_followed {x = x} i at (extends_follow w rest is h) = front_followed i x rest at is (follows_seq h)
@@ -55,15 +64,6 @@ module _ (d : DescV) (most : ℕ) where
   repeat_followed {x = x} i n at counts (times_follow w rest is h) = front_followed i x rest at is (follows_times n counts h)
   repeat_followed {x = x} i n at counts (times_mean w rest ts is h) = front_followed i x rest at is (follows_whole (row ts) (means_times n counts h))
 
-  -- a part of a choice sees what the choice sees
-  pub choice_formed : {seen : List ℕ} {round : ℕ} {parts : List ℕ} (j i : ℕ) → PartsFormed d.nodes false seen round parts → slice_get parts j ≡ Some i → Formed d.nodes seen round i
-  choice_formed j i formed_end at = absurd (cc)
-  choice_formed {seen} {round} zero i (formed_next {i = p} first others) at =
-      let same : p ≡ i = cc in
-      let P : ℕ → Type 0 = λ k. Formed d.nodes seen round k in
-      subst P same first
-  choice_formed (suc j) i (formed_next first others) at = choice_formed j i others at
-
   bits_along : {n : Node} {o : ℕ} {v : Values} {x : List ℕ} → x ≡ [] → NodeFollows d n o v [] → NodeFollows d n o v x
   bits_along {n} {o} {v} same h = let P : List ℕ → Type 0 = λ l. NodeFollows d n o v l in subst P (sym same) h
 
@@ -72,7 +72,7 @@ module _ (d : DescV) (most : ℕ) where
     pub key_followed : {seen : List ℕ} {round i : ℕ} {x : List ℕ} {mark : Bool} (o p : ℕ) (v : Values) → p ≡ o % 8 → HaveValues v seen → Formed d.nodes seen round i → InKeys d most i p x mark → NFollow d i o v x
     key_followed {i = i} o p v oct values (formed n at few head have room held) (keys_at m is h) =
         let same : n ≡ m = cc in
-        let nothing = follow_at d is (empty_followed d v o values (formed n at few head have room held)) in
+        let nothing = follow_at d is (empties d _ _ i o v (formed n at few head have room held) values) in
         follows_at m is (node_key_followed i o p v oct values is (held_along d most same held) nothing h)
 
     node_key_followed : {seen : List ℕ} {round : ℕ} {n : Node} {x : List ℕ} {mark : Bool} (i o p : ℕ) (v : Values) → p ≡ o % 8 → HaveValues v seen → slice_get d.nodes i ≡ Some n → PartsFormed d.nodes (shows_earlier n) seen round (parts_of n) → NodeFollows d n o v [] → NodeKeys d most n p x mark → NodeFollows d n o v x
@@ -93,7 +93,7 @@ module _ (d : DescV) (most : ℕ) where
     node_key_followed i o p v oct values at held nothing (keys_counted_times is mark) = bits_along is nothing
     node_key_followed i o p v oct values at held nothing (keys_seq h) = seq_followed i at (parts_key_followed o p v oct values held h)
     node_key_followed i o p v oct values at (formed_next first others) nothing (keys_times {n = n} h) = repeat_followed i n at refl (times_key_followed o p v oct values first h)
-    node_key_followed i o p v oct values at held nothing (keys_choice {i = part} j is h) = follows_choice j is (key_followed o p v oct values (choice_formed j part held is) h)
+    node_key_followed i o p v oct values at held nothing (keys_choice {i = part} j is h) = follows_choice j is (key_followed o p v oct values (choice_formed d most j part held is) h)
     node_key_followed i o p v oct values at (formed_next first others) nothing (keys_named h) = follows_named (key_followed o p v oct values first h)
 
     parts_key_followed : {seen : List ℕ} {round : ℕ} {parts : List ℕ} {x : List ℕ} {mark : Bool} (o p : ℕ) (v : Values) → p ≡ o % 8 → HaveValues v seen → PartsFormed d.nodes true seen round parts → PartsKeys d most parts p x mark → Extends parts o v x
@@ -103,7 +103,7 @@ module _ (d : DescV) (most : ℕ) where
     parts_key_followed {seen = seen} o p v oct values (formed_next first others) (parts_whole {i = i} w1 w2 rest h hs c) =
         let whole = cut_rest c in
         let m = key_meant d most o p v oct refl h in
-        extends_next w1 w2 whole.0 whole.1 m.1 (parts_key_followed (o + length w1) ((p + length w1) % 8) (with_value d.nodes i w1 v) (octet_next o p (length w1) oct) (values_kept d.nodes i w1 v seen values) others hs)
+        extends_next w1 w2 whole.0 whole.1 m.1 (parts_key_followed (o + length w1) ((p + length w1) % 8) (with_value d.nodes i w1 v) (octet_next o p (length w1) oct) (there d.nodes i v w1 seen values) others hs)
 
     times_key_followed : {seen : List ℕ} {round n i : ℕ} {x : List ℕ} {mark : Bool} (o p : ℕ) (v : Values) → p ≡ o % 8 → HaveValues v seen → Formed d.nodes seen round i → TimesKeys d most n i p x mark → ExtendsTimes n i o v x
     times_key_followed o p v oct values held (times_none over is mark) = times_mean [] [] none (sym (ap (λ l. l ++ []) is)) (times_end over refl)

@@ -12,7 +12,6 @@ use Rattle.csn_desc.specs.Nodes.{DescV}
 use Rattle.csn_desc.specs.Spelled.{symbol_bit, spelled, IsSpare}
 use Rattle.csn_desc.specs.Values.{Values, with_value}
 use Rattle.csn_desc.specs.Means.{NMeans, NodeMeans, PartsMean, TimesMean, means_at, means_lits, means_spare, means_null, means_field, means_seq, means_choice, means_times, means_named, parts_end, parts_next, times_end, times_next}
-use Rattle.csn_desc.proofs.ValuesKept.{no_values_fit}
 use Rattle.csn_look.specs.Starts.{InStart, NodeStarts, PartsStart, starts_at, starts_lits, starts_spare, starts_pad, starts_field, starts_seq, starts_choice, starts_times, starts_named, starts_here, starts_later}
 use Rattle.csn_look.specs.Keys.{Cut, kept, cut, InKeys, NodeKeys, PartsKeys, TimesKeys, keys_at, keys_lits, keys_spare, keys_field, keys_pad, keys_null, keys_rest, keys_many, keys_trunc, keys_window, keys_counted_field, keys_counted_times, keys_seq, keys_times, keys_choice, keys_named, parts_none, parts_cut, parts_whole, times_none, times_cut, times_whole}
 use Rattle.csn_look.proofs.ShapeFacts.{Shaped}
@@ -142,7 +141,7 @@ module _ (d : DescV) (most : ℕ) (shaped : Shaped d) where
     parts_key_start o p a r oct is (parts_whole [] w2 rest h hs c) =
         let first = first_of a r is c in
         let m = key_meant d most o p [] oct refl h in
-        starts_later ((o + length {A = ℕ} []) % 8) (nullable d shaped m.1 refl) (ends d shaped (o + length {A = ℕ} []) refl (no_values_fit d) m.1) (parts_key_start (o + length {A = ℕ} []) ((p + length {A = ℕ} []) % 8) a first.0 (octet_next o p (length {A = ℕ} []) oct) first.1 hs)
+        starts_later ((o + length {A = ℕ} []) % 8) (nullable d shaped m.1 refl) (ends d shaped (o + length {A = ℕ} []) refl shaped.none_fit m.1) (parts_key_start (o + length {A = ℕ} []) ((p + length {A = ℕ} []) % 8) a first.0 (octet_next o p (length {A = ℕ} []) oct) first.1 hs)
     parts_key_start o p a r oct is (parts_whole (k ∷ w1) w2 rest h hs c) =
         let first = first_of a r is c in
         let whole : k ∷ (w1 ++ w2) ≡ a ∷ first.0 = first.1 in

@@ -43,7 +43,7 @@ module _ (d : DescV) where
 module _ (d : DescV) (shaped : Shaped d) where
   mutual
     pub nullable : {i o : ℕ} {v : Values} {b : List ℕ} {t : TreeV} → NMeans d i o v b t → b ≡ [] → Nullable d i
-    nullable {i = i} (means_at n at h) none = nullable_at n at (node_nullable (shaped i n at) h none)
+    nullable {i = i} (means_at n at h) none = nullable_at n at (node_nullable (shaped.node i n at) h none)
 
     node_nullable : {n : Node} {o : ℕ} {v : Values} {b : List ℕ} {t : TreeV} → NodeIs d.nodes n → NodeMeans d n o v b t → b ≡ [] → NodeNullable d n
     node_nullable is (means_lits {run = []} h) none = absurd (omega (arith, is))

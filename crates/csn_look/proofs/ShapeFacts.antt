@@ -6,11 +6,13 @@ use Rattle.csn_desc.specs.declared.node.Count.{Count}
 use Rattle.csn_desc.specs.declared.node.Count.TheVariants.{Fixed, Counted}
 use Rattle.csn_desc.specs.declared.node.Node.{Node}
 use Rattle.csn_desc.specs.declared.node.Node.TheVariants.{Lits, Spare, Pad, Null, Field, Rest, Seq, Choice, Times, Many, Trunc, Window, Named}
+use Rattle.csn_desc.specs.TreeV.{TreeV}
 use Rattle.csn_desc.specs.Nodes.{DescV, head_of}
 use Rattle.csn_desc.specs.Spelled.{spelled}
-use Rattle.csn_desc.specs.Values.{Values, value_of, count_of}
+use Rattle.csn_desc.specs.Values.{Values, value_of, count_of, with_value}
+use Rattle.csn_desc.specs.Means.{NMeans}
 use Rattle.csn_desc.specs.Formed.{value_width, IsUnit, IsCount, IsHead, Formed, formed, IsDescription, FitWidths}
-use Rattle.csn_desc.proofs.Placed.{node_placed}
+use Rattle.csn_desc.specs.Laws.{NodesAreWellFormed, NoValuesFit, ValuesStayFitting}
 use Rattle.csn_look.specs.Ends.{MayCount, may_fixed, may_counted}
 
 -- ---- nodes
@@ -36,9 +38,15 @@ NodeIs nodes (Many part) = ⊤
 NodeIs nodes (Trunc parts) = ⊤
 NodeIs nodes (Named label part) = ⊤
 
--- each node of the description is so
-abbrev pub Shaped : DescV → Type 0
-Shaped d = (i : ℕ) (n : Node) → slice_get d.nodes i ≡ Some n → NodeIs d.nodes n
+-- what is taken of a description: each of its nodes is so, and values fit their widths where none is seen, and go on
+-- to behind a part
+pub record Shaped (d : DescV) : Type 0 where
+  pub node : (i : ℕ) (n : Node) → slice_get d.nodes i ≡ Some n → NodeIs d.nodes n
+  pub none_fit : FitWidths d []
+  pub fit_on : (i o : ℕ) (v : Values) (b : List ℕ) (t : TreeV) → FitWidths d v → NMeans d i o v b t → FitWidths d (with_value d.nodes i b v)
+
+pub kept : (d : DescV) → Shaped d → {i o : ℕ} {v : Values} {b : List ℕ} {t : TreeV} → FitWidths d v → NMeans d i o v b t → FitWidths d (with_value d.nodes i b v)
+kept d shape {i} {o} {v} {b} {t} fits h = shape.fit_on i o v b t fits h
 
 unit_is : (unit : ℕ) → IsUnit unit → 0 < unit
 unit_is unit (inl one) = omega arith
@@ -73,8 +81,13 @@ formed_is {nodes = nodes} {seen = seen} n at (formed m is few head have room oth
     let P : Node → Type 0 = λ k. NodeIs nodes k in
     subst P same (head_is nodes seen m head)
 
-pub shaped : (d : DescV) → IsDescription d → Shaped d
-shaped d is i n at = formed_is n at (node_placed d is i n at).is
+pub shaped : NodesAreWellFormed → NoValuesFit → ValuesStayFitting → (d : DescV) → IsDescription d → Shaped d
+shaped formed_nodes none stay d is =
+    record {
+      node = λ i n at. let here = formed_nodes d i n is at in formed_is n at here.2;
+      none_fit = (none d).1;
+      fit_on = λ i o v b t fits h. stay d i o v b t fits h;
+    }
 
 -- ---- values
 

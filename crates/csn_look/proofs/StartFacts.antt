@@ -15,9 +15,8 @@ use Rattle.csn_desc.specs.Means.{NMeans, NodeMeans, PartsMean, TimesMean, ManyMe
 use Rattle.csn_desc.specs.Follows.{NFollow, NodeFollows, PartsFollow, TimesFollow, ManyFollow, follows_at, follows_whole, follows_lits, follows_spare, follows_pad, follows_field, follows_seq, follows_choice, follows_times, follows_many, follows_trunc, follows_window, follows_named, parts_here, parts_later, times_here, times_later, many_here, many_later}
 use Rattle.csn_desc.specs.Formed.{FitWidths}
 use Rattle.csn_desc.proofs.BitFacts.{IsBits-along}
-use Rattle.csn_desc.proofs.ValuesKept.{fits_kept}
 use Rattle.csn_look.specs.Starts.{InStart, NodeStarts, PartsStart, starts_at, starts_lits, starts_spare, starts_pad, starts_field, starts_rest, starts_seq, starts_trunc, starts_choice, starts_times, starts_many, starts_window, starts_named, starts_here, starts_later}
-use Rattle.csn_look.proofs.ShapeFacts.{NodeIs, Shaped}
+use Rattle.csn_look.proofs.ShapeFacts.{NodeIs, Shaped, kept}
 use Rattle.csn_look.proofs.NullableFacts.{nullable}
 use Rattle.csn_look.proofs.EndsFacts.{ends}
 
@@ -46,7 +45,7 @@ module _ (d : DescV) (shaped : Shaped d) where
 
   mutual
     pub starts : {i o : ℕ} {v : Values} {b : List ℕ} {t : TreeV} (a : ℕ) (r : List ℕ) → b ≡ a ∷ r → FitWidths d v → NMeans d i o v b t → InStart d i (o % 8) a
-    starts {i = i} a r is widths (means_at n at h) = starts_at n at (node_starts a r is (shaped i n at) widths h)
+    starts {i = i} a r is widths (means_at n at h) = starts_at n at (node_starts a r is (shaped.node i n at) widths h)
 
     node_starts : {n : Node} {o : ℕ} {v : Values} {b : List ℕ} {t : TreeV} (a : ℕ) (r : List ℕ) → b ≡ a ∷ r → NodeIs d.nodes n → FitWidths d v → NodeMeans d n o v b t → NodeStarts d n (o % 8) a
     node_starts a r is shape widths (means_lits {run = []} h) = absurd (cc)
@@ -69,7 +68,7 @@ module _ (d : DescV) (shaped : Shaped d) where
     pub parts_start : {parts : List ℕ} {o : ℕ} {v : Values} {b : List ℕ} {ts : Trees} (a : ℕ) (r : List ℕ) → b ≡ a ∷ r → FitWidths d v → PartsMean d parts o v b ts → PartsStart d parts (o % 8) a
     parts_start a r is widths (parts_end h) = absurd (cc)
     parts_start {o = o} a r is widths (parts_next [] b2 cut h others) =
-        starts_later ((o + length {A = ℕ} []) % 8) (nullable d shaped h refl) (ends d shaped (o + length {A = ℕ} []) refl widths h) (parts_start a r (sym cut ∙ is) (fits_kept d widths h) others)
+        starts_later ((o + length {A = ℕ} []) % 8) (nullable d shaped h refl) (ends d shaped (o + length {A = ℕ} []) refl widths h) (parts_start a r (sym cut ∙ is) (kept d shaped widths h) others)
     parts_start a r is widths (parts_next (x ∷ b1) b2 cut h others) =
         let same : x ∷ b1 ≡ a ∷ b1 = cc in starts_here (starts a b1 same widths h)
 
@@ -89,7 +88,7 @@ module _ (d : DescV) (shaped : Shaped d) where
     pub lead_start : {parts : List ℕ} {o : ℕ} {v : Values} {b : List ℕ} {ts : Trees} (a : ℕ) (r : List ℕ) → b ≡ a ∷ r → FitWidths d v → LeadMean d parts o v b ts → PartsStart d parts (o % 8) a
     lead_start a r is widths (lead_last some h) = starts_here (starts a r is widths h)
     lead_start {o = o} a r is widths (lead_next [] b2 cut h others) =
-        starts_later ((o + length {A = ℕ} []) % 8) (nullable d shaped h refl) (ends d shaped (o + length {A = ℕ} []) refl widths h) (lead_start a r (sym cut ∙ is) (fits_kept d widths h) others)
+        starts_later ((o + length {A = ℕ} []) % 8) (nullable d shaped h refl) (ends d shaped (o + length {A = ℕ} []) refl widths h) (lead_start a r (sym cut ∙ is) (kept d shaped widths h) others)
     lead_start a r is widths (lead_next (x ∷ b1) b2 cut h others) =
         let same : x ∷ b1 ≡ a ∷ b1 = cc in starts_here (starts a b1 same widths h)
 
@@ -100,7 +99,7 @@ module _ (d : DescV) (shaped : Shaped d) where
 
   mutual
     pub follows : {i o : ℕ} {v : Values} {b : List ℕ} (a : ℕ) (r : List ℕ) → b ≡ a ∷ r → FitWidths d v → NFollow d i o v b → InStart d i (o % 8) a
-    follows {i = i} a r is widths (follows_at n at h) = starts_at n at (node_follows a r is (shaped i n at) widths h)
+    follows {i = i} a r is widths (follows_at n at h) = starts_at n at (node_follows a r is (shaped.node i n at) widths h)
 
     node_follows : {n : Node} {o : ℕ} {v : Values} {b : List ℕ} (a : ℕ) (r : List ℕ) → b ≡ a ∷ r → NodeIs d.nodes n → FitWidths d v → NodeFollows d n o v b → NodeStarts d n (o % 8) a
     node_follows a r is shape widths (follows_whole t h) = node_starts a r is shape widths h
@@ -119,7 +118,7 @@ module _ (d : DescV) (shaped : Shaped d) where
     pub parts_follow_start : {parts : List ℕ} {o : ℕ} {v : Values} {b : List ℕ} (a : ℕ) (r : List ℕ) → b ≡ a ∷ r → FitWidths d v → PartsFollow d parts o v b → PartsStart d parts (o % 8) a
     parts_follow_start a r is widths (parts_here h) = starts_here (follows a r is widths h)
     parts_follow_start {o = o} a r is widths (parts_later [] b2 cut h others) =
-        starts_later ((o + length {A = ℕ} []) % 8) (nullable d shaped h refl) (ends d shaped (o + length {A = ℕ} []) refl widths h) (parts_follow_start a r (sym cut ∙ is) (fits_kept d widths h) others)
+        starts_later ((o + length {A = ℕ} []) % 8) (nullable d shaped h refl) (ends d shaped (o + length {A = ℕ} []) refl widths h) (parts_follow_start a r (sym cut ∙ is) (kept d shaped widths h) others)
     parts_follow_start a r is widths (parts_later (x ∷ b1) b2 cut h others) =
         let same : x ∷ b1 ≡ a ∷ b1 = cc in starts_here (starts a b1 same widths h)
 

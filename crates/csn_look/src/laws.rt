@@ -9,19 +9,28 @@ ghost use Rattle.csn_look.specs.Laws.{BehindPartsOfSequences, FollowedBehindPart
 /// A node at which no bits have a tree is nullable.
 pub fn no_bits_are_of_nullable()
     ensures { NoBitsAreOfNullable }
-{}
+{
+    csn_desc::laws::nodes_are_well_formed();
+    csn_desc::laws::values_are_kept();
+}
 
 /// Bits that have a tree end where bits of the node may end, and that is an octet position.
 pub fn bits_end()
     ensures meant { MeantBitsEnd }
     ensures octet { EndsAreOctets }
-{}
+{
+    csn_desc::laws::nodes_are_well_formed();
+    csn_desc::laws::values_are_kept();
+}
 
 /// Bits that have a tree, and bits that are followed, begin with a bit that the node may begin with.
 pub fn bits_start()
     ensures meant { MeantBitsStart }
     ensures followed { FollowedBitsStart }
-{}
+{
+    csn_desc::laws::nodes_are_well_formed();
+    csn_desc::laws::values_are_kept();
+}
 
 /// A node that has the empty word as a key at one octet position has it at every one.
 pub fn empty_keys_are_anywhere()
@@ -32,13 +41,18 @@ pub fn empty_keys_are_anywhere()
 pub fn firm_nodes_have_bits()
     ensures meant { FirmNodesHaveBits }
     ensures keys { KeysOfFirmNodesHaveBits }
-{}
+{
+    csn_desc::laws::nodes_are_well_formed();
+    csn_desc::laws::values_are_kept();
+}
 
 /// Bits that have a tree begin with a key of the node, and bits that it follows begin with one or begin one.
 pub fn bits_begin_with_keys()
     ensures meant { MeantBitsBeginWithKeys }
     ensures followed { FollowedBitsBeginKeys }
-{}
+{
+    csn_desc::laws::nodes_are_well_formed();
+}
 
 /// Keys are keys of something: each node has one; a whole key is bits that have a tree; the node follows the first
 /// bits of each; and the first bit of each is one that the node may begin with.
@@ -47,7 +61,12 @@ pub fn keys_are_of_bits()
     ensures whole { WholeKeysAreMeant }
     ensures followed { BeginningsOfKeysAreFollowed }
     ensures start { KeysStart }
-{}
+{
+    csn_desc::laws::nodes_are_well_formed();
+    csn_desc::laws::values_are_kept();
+    csn_desc::laws::prefixes_are_followed();
+    csn_desc::laws::empty_bits_are_followed();
+}
 
 /// A key is bits, and no longer than a word may be.
 pub fn keys_are_words()
@@ -67,7 +86,10 @@ pub fn parts_are_reached()
     ensures choice { ChoicesReach }
     ensures window { WindowsReach }
     ensures label { LabelsReach }
-{}
+{
+    csn_desc::laws::nodes_are_well_formed();
+    csn_desc::laws::values_are_kept();
+}
 
 /// And so one part after another: behind the bits of one more part, or of one more turn, the next may begin.
 pub fn next_parts_are_reached()
@@ -76,7 +98,10 @@ pub fn next_parts_are_reached()
     ensures turn { OneTurnMore }
     ensures reached { TurnsReach }
     ensures free_turn { OneFreeTurnMore }
-{}
+{
+    csn_desc::laws::nodes_are_well_formed();
+    csn_desc::laws::values_are_kept();
+}
 
 /// What stands behind a part may stand there: bits of the later parts or turns, or that these follow, and behind
 /// them what may stand behind the node.
@@ -93,4 +118,7 @@ pub fn bits_stand_behind_parts()
     ensures choice { BehindAlternatives }
     ensures label { BehindLabelledParts }
     ensures nothing { NothingStandsAnywhere }
-{}
+{
+    csn_desc::laws::nodes_are_well_formed();
+    csn_desc::laws::values_are_kept();
+}

@@ -3,18 +3,18 @@ use Rattle.csn_desc.specs.Nodes.{DescV}
 use Rattle.csn_desc.specs.Values.{Values}
 use Rattle.csn_desc.specs.Follows.{NFollow, follows_at}
 use Rattle.csn_desc.specs.Formed.{IsDescription}
-use Rattle.csn_desc.proofs.Placed.{node_placed}
+use Rattle.csn_desc.specs.Laws.{NodesAreWellFormed}
 use Rattle.csn_look.specs.Keys.{InKeys}
 use Rattle.csn_look.specs.Beginnings.{Near}
 use Rattle.csn_look.proofs.KeyFacts.{keys}
 use Rattle.csn_look.proofs.NearFacts.{near_keys}
 use Rattle.csn_look.proofs.laws.bits_begin_with_keys.Goals as goal
 
-near : (d : DescV) (most i o : ℕ) (v : Values) (b : List ℕ) → IsDescription d → NFollow d i o v b → Near (InKeys d most i (o % 8)) b
-near d most i o v b is (follows_at n at h) = near_keys d most (node_placed d is i n at).is (follows_at n at h)
+near : NodesAreWellFormed → (d : DescV) (most i o : ℕ) (v : Values) (b : List ℕ) → IsDescription d → NFollow d i o v b → Near (InKeys d most i (o % 8)) b
+near formed_nodes d most i o v b is (follows_at n at h) = near_keys d most (formed_nodes d i n is at).2 (follows_at n at h)
 
 pub returns-clause-meant : goal.returns-clause-meant
 returns-clause-meant c = λ d most i o v b t h. keys d most h
 
 pub returns-clause-followed : goal.returns-clause-followed
-returns-clause-followed c = near
+returns-clause-followed c = near c.nodes_are_well_formed.ensures

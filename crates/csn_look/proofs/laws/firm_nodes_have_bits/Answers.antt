@@ -3,22 +3,21 @@ use Rattle.csn_desc.specs.TreeV.{TreeV}
 use Rattle.csn_desc.specs.Nodes.{DescV}
 use Rattle.csn_desc.specs.Values.{Values}
 use Rattle.csn_desc.specs.Means.{NMeans}
-use Rattle.csn_desc.specs.Formed.{IsDescription}
 use Rattle.csn_look.specs.Keys.{InKeys, IsFirm}
-use Rattle.csn_look.proofs.ShapeFacts.{shaped}
+use Rattle.csn_look.proofs.ShapeFacts.{Shaped, shaped}
 use Rattle.csn_look.proofs.NullableFacts.{nullable}
 use Rattle.csn_look.proofs.laws.firm_nodes_have_bits.Goals as goal
 
-some_bits : (d : DescV) (most i o : ℕ) (v : Values) (b : List ℕ) (t : TreeV) → IsDescription d → IsFirm d most i → NMeans d i o v b t → 0 < length b
-some_bits d most i o v [] t is firm h = absurd (firm (inl (nullable d (shaped d is) h refl)))
-some_bits d most i o v (a ∷ b) t is firm h = omega arith
+some_bits : (d : DescV) (most i o : ℕ) (v : Values) (b : List ℕ) (t : TreeV) → Shaped d → IsFirm d most i → NMeans d i o v b t → 0 < length b
+some_bits d most i o v [] t shape firm h = absurd (firm (inl (nullable d shape h refl)))
+some_bits d most i o v (a ∷ b) t shape firm h = omega arith
 
 some_word : (d : DescV) (most i o : ℕ) (word : List ℕ) (mark : Bool) → IsFirm d most i → o < 8 → InKeys d most i o word mark → 0 < length word
 some_word d most i o [] mark firm small h = absurd (firm (inr (o, small, mark, h)))
 some_word d most i o (a ∷ word) mark firm small h = omega arith
 
 pub returns-clause-meant : goal.returns-clause-meant
-returns-clause-meant c = some_bits
+returns-clause-meant c = λ d most i o v b t is firm h. some_bits d most i o v b t (shaped c.nodes_are_well_formed.ensures c.values_are_kept.ensures.none c.values_are_kept.ensures.fitting d is) firm h
 
 pub returns-clause-keys : goal.returns-clause-keys
 returns-clause-keys c = some_word
