@@ -14,8 +14,7 @@ use Rattle.csn_desc.specs.Means.{NMeans, NodeMeans, PartsMean, TimesMean, ManyMe
 use Rattle.csn_desc.specs.Follows.{NFollow, NodeFollows, PartsFollow, TimesFollow, ManyFollow, follows_at, follows_whole, follows_lits, follows_spare, follows_pad, follows_field, follows_seq, follows_choice, follows_times, follows_many, follows_trunc, follows_window, follows_named, parts_here, parts_later, times_here, times_later, many_here, many_later}
 use Rattle.csn_desc.specs.Formed.{shows_earlier, Formed, PartsFormed, formed, formed_end, formed_next, HaveValues, IsDescription}
 use Rattle.csn_desc.proofs.BitFacts.{spelled_is_spare}
-use Rattle.csn_look.proofs.NearFacts.{held_along}
-use Rattle.csn_look.proofs.KeyFollowed.{choice_formed}
+use Rattle.csn_desc.proofs.Nodewise.{held_along, choice_formed}
 use Rattle.csn_certify.specs.Laws.{HasNoWindow}
 use Rattle.csn_certify.specs.Known.{Known}
 
@@ -154,7 +153,7 @@ module _ (known : Known) (d : DescV) (no_window : HasNoWindow d) where
     extend : {seen : List ℕ} {round i o : ℕ} {b : List ℕ} (v : Values) → HaveValues v seen → Formed d.nodes seen round i → NFollow d i o v b → Extended d i o v b
     extend {i = i} v values (formed n at few head have room held) (follows_at m is h) =
         let same : n ≡ m = cc in
-        let e = node_extend i v values is (held_along d 0 same held) h in
+        let e = node_extend i v values is (held_along d.nodes same held) h in
         record { rest = e.rest; tree = e.tree; means = means_at m is e.means }
 
     node_extend : {seen : List ℕ} {round o : ℕ} {n : Node} {b : List ℕ} (i : ℕ) (v : Values) → HaveValues v seen → slice_get d.nodes i ≡ Some n → PartsFormed d.nodes (shows_earlier n) seen round (parts_of n) → NodeFollows d n o v b → NodeExtended d n o v b
@@ -165,7 +164,7 @@ module _ (known : Known) (d : DescV) (no_window : HasNoWindow d) where
     node_extend {b = b} i v values at held (follows_field whole rest is h) = whole_of d b rest is h
     node_extend i v values at held (follows_seq h) = let e = parts_extend v values held h in record { rest = e.rest; tree = row e.trees; means = means_seq e.means }
     node_extend i v values at held (follows_choice {i = p} j is h) =
-        let e = extend v values (choice_formed d 0 j p held is) h in record { rest = e.rest; tree = alt j e.tree; means = means_choice is e.means }
+        let e = extend v values (choice_formed d.nodes j p held is) h in record { rest = e.rest; tree = alt j e.tree; means = means_choice is e.means }
     node_extend i v values at (formed_next first others) (follows_times n counts h) =
         let e = times_extend v values first h in record { rest = e.rest; tree = row e.trees; means = means_times n counts e.means }
     node_extend i v values at (formed_next first others) (follows_many h) =

@@ -9,14 +9,13 @@ use Rattle.csn_desc.specs.Values.{Values}
 use Rattle.csn_desc.specs.Means.{NMeans, ManyMean, means_null}
 use Rattle.csn_desc.specs.Follows.{NFollow, NodeFollows, follows_whole}
 use Rattle.csn_desc.specs.Formed.{shows_earlier, HasParts, Formed, PartsFormed, formed, IsDescription, FitWidths}
-use Rattle.csn_desc.proofs.Nodewise.{follow_at}
+use Rattle.csn_desc.proofs.Nodewise.{follow_at, choice_formed}
 use Rattle.csn_desc.proofs.Splits.{Splits, splits, inside, behind}
 use Rattle.csn_desc.proofs.Placed.{node_placed}
 use Rattle.csn_look.specs.Starts.{InStart}
 use Rattle.csn_look.specs.Keys.{InKeys}
 use Rattle.csn_look.specs.Reached.{Reached, InFollow}
 use Rattle.csn_look.specs.Beginnings.{Near, near_begun, near_within}
-use Rattle.csn_look.proofs.KeyFollowed.{choice_formed}
 use Rattle.csn_certify.specs.declared.conflict.Conflict.TheVariants.{TwoEmpty, NotFirm, Overlap, EmptyClash, LoopClash}
 use Rattle.csn_certify.specs.Conflicts.{IsNull, IsBegunBy, two_empty, choice_not_firm, overlap, empty_clash, loop_clash, Certified}
 use Rattle.csn_certify.specs.Picks.{BeginsWithKey, BeginsKey, StandsBehind, behind_bit, behind_end, TakesNone}
@@ -207,7 +206,7 @@ module _ (d : DescV) (most : ℕ) (here : Here d) (certified : Certified d most)
   begins_some : {q : ℕ} (m : ℕ) → ChoiceFormed d parts → slice_get parts m ≡ Some q → IsNull d q → BeginsKey d most parts (o % 8) []
   begins_some m formed_parts at_m null =
       let other = another parts m formed_parts.two in
-      let key = has_key d here most (o % 8) (choice_formed d most other.j other.part formed_parts.held other.at) in
+      let key = has_key d here most (o % 8) (choice_formed d.nodes other.j other.part formed_parts.held other.at) in
       elim (part_null d other.part) [
         | inl both ↦ absurd (one_null other.differs at_m other.at null both)
         | inr real ↦ record {

@@ -8,10 +8,9 @@ use Rattle.csn_desc.specs.Values.{Values}
 use Rattle.csn_desc.specs.Means.{NMeans, NodeMeans, means_choice, means_many, many_end}
 use Rattle.csn_desc.specs.Follows.{NFollow, follows_at, follows_whole, follows_choice}
 use Rattle.csn_desc.specs.Formed.{shows_earlier, Formed, PartsFormed, formed, HaveValues}
-use Rattle.csn_desc.proofs.Nodewise.{meaning_at}
+use Rattle.csn_desc.proofs.Nodewise.{meaning_at, choice_formed}
 use Rattle.csn_look.specs.Keys.{InKeys}
 use Rattle.csn_look.specs.Laws.{BeginningsOfKeysAreFollowed, KeysAreShort}
-use Rattle.csn_look.proofs.KeyFollowed.{choice_formed}
 use Rattle.csn_certify.specs.declared.conflict.Conflict.TheVariants.{NotFirm}
 use Rattle.csn_certify.specs.declared.pick.Pick.TheVariants.{Wait, Refuse}
 use Rattle.csn_certify.specs.Conflicts.{IsNull, choice_not_firm, Certified}
@@ -23,7 +22,7 @@ module _ (d : DescV) (most : ℕ) where
   waiting_followed {round = round} {o = o} {seen = seen} {v = v} {held = held} keys_followed (formed n here few head have room parts_formed) values (pick_wait parts at no_key no_none goes_on h) =
       let same : n ≡ Choice parts = cc in
       let P : Node → Type 0 = λ n. PartsFormed d.nodes (shows_earlier n) seen (suc round) (parts_of n) in
-      let part_formed = choice_formed d most h.j h.part (subst P same parts_formed) h.is_part in
+      let part_formed = choice_formed d.nodes h.j h.part (subst P same parts_formed) h.is_part in
       let Q : List ℕ → Type 0 = λ l. InKeys d most h.part (o % 8) l h.mark in
       let key = subst Q h.begins.1 h.key in
       follows_at (Choice parts) at (follows_choice h.j h.is_part (keys_followed d most seen (suc round) h.part o v held h.begins.0 h.mark part_formed values key))

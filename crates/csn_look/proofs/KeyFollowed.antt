@@ -1,5 +1,5 @@
 -- Each first piece of a key is followed, where the node is well formed and what it sees has values.
-use Rattle.std.proofs.Common.{◌≡◌, ℕ, zero, suc, ◌+◌, ◌%◌, Bool, true, false, List, [], ◌∷◌, ◌++◌, length, refl, sym, ◌∙◌, ap, subst, arith, append_assoc, append-nil, Some, slice_get}
+use Rattle.std.proofs.Common.{◌≡◌, ℕ, suc, ◌+◌, ◌%◌, Bool, true, List, [], ◌∷◌, ◌++◌, length, refl, sym, ◌∙◌, ap, subst, arith, append_assoc, append-nil, Some, slice_get}
 use Rattle.csn_desc.specs.declared.symbol.Symbol.TheVariants.{Low}
 use Rattle.csn_desc.specs.declared.node.Count.{Count}
 use Rattle.csn_desc.specs.declared.node.Node.{Node}
@@ -10,23 +10,12 @@ use Rattle.csn_desc.specs.Spelled.{spelled}
 use Rattle.csn_desc.specs.Values.{Values, count_of, with_value}
 use Rattle.csn_desc.specs.Means.{NMeans, PartsMean, TimesMean, means_lits, means_spare, means_pad, means_field, means_seq, means_times, parts_end, parts_next, times_end, times_next}
 use Rattle.csn_desc.specs.Follows.{NFollow, NodeFollows, PartsFollow, TimesFollow, follows_at, follows_whole, follows_lits, follows_spare, follows_pad, follows_field, follows_seq, follows_choice, follows_times, follows_named, parts_here, parts_later, times_here, times_later}
-use Rattle.csn_desc.specs.Formed.{shows_earlier, Formed, PartsFormed, formed, formed_end, formed_next, HaveValues}
+use Rattle.csn_desc.specs.Formed.{shows_earlier, Formed, PartsFormed, formed, formed_next, HaveValues}
 use Rattle.csn_desc.specs.Laws.{PrefixesAreFollowed, EmptyBitsAreFollowed, ValuesStayThere}
-use Rattle.csn_desc.proofs.Nodewise.{follow_at}
+use Rattle.csn_desc.proofs.Nodewise.{follow_at, held_along, choice_formed}
 use Rattle.csn_look.specs.Keys.{InKeys, NodeKeys, PartsKeys, TimesKeys, keys_at, keys_lits, keys_spare, keys_field, keys_pad, keys_null, keys_rest, keys_many, keys_trunc, keys_window, keys_counted_field, keys_counted_times, keys_seq, keys_times, keys_choice, keys_named, parts_none, parts_cut, parts_whole, times_none, times_cut, times_whole}
 use Rattle.csn_look.proofs.KeyFacts.{spelled-octet}
 use Rattle.csn_look.proofs.KeyMeant.{cut_rest, spare_at, octet_next, octet_again, key_meant}
-use Rattle.csn_look.proofs.NearFacts.{held_along}
-
-module _ (d : DescV) (most : ℕ) where
-  -- a part of a choice sees what the choice sees
-  pub choice_formed : {seen : List ℕ} {round : ℕ} {parts : List ℕ} (j i : ℕ) → PartsFormed d.nodes false seen round parts → slice_get parts j ≡ Some i → Formed d.nodes seen round i
-  choice_formed j i formed_end at = absurd (cc)
-  choice_formed {seen} {round} zero i (formed_next {i = p} first others) at =
-      let same : p ≡ i = cc in
-      let P : ℕ → Type 0 = λ k. Formed d.nodes seen round k in
-      subst P same first
-  choice_formed (suc j) i (formed_next first others) at = choice_formed j i others at
 
 module _ (d : DescV) (most : ℕ) (prefixes : PrefixesAreFollowed) (empties : EmptyBitsAreFollowed) (there : ValuesStayThere) where
   -- bits, with these first, that some parts follow or have trees for all of
@@ -73,7 +62,7 @@ module _ (d : DescV) (most : ℕ) (prefixes : PrefixesAreFollowed) (empties : Em
     key_followed {i = i} o p v oct values (formed n at few head have room held) (keys_at m is h) =
         let same : n ≡ m = cc in
         let nothing = follow_at d is (empties d _ _ i o v (formed n at few head have room held) values) in
-        follows_at m is (node_key_followed i o p v oct values is (held_along d most same held) nothing h)
+        follows_at m is (node_key_followed i o p v oct values is (held_along d.nodes same held) nothing h)
 
     node_key_followed : {seen : List ℕ} {round : ℕ} {n : Node} {x : List ℕ} {mark : Bool} (i o p : ℕ) (v : Values) → p ≡ o % 8 → HaveValues v seen → slice_get d.nodes i ≡ Some n → PartsFormed d.nodes (shows_earlier n) seen round (parts_of n) → NodeFollows d n o v [] → NodeKeys d most n p x mark → NodeFollows d n o v x
     node_key_followed i o p v oct values at held nothing (keys_lits {run = run} c) =
@@ -93,7 +82,7 @@ module _ (d : DescV) (most : ℕ) (prefixes : PrefixesAreFollowed) (empties : Em
     node_key_followed i o p v oct values at held nothing (keys_counted_times is mark) = bits_along is nothing
     node_key_followed i o p v oct values at held nothing (keys_seq h) = seq_followed i at (parts_key_followed o p v oct values held h)
     node_key_followed i o p v oct values at (formed_next first others) nothing (keys_times {n = n} h) = repeat_followed i n at refl (times_key_followed o p v oct values first h)
-    node_key_followed i o p v oct values at held nothing (keys_choice {i = part} j is h) = follows_choice j is (key_followed o p v oct values (choice_formed d most j part held is) h)
+    node_key_followed i o p v oct values at held nothing (keys_choice {i = part} j is h) = follows_choice j is (key_followed o p v oct values (choice_formed d.nodes j part held is) h)
     node_key_followed i o p v oct values at (formed_next first others) nothing (keys_named h) = follows_named (key_followed o p v oct values first h)
 
     parts_key_followed : {seen : List ℕ} {round : ℕ} {parts : List ℕ} {x : List ℕ} {mark : Bool} (o p : ℕ) (v : Values) → p ≡ o % 8 → HaveValues v seen → PartsFormed d.nodes true seen round parts → PartsKeys d most parts p x mark → Extends parts o v x

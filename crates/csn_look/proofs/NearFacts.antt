@@ -13,7 +13,8 @@ use Rattle.csn_desc.specs.Nodes.{DescV, parts_of}
 use Rattle.csn_desc.specs.Spelled.{spelled}
 use Rattle.csn_desc.specs.Values.{Values, count_of}
 use Rattle.csn_desc.specs.Follows.{NFollow, NodeFollows, PartsFollow, TimesFollow, follows_at, follows_whole, follows_lits, follows_spare, follows_pad, follows_field, follows_seq, follows_choice, follows_times, follows_many, follows_trunc, follows_window, follows_named, parts_here, parts_later, times_here, times_later}
-use Rattle.csn_desc.specs.Formed.{shows_earlier, Formed, PartsFormed, formed, formed_end, formed_next}
+use Rattle.csn_desc.specs.Formed.{Formed, PartsFormed, formed, formed_end, formed_next}
+use Rattle.csn_desc.proofs.Nodewise.{held_along}
 use Rattle.csn_desc.proofs.Splits.{splits, inside, behind}
 use Rattle.csn_desc.proofs.BitFacts.{spelled_is_spare}
 use Rattle.csn_look.specs.Keys.{Cut, kept, cut, InKeys, NodeKeys, PartsKeys, TimesKeys, keys_at, keys_lits, keys_spare, keys_field, keys_pad, keys_null, keys_rest, keys_many, keys_trunc, keys_window, keys_counted_field, keys_counted_times, keys_seq, keys_times, keys_choice, keys_named, parts_none, parts_cut, parts_whole, times_none, times_cut, times_whole}
@@ -186,9 +187,6 @@ module _ (d : DescV) (most : ℕ) where
       near_as (λ x mark key. keys_times key) (subst P (sym same) h)
   repeat_near (Counted m field c) v o b counts h = near_begun (unread b (keys_counted_times refl refl))
 
-  pub held_along : {seen : List ℕ} {round : ℕ} {n m : Node} → n ≡ m → PartsFormed d.nodes (shows_earlier n) seen round (parts_of n) → PartsFormed d.nodes (shows_earlier m) seen round (parts_of m)
-  held_along {seen} {round} same h = let P : Node → Type 0 = λ n. PartsFormed d.nodes (shows_earlier n) seen round (parts_of n) in subst P same h
-
   -- a part of a well-formed node
   record PartFormed (round i : ℕ) : Type 0 where
     seen : List ℕ
@@ -205,7 +203,7 @@ module _ (d : DescV) (most : ℕ) where
   mutual
     pub near_keys : {seen : List ℕ} {round i o : ℕ} {v : Values} {b : List ℕ} → Formed d.nodes seen round i → NFollow d i o v b → Near (InKeys d most i (o % 8)) b
     near_keys (formed n at few head have room held) (follows_at m is h) =
-        let same : n ≡ m = cc in near_as (λ x mark key. keys_at m is key) (node_near (held_along same held) h)
+        let same : n ≡ m = cc in near_as (λ x mark key. keys_at m is key) (node_near (held_along d.nodes same held) h)
 
     node_near : {shows : Bool} {seen : List ℕ} {round o : ℕ} {n : Node} {v : Values} {b : List ℕ} → PartsFormed d.nodes shows seen round (parts_of n) → NodeFollows d n o v b → Near (NodeKeys d most n (o % 8)) b
     node_near held (follows_whole t h) = near_begun (node_keys d most h)

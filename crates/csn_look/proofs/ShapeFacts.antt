@@ -1,14 +1,12 @@
 -- What each node of a well-formed description is, and what the values that it sees are.
-use Rattle.std.proofs.Common.{◌≡◌, ℕ, suc, ◌+◌, ◌*◌, ◌%◌, ◌<◌, ◌≤◌, List, [], ◌∷◌, ◌++◌, length, refl, ap, subst, arith, length-append, inl, inr, Option, Some, None, option_map, slice_get, IsSomeAnd}
+use Rattle.std.proofs.Common.{◌≡◌, ℕ, ◌+◌, ◌*◌, ◌%◌, ◌<◌, ◌≤◌, List, [], ◌++◌, length, refl, ap, subst, arith, length-append, inl, inr, Option, Some, None, option_map, slice_get, IsSomeAnd}
 use Rattle.std.specs.Prelude.{⊤}
-use Rattle.csn_desc.specs.declared.symbol.Symbol.{Symbol}
 use Rattle.csn_desc.specs.declared.node.Count.{Count}
 use Rattle.csn_desc.specs.declared.node.Count.TheVariants.{Fixed, Counted}
 use Rattle.csn_desc.specs.declared.node.Node.{Node}
 use Rattle.csn_desc.specs.declared.node.Node.TheVariants.{Lits, Spare, Pad, Null, Field, Rest, Seq, Choice, Times, Many, Trunc, Window, Named}
 use Rattle.csn_desc.specs.TreeV.{TreeV}
 use Rattle.csn_desc.specs.Nodes.{DescV, head_of}
-use Rattle.csn_desc.specs.Spelled.{spelled}
 use Rattle.csn_desc.specs.Values.{Values, value_of, count_of, with_value}
 use Rattle.csn_desc.specs.Means.{NMeans}
 use Rattle.csn_desc.specs.Formed.{value_width, IsUnit, IsCount, IsHead, Formed, formed, IsDescription, FitWidths}
