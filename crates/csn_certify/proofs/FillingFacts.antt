@@ -4,13 +4,13 @@ use Rattle.std.specs.Prelude.{IsTrue}
 use Rattle.std.proofs.lemmas.List.{append_cancel_left}
 use Rattle.csn_bits.specs.Octets.{IsBits}
 use Rattle.csn_desc.proofs.BitFacts.{IsBits-along}
-use Rattle.csn_look.specs.KeyMarks.{IsWord, has_key, BeginsWithKey, StartsKey}
+use Rattle.csn_look.specs.KeyMarks.{IsWord, has_key, IsKeyOf, BeginsWithKey, StartsKey}
 use Rattle.csn_look.proofs.Places.{word_front}
 use Rattle.csn_look.proofs.Products.{bits_back}
 use Rattle.csn_certify.specs.declared.pick_table.Entry.{Entry}
 use Rattle.csn_certify.specs.Conflicts.{IsBegunBy}
 use Rattle.csn_certify.specs.PickTables.{entry_of}
-use Rattle.csn_certify.specs.Filling.{IsDeep, IsFilled, with_key, with_none, IsTaken, FillsUnder, FillsAt}
+use Rattle.csn_certify.specs.Filling.{IsFresh, IsDeep, IsFilled, with_key, with_none, IsTaken, FillsUnder, FillsAt}
 use Rattle.csn_certify.proofs.Pieces.{begun_both}
 
 -- ---- words that go on from a word
@@ -111,6 +111,43 @@ module _ (marks word held : List ℕ) (begun : IsBegunBy held word) where
       by_order : IsBegunBy h.front word ⊎ IsBegunBy word h.front → BeginsWithKey marks word ⊎ StartsKey marks word
       by_order (inl long) = by_rest long.0 long.1
       by_order (inr short) = inl (record { front = h.front; back = short.0; parts = short.1; whole = h.whole; key = h.key })
+
+-- ---- words that no key begins
+
+pub fresh_empty : (marks word : List ℕ) → word ≡ [] → IsFresh marks word
+fresh_empty marks word empty front back parts some key =
+    let size = ap length empty in
+    let both = ap length parts in
+    omega (arith, size, both, length-append front back, some)
+
+pub fresh_key : (marks word : List ℕ) → IsFresh marks word → ¬ IsKeyOf marks word → ¬ BeginsWithKey marks word
+fresh_key marks word fresh none h = by_back h.back h.parts
+  where
+    by_back : (back : List ℕ) → word ≡ h.front ++ back → ⊥
+    by_back [] parts =
+        let same : word ≡ h.front = parts ∙ append-nil h.front in
+        none (subst (λ (l : List ℕ). IsKeyOf marks l) (sym same) (h.whole, h.key))
+    by_back (x ∷ back) parts = fresh h.front (x ∷ back) parts (omega arith) (h.whole, h.key)
+
+pub begins_itself : (marks word : List ℕ) → IsKeyOf marks word → BeginsWithKey marks word
+begins_itself marks word key = record { front = word; back = []; parts = sym (append-nil word); whole = key.0; key = key.1 }
+
+pub fresh_behind : (marks word more : List ℕ) (bit : ℕ) → more ≡ word ++ bit ∷ [] → ¬ BeginsWithKey marks word → IsFresh marks more
+fresh_behind marks word more bit is none front back parts some key =
+    elim (begun_both front back word (bit ∷ []) [] [] {b = more} {c = more} parts is refl) [
+      | inl long ↦ by_rest long.0 long.1
+      | inr short ↦ none (record { front = front; back = short.0; parts = short.1; whole = key.0; key = key.1 })
+    ]
+  where
+    by_rest : (rest : List ℕ) → front ≡ word ++ rest → ⊥
+    by_rest [] e =
+        let same : word ≡ front = sym (e ∙ append-nil word) in
+        none (record { front = front; back = []; parts = same ∙ sym (append-nil front); whole = key.0; key = key.1 })
+    by_rest (x ∷ rest) e =
+        let long = ap length parts in
+        let own = ap length is in
+        let its = ap length e in
+        absurd (omega (arith, long, own, its, length-append front back, length-append word (bit ∷ []), length-append word (x ∷ rest), some))
 
 -- ---- how many bits are looked at
 

@@ -1,11 +1,11 @@
 -- Filling the entries of a choice from the keys of one alternative after another, for the contracts of the
 -- functions that do it; no public contract cites these.
-use Rattle.std.specs.Prelude.{◌≡◌, ◌≢◌, ℕ, ◌≤◌, List, length, slice_get, Some}
+use Rattle.std.specs.Prelude.{◌≡◌, ◌≢◌, ℕ, ◌<◌, ◌≤◌, List, ◌++◌, length, slice_get, Some}
 use Rattle.csn_desc.specs.Nodes.{DescV}
 use Rattle.csn_look.specs.Keys.{InKeys}
 use Rattle.csn_look.specs.LookV.{LookV}
 use Rattle.csn_look.specs.LookKeys.{table_at}
-use Rattle.csn_look.specs.KeyMarks.{IsWord, KeysAre, BeginsWithKey, StartsKey}
+use Rattle.csn_look.specs.KeyMarks.{IsWord, KeysAre, IsKeyOf, BeginsWithKey, StartsKey}
 use Rattle.csn_certify.specs.declared.pick_table.Entry.{Entry}
 use Rattle.csn_certify.specs.declared.pick_table.Entry.TheVariants.{Refuse, Wait, Take}
 use Rattle.csn_certify.specs.Conflicts.{IsNull, IsBegunBy}
@@ -24,6 +24,11 @@ abbrev pub IsDeep : List ℕ → List ℕ → ℕ → Type 0
 IsDeep marks word depth =
     (held : List ℕ) → IsWord held → IsBegunBy held word → depth ≤ length held → ¬ BeginsWithKey marks held
     → ¬ StartsKey marks held
+
+-- no key is a proper prefix of the word
+abbrev pub IsFresh : List ℕ → List ℕ → Type 0
+IsFresh marks word =
+    (front back : List ℕ) → word ≡ front ++ back → 0 < length back → ¬ IsKeyOf marks front
 
 -- what the keys of alternative j make of the entry of a word
 pub data IsFilled (marks : List ℕ) (j : ℕ) (held : List ℕ) (old new : Entry) : Type 0 where

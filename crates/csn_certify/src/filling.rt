@@ -3,22 +3,23 @@
 ghost use Rattle.std.specs.Prelude.{◌≡◌, ℕ, ◌<◌, ◌≤◌, List, length};
 ghost use Rattle.csn_look.specs.KeyMarks.{IsWord};
 ghost use Rattle.csn_certify.specs.PickTables.{HasEntries, entry_of};
-ghost use Rattle.csn_certify.specs.Filling.{started, IsDeep, IsFilled, IsTaken, FillsUnder, FillsAt};
+ghost use Rattle.csn_certify.specs.Filling.{started, IsDeep, IsFresh, IsFilled, IsTaken, FillsUnder, FillsAt};
 
 use crate::pick_table::Entry;
-use csn_look::{Begins, KeyTable, Word};
+use csn_look::{KeyTable, Stands, Word};
 
 /// How many bits are looked at of what goes on from the word, to see the keys of a table.
 pub(crate) fn depth(table: &KeyTable, word: &Word) -> u8
-    requires { IsWord word.now }
+    requires word { IsWord word.now }
+    requires fresh { IsFresh table.now word.now }
     ensures deep { IsDeep table.now word.now result }
     ensures more { length word.now ≤ result }
     ensures most { result ≤ 12 }
 {
-    match table.begins(word) {
-        Begins::Key => word.len(),
-        Begins::Neither => word.len(),
-        Begins::Proper => greater(depth(table, &word.with(0)), depth(table, &word.with(1))),
+    match table.stands(word) {
+        Stands::Key => word.len(),
+        Stands::Neither => word.len(),
+        Stands::Starts => greater(depth(table, &word.with(0)), depth(table, &word.with(1))),
     }
 }
 
@@ -45,14 +46,15 @@ impl Filling<'_> {
         requires size { HasEntries self.now.width entries.old }
         requires word { IsWord word.now }
         requires within { length word.now ≤ self.now.width }
+        requires fresh { IsFresh self.now.table.now word.now }
         requires deep { IsDeep self.now.table.now word.now self.now.width }
         ensures size { HasEntries self.now.width entries.new }
         ensures fills { FillsUnder word.now self.now.width (IsFilled self.now.table.now self.now.alternative) entries.old entries.new }
     {
-        match self.table.begins(word) {
-            Begins::Neither => {}
-            Begins::Key => self.cover(entries, word, word.len()),
-            Begins::Proper => {
+        match self.table.stands(word) {
+            Stands::Neither => {}
+            Stands::Key => self.cover(entries, word, word.len()),
+            Stands::Starts => {
                 self.put(entries, word, self.entry(entries, word).started());
                 self.fill(entries, &word.with(0));
                 self.fill(entries, &word.with(1));

@@ -1,5 +1,6 @@
 use Rattle.std.proofs.Common.{◌≤◌, ◌+◌, ℕ, subst, sym}
 use Rattle.csn_certify.specs.Filling.{AreDeep}
+use Rattle.csn_certify.proofs.FillingFacts.{fresh_empty}
 use Rattle.csn_certify.proofs.ChooserFacts.{deep_null, deep_more}
 use Rattle.csn_certify.proofs.chooser.Chooser.width.Goals.{in-None, in-Some}
 use Rattle.csn_certify.proofs.chooser.Chooser.width.Goals as goal
@@ -19,3 +20,6 @@ loop-j-preserved c =
             w.greater-width.ensures.one 12 c.loop-j.invariant.1 w.depth.ensures.most,
           )
     ]
+
+pub depth-requires-clause-fresh : goal.depth-requires-clause-fresh
+depth-requires-clause-fresh c = fresh_empty c.in-Some.table.now c.new.result c.new.ensures
