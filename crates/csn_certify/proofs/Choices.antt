@@ -10,8 +10,8 @@ use Rattle.csn_look.specs.declared.key_table.Begins.{Begins}
 use Rattle.csn_look.specs.declared.key_table.Begins.TheVariants as answer
 use Rattle.csn_look.specs.Keys.{InKeys, NodeKeys, keys_at, keys_null}
 use Rattle.csn_look.specs.KeyMarks as marks
-use Rattle.csn_look.proofs.Places.{word_front}
-use Rattle.csn_look.proofs.KeyWords.{key_word}
+use Rattle.csn_look.proofs.Basics.Places.{word_front}
+use Rattle.csn_look.proofs.Tables.KeyWords.{key_word}
 use Rattle.csn_certify.specs.Conflicts.{IsNull}
 use Rattle.csn_certify.specs.Picks.{BeginsWithKey, BeginsKey}
 use Rattle.csn_certify.specs.Choosing.{IsNone, BeginsKeyOf, StandsTo, AreWithoutKey}

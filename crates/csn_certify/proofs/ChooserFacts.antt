@@ -6,7 +6,7 @@ use Rattle.csn_desc.specs.Nodes.{DescV}
 use Rattle.csn_look.specs.declared.key_table.Begins.{Begins}
 use Rattle.csn_look.specs.declared.key_table.Begins.TheVariants as answer
 use Rattle.csn_look.specs.KeyMarks as marks
-use Rattle.csn_look.proofs.Places.{word_take}
+use Rattle.csn_look.proofs.Basics.Places.{word_take}
 use Rattle.csn_certify.specs.declared.pick_table.Entry.{Entry}
 use Rattle.csn_certify.specs.declared.pick_table.Entry.TheVariants.{Refuse, Wait, Take}
 use Rattle.csn_certify.specs.Conflicts.{IsNull, IsBegunBy}

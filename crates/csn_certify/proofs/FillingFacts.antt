@@ -5,8 +5,8 @@ use Rattle.std.proofs.lemmas.List.{append_cancel_left}
 use Rattle.csn_bits.specs.Octets.{IsBits}
 use Rattle.csn_desc.proofs.BitFacts.{IsBits-along}
 use Rattle.csn_look.specs.KeyMarks.{IsWord, has_key, IsKeyOf, BeginsWithKey, StartsKey}
-use Rattle.csn_look.proofs.Places.{word_front}
-use Rattle.csn_look.proofs.Products.{bits_back}
+use Rattle.csn_look.proofs.Basics.Places.{word_front}
+use Rattle.csn_look.proofs.Tables.Products.{bits_back}
 use Rattle.csn_certify.specs.declared.pick_table.Entry.{Entry}
 use Rattle.csn_certify.specs.Conflicts.{IsBegunBy}
 use Rattle.csn_certify.specs.PickTables.{entry_of}

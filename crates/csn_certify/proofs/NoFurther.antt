@@ -17,7 +17,7 @@ use Rattle.csn_look.specs.Ends as end
 use Rattle.csn_look.specs.Keys.{InKeys}
 use Rattle.csn_look.specs.Reached.{Reached, Turn}
 use Rattle.csn_look.specs.Beginnings.{Near, near_begun, near_within}
-use Rattle.csn_look.proofs.ReachFacts.{turn_first, turn_next, turn_reached, parts_end_more, many_end_more, seq_reached, named_reached, many_reached}
+use Rattle.csn_look.proofs.Meaning.ReachFacts.{turn_first, turn_next, turn_reached, parts_end_more, many_end_more, seq_reached, named_reached, many_reached}
 use Rattle.csn_certify.specs.declared.conflict.Conflict.TheVariants.{LoopClash}
 use Rattle.csn_certify.specs.Conflicts.{IsNull, loop_clash, Certified}
 use Rattle.csn_certify.proofs.Here.{Here, Stands, end_stands, fits_kept, ends, follows, many_follow_start, keys, near_keys, choice_reached, choice_stands, named_stands, seq_stands, times_stands, many_stands, seq_stands_followed, times_stands_followed, many_stands_followed}

@@ -13,7 +13,7 @@ use Rattle.csn_desc.proofs.Nodewise.{meaning_at}
 use Rattle.csn_look.specs.Ends.{PartsEnd, ManyEnd}
 use Rattle.csn_look.specs.Ends as end
 use Rattle.csn_look.specs.Reached.{Reached, reached_root, Turn, MayStandBehind}
-use Rattle.csn_look.proofs.ReachFacts.{turn_first, turn_next, turn_reached, parts_end_more, many_end_more, seq_reached, lead_reached, window_reached, named_reached, many_reached}
+use Rattle.csn_look.proofs.Meaning.ReachFacts.{turn_first, turn_next, turn_reached, parts_end_more, many_end_more, seq_reached, lead_reached, window_reached, named_reached, many_reached}
 use Rattle.csn_certify.specs.Conflicts.{Certified}
 use Rattle.csn_certify.specs.Known.{Known}
 use Rattle.csn_certify.proofs.Here.{Here, here_of, Stands, end_stands, fits_kept, ends, choice_reached, choice_stands, named_stands, seq_stands, lead_stands, last_stands, times_stands, many_stands}

@@ -18,7 +18,7 @@ use Rattle.csn_certify.proofs.Pieces.{order, equal_numbers, first_less, second_l
 use Rattle.csn_certify.proofs.SearchFacts.{denied}
 use Rattle.csn_certify.proofs.Searching.{IsBranch, NoneBelow, found_at, least_number, first_behind}
 use Rattle.csn_certify.proofs.ConflictKinds.{ChoiceFits, choice_fits}
-use Rattle.csn_look.proofs.KeyWords.{key_word}
+use Rattle.csn_look.proofs.Tables.KeyWords.{key_word}
 use Rattle.csn_certify.proofs.KeyOrder.{text_first, text_at, MeetsWith, meets_with, with_meets}
 
 pub turned : (v w : List ℕ) → AreBegun v w → AreBegun w v

@@ -5,12 +5,12 @@ use Rattle.std.proofs.lemmas.Grind.{get_or-set_at}
 use Rattle.std.proofs.lemmas.List.{length-drop, length-take}
 use Rattle.std.proofs.lemmas.Nat.{div-mul-add}
 use Rattle.std.proofs.Math.Nat.{pow-le-pow_right}
-use Rattle.csn_look.proofs.Products.{bits_back}
+use Rattle.csn_look.proofs.Tables.Products.{bits_back}
 use Rattle.csn_bits.specs.Numbers.{number_of}
 use Rattle.csn_desc.proofs.BitFacts.{IsBits-along}
 use Rattle.csn_bits.proofs.NumberFacts.{number_of-lt}
 use Rattle.csn_look.specs.KeyMarks.{IsWord, place_of}
-use Rattle.csn_look.proofs.Places.{place_of-append, place_of-most, place_of-same, word_take}
+use Rattle.csn_look.proofs.Basics.Places.{place_of-append, place_of-most, place_of-same, word_take}
 use Rattle.csn_certify.specs.declared.pick_table.Entry.{Entry}
 use Rattle.csn_certify.specs.declared.pick_table.Entry.TheVariants.{Refuse}
 use Rattle.csn_certify.specs.PickTables.{HasEntries}

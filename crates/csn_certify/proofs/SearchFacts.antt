@@ -29,11 +29,11 @@ use Rattle.csn_look.specs.Starts.{InStart, NodeStarts, PartsStart, InFirst, star
 use Rattle.csn_look.specs.Keys.{InKeys, IsNotFirm, IsFirm}
 use Rattle.csn_look.specs.Ends.{InEnds}
 use Rattle.csn_look.specs.Reached.{Reached, InFollow, PartFollow, follow_root, follow_part, follow_later, follow_seq, follow_kept, follow_trunc, follow_times_again, follow_times, follow_many_again, follow_many, follow_choice, follow_named, follow_window}
-use Rattle.csn_look.proofs.EmptyKeys.{empty_key}
-use Rattle.csn_look.proofs.Octets.{has_union, has_none}
-use Rattle.csn_look.proofs.ReachedParts.{reached_small, parts_below}
-use Rattle.csn_look.proofs.LookFacts.{follow_has}
-use Rattle.csn_look.proofs.Telling.{both, together, is_so}
+use Rattle.csn_look.proofs.Meaning.EmptyKeys.{empty_key}
+use Rattle.csn_look.proofs.Basics.Octets.{has_union, has_none}
+use Rattle.csn_look.proofs.Handing.ReachedParts.{reached_small, parts_below}
+use Rattle.csn_look.proofs.Sets.LookFacts.{follow_has}
+use Rattle.csn_look.proofs.Sets.Telling.{both, together, is_so}
 use Rattle.csn_certify.specs.Search.{IsLeastFrom, IsClashing, IsFollowed, MayEndAt, IsNullAt}
 use Rattle.csn_certify.specs.Conflicts.{IsNull}
 use Rattle.std.proofs.lemmas.Option.{slice_get_within}

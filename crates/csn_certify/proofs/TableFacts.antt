@@ -11,7 +11,7 @@ use Rattle.csn_look.specs.KeyMarks.{IsWord, has_key}
 use Rattle.csn_look.specs.LookV.{LookV}
 use Rattle.csn_look.specs.LookKeys.{table_at, IsKeysOf}
 use Rattle.csn_look.specs.Reached.{Reached}
-use Rattle.csn_look.proofs.KeyWords.{key_word}
+use Rattle.csn_look.proofs.Tables.KeyWords.{key_word}
 use Rattle.csn_certify.specs.declared.pick_table.Entry.{Entry}
 use Rattle.csn_certify.specs.declared.pick_table.Entry.TheVariants.{Refuse, Wait, Take}
 use Rattle.csn_certify.specs.Picks.{BeginsWithKey, BeginsKey}

@@ -5,7 +5,7 @@ use Rattle.std.proofs.lemmas.List.{append_cancel_left}
 use Rattle.csn_bits.specs.Octets.{IsBits}
 use Rattle.csn_bits.proofs.Packing.{IsBits-append}
 use Rattle.csn_look.specs.KeyMarks.{IsWord, has_key, BeginsWithKey, StartsKey}
-use Rattle.csn_look.proofs.Products.{bits_back}
+use Rattle.csn_look.proofs.Tables.Products.{bits_back}
 use Rattle.csn_desc.proofs.BitFacts.{IsBits-front, IsBits-along}
 use Rattle.csn_certify.specs.Overlaps.{AreBegun, Meets, MeetUnder}
 use Rattle.csn_certify.proofs.Pieces.{begun_both}

@@ -1,12 +1,12 @@
 use Rattle.std.proofs.Common.{◌≡◌, ℕ, suc, ◌-◌, List, drop, Option, refl, sym, subst, arith}
 use Rattle.csn_look.specs.FollowV.{SaysFollow, in_order}
 use Rattle.csn_look.specs.Reached.{PartFollow}
-use Rattle.csn_look.proofs.LookFacts.{known_sets}
-use Rattle.csn_look.proofs.Telling.{PartsSetsAre, last_none, last_more}
-use Rattle.csn_look.proofs.LeavesTell.{no_parts}
-use Rattle.csn_look.proofs.PartsTell.{more_parts}
-use Rattle.csn_look.proofs.ReachedParts.{kept_more}
-use Rattle.csn_look.proofs.FollowedParts.{put_last, put_before, says_in_order}
+use Rattle.csn_look.proofs.Sets.LookFacts.{known_sets}
+use Rattle.csn_look.proofs.Sets.Telling.{PartsSetsAre, last_none, last_more}
+use Rattle.csn_look.proofs.Sets.LeavesTell.{no_parts}
+use Rattle.csn_look.proofs.Sets.PartsTell.{more_parts}
+use Rattle.csn_look.proofs.Handing.ReachedParts.{kept_more}
+use Rattle.csn_look.proofs.Handing.FollowedParts.{put_last, put_before, says_in_order}
 use Rattle.csn_look.proofs.following.follow_in_order.Goals as goal
 
 pub loop-at-init : goal.loop-at-init

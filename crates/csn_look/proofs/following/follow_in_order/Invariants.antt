@@ -3,9 +3,9 @@ use Rattle.csn_desc.specs.Nodes.{DescV}
 use Rattle.csn_look.specs.NodeSets.{IsLookOf}
 use Rattle.csn_look.specs.FollowV.{FollowsAre, in_order}
 use Rattle.csn_look.specs.Reached.{PartFollow}
-use Rattle.csn_look.proofs.Telling.{PartsSetsAre}
-use Rattle.csn_look.proofs.ReachedParts.{KeptBeside}
-use Rattle.csn_look.proofs.FollowedParts.{PutFrom}
+use Rattle.csn_look.proofs.Sets.Telling.{PartsSetsAre}
+use Rattle.csn_look.proofs.Handing.ReachedParts.{KeptBeside}
+use Rattle.csn_look.proofs.Handing.FollowedParts.{PutFrom}
 use Rattle.csn_look.proofs.following.follow_in_order.Given as goal
 
 abbrev pub invariant-loop-at : goal.invariant-loop-at

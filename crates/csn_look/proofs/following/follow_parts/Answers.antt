@@ -1,7 +1,7 @@
 use Rattle.std.proofs.Common.{suc, drop, refl, length}
-use Rattle.csn_look.proofs.LookFacts.{known_sets}
-use Rattle.csn_look.proofs.ReachedParts.{once_kind, below_kind, part_below, single_others, others_of}
-use Rattle.csn_look.proofs.FollowedParts.{follows_of, single_follows, says_choice, says_times, says_many, says_window, says_named}
+use Rattle.csn_look.proofs.Sets.LookFacts.{known_sets}
+use Rattle.csn_look.proofs.Handing.ReachedParts.{once_kind, below_kind, part_below, single_others, others_of}
+use Rattle.csn_look.proofs.Handing.FollowedParts.{follows_of, single_follows, says_choice, says_times, says_many, says_window, says_named}
 use Rattle.csn_look.proofs.following.follow_parts.Goals as goal
 
 pub follow_in_order-requires-clause-once : goal.follow_in_order-requires-clause-once

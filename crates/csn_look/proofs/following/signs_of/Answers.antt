@@ -3,7 +3,7 @@ use Rattle.std.specs.FinSet as set
 use Rattle.std.proofs.Math.ListN.{length-set}
 use Rattle.csn_look.specs.SignsV.{SignsV}
 use Rattle.csn_look.specs.FollowV.{signs_at}
-use Rattle.csn_look.proofs.FollowedParts.{put_signs, signs_more}
+use Rattle.csn_look.proofs.Handing.FollowedParts.{put_signs, signs_more}
 use Rattle.csn_look.proofs.following.signs_of.Goals as goal
 
 pub loop-octet-preserved : goal.loop-octet-preserved

@@ -1,6 +1,6 @@
 use Rattle.std.proofs.Common.{refl, arith}
 use Rattle.std.proofs.lemmas.Option.{slice_get_within}
-use Rattle.csn_look.proofs.ReachedParts.{kept_more, same_more}
+use Rattle.csn_look.proofs.Handing.ReachedParts.{kept_more, same_more}
 use Rattle.csn_look.proofs.hand_down.hand_to_each.Goals as goal
 
 pub loop-at-init : goal.loop-at-init

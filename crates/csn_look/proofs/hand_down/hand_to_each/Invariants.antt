@@ -1,6 +1,6 @@
 use Rattle.std.proofs.Common.{◌≡◌, ℕ, ◌<◌, Some}
 use Rattle.std.specs.Prelude.{slice_get}
-use Rattle.csn_look.proofs.ReachedParts.{KeptBeside}
+use Rattle.csn_look.proofs.Handing.ReachedParts.{KeptBeside}
 use Rattle.csn_look.proofs.hand_down.hand_to_each.Given as goal
 
 abbrev pub invariant-loop-at : goal.invariant-loop-at

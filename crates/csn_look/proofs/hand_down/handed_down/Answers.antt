@@ -2,8 +2,8 @@ use Rattle.std.proofs.Common.{◌≡◌, ◌+◌, ◌<◌, length, Some, refl, s
 use Rattle.std.specs.Prelude.{slice_get}
 use Rattle.std.proofs.lemmas.Option.{slice_get_read}
 use Rattle.csn_look.specs.Steps.{KeepsOthers}
-use Rattle.csn_look.proofs.HandDown.{Handed, handed_none, handed_here, handed_more, handed_end}
-use Rattle.csn_look.proofs.ReachedParts.{parts_once, parts_below, written_back}
+use Rattle.csn_look.proofs.Handing.HandDown.{Handed, handed_none, handed_here, handed_more, handed_end}
+use Rattle.csn_look.proofs.Handing.ReachedParts.{parts_once, parts_below, written_back}
 use Rattle.csn_look.proofs.hand_down.handed_down.Goals as goal
 
 pub loop-k-init : goal.loop-k-init

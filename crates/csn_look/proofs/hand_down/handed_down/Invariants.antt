@@ -1,4 +1,4 @@
-use Rattle.csn_look.proofs.HandDown.{Handed}
+use Rattle.csn_look.proofs.Handing.HandDown.{Handed}
 use Rattle.csn_look.proofs.hand_down.handed_down.Given as goal
 
 abbrev pub invariant-loop-k : goal.invariant-loop-k

@@ -1,6 +1,6 @@
 use Rattle.std.proofs.Common.{◌||◌, nat_eq, arith, sym, ap, ◌∙◌}
 use Rattle.csn_look.specs.KeyMarks.{is_marked, key_mark}
-use Rattle.csn_look.proofs.KeyMarkFacts.{raised_first, raised_next, raised_last, raised_enough}
+use Rattle.csn_look.proofs.Tables.KeyMarkFacts.{raised_first, raised_next, raised_last, raised_enough}
 use Rattle.csn_look.proofs.key_marks.add_key.Goals as goal
 
 pub loop-at-init : goal.loop-at-init

@@ -1,6 +1,6 @@
 use Rattle.std.proofs.Common.{◌≡◌, ℕ, ◌<◌, List}
 use Rattle.csn_look.specs.KeyMarks.{IsWord, place_of}
-use Rattle.csn_look.proofs.KeyMarkFacts.{IsRaised}
+use Rattle.csn_look.proofs.Tables.KeyMarkFacts.{IsRaised}
 use Rattle.csn_look.proofs.key_marks.add_key.Given as goal
 
 -- the marks of the prefixes down to this one are set

@@ -1,5 +1,5 @@
 use Rattle.std.proofs.Common.{arith, refl, sym, ◌∙◌}
-use Rattle.csn_look.proofs.KeyMarkFacts.{searched_next, found, searched_last}
+use Rattle.csn_look.proofs.Tables.KeyMarkFacts.{searched_next, found, searched_last}
 use Rattle.csn_look.proofs.key_marks.begins_with_key.Goals as goal
 
 pub loop-at-preserved : goal.loop-at-preserved

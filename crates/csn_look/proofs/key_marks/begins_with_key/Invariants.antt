@@ -1,6 +1,6 @@
 use Rattle.std.proofs.Common.{◌≡◌, ℕ, ◌<◌, List}
 use Rattle.csn_look.specs.KeyMarks.{IsWord, place_of}
-use Rattle.csn_look.proofs.KeyMarkFacts.{IsSearched}
+use Rattle.csn_look.proofs.Tables.KeyMarkFacts.{IsSearched}
 use Rattle.csn_look.proofs.key_marks.begins_with_key.Given as goal
 
 -- no longer prefix is a key

@@ -1,5 +1,5 @@
 use Rattle.std.proofs.Common.{[], refl, arith}
-use Rattle.csn_look.proofs.Products.{after_size}
+use Rattle.csn_look.proofs.Tables.Products.{after_size}
 use Rattle.csn_look.proofs.key_products.add_after_size.Goals as goal
 
 pub returns : goal.returns

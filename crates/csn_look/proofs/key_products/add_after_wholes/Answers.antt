@@ -1,7 +1,7 @@
 use Rattle.std.proofs.Common.{◌≡◌, ℕ, ◌+◌, ◌-◌, ◌*◌, ◌^◌, ◌<◌, ◌≤◌, false, List, ap, ◌∙◌, subst, arith}
 use Rattle.csn_look.specs.KeyMarks.{is_marked}
 use Rattle.csn_look.specs.KeySteps.{Extends, IsAfter}
-use Rattle.csn_look.proofs.Products.{room_after, after_none, after_skip, after_next}
+use Rattle.csn_look.proofs.Tables.Products.{room_after, after_none, after_skip, after_next}
 use Rattle.csn_look.proofs.key_products.add_after_wholes.Goals as goal
 
 -- marks between two places, by the numbers that the words write

@@ -1,6 +1,6 @@
 use Rattle.std.proofs.Common.{◌≡◌, ℕ, ◌+◌, subst, arith}
 use Rattle.csn_look.specs.KeySteps.{Extends, IsShortBehind}
-use Rattle.csn_look.proofs.Products.{room_for, short_none, short_next, short_all}
+use Rattle.csn_look.proofs.Tables.Products.{room_for, short_none, short_next, short_all}
 use Rattle.csn_look.proofs.key_products.add_behind.Goals as goal
 
 pub loop-size-init : goal.loop-size-init

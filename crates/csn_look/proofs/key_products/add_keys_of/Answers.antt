@@ -1,4 +1,4 @@
-use Rattle.csn_look.proofs.Products.{both_marks}
+use Rattle.csn_look.proofs.Tables.Products.{both_marks}
 use Rattle.csn_look.proofs.key_products.add_keys_of.Goals as goal
 
 pub returns : goal.returns

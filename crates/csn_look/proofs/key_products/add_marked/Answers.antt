@@ -1,7 +1,7 @@
 use Rattle.std.proofs.Common.{◌≡◌, ℕ, ◌+◌, ◌-◌, ◌*◌, ◌<◌, ◌≤◌, false, List, ap, ◌∙◌, subst, arith}
 use Rattle.csn_look.specs.KeyMarks.{is_marked}
 use Rattle.csn_look.specs.KeySteps.{Extends}
-use Rattle.csn_look.proofs.Products.{Behind, behind_none, behind_skip, behind_next}
+use Rattle.csn_look.proofs.Tables.Products.{Behind, behind_none, behind_skip, behind_next}
 use Rattle.csn_look.proofs.key_products.add_marked.Goals as goal
 
 -- marks between two places, by the numbers that the words write

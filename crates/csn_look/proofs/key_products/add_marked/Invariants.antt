@@ -1,7 +1,7 @@
 use Rattle.std.proofs.Common.{◌≡◌, ℕ, ◌+◌, ◌-◌, ◌^◌, ◌<◌, ◌≤◌, true, List, length}
 use Rattle.csn_look.specs.KeyMarks.{IsWord, is_marked, place_of}
 use Rattle.csn_look.specs.KeySteps.{Extends}
-use Rattle.csn_look.proofs.Products.{Behind}
+use Rattle.csn_look.proofs.Tables.Products.{Behind}
 use Rattle.csn_look.proofs.key_products.add_marked.Given as goal
 
 -- the words whose mark stands before this place are added

@@ -1,6 +1,6 @@
 use Rattle.std.proofs.Common.{◌≡◌, ℕ, arith, subst}
 use Rattle.csn_look.specs.KeySteps.{Extends}
-use Rattle.csn_look.proofs.Products.{OfSize, of_size_none, of_size_next, of_size_all}
+use Rattle.csn_look.proofs.Tables.Products.{OfSize, of_size_none, of_size_next, of_size_all}
 use Rattle.csn_look.proofs.key_products.add_words.Goals as goal
 
 pub loop-number-init : goal.loop-number-init

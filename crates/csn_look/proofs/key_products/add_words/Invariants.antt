@@ -1,6 +1,6 @@
 use Rattle.std.proofs.Common.{◌≡◌, ℕ, ◌^◌, ◌≤◌}
 use Rattle.csn_look.specs.KeySteps.{Extends}
-use Rattle.csn_look.proofs.Products.{OfSize}
+use Rattle.csn_look.proofs.Tables.Products.{OfSize}
 use Rattle.csn_look.proofs.key_products.add_words.Given as goal
 
 -- the words that write a smaller number are added

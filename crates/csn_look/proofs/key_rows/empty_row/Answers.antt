@@ -1,6 +1,6 @@
 use Rattle.std.proofs.Common.{◌≡◌, ℕ, [], Bool, List, subst}
 use Rattle.csn_look.specs.KeyRows.{HasTable}
-use Rattle.csn_look.proofs.RowFacts.{makes_same}
+use Rattle.csn_look.proofs.Tables.RowFacts.{makes_same}
 use Rattle.csn_look.proofs.key_rows.empty_row.Goals as goal
 
 pub returns : goal.returns

@@ -5,9 +5,9 @@ use Rattle.csn_desc.specs.declared.node.Count.TheVariants.{Fixed, Counted}
 use Rattle.csn_desc.specs.declared.node.Node.TheVariants.{Field}
 use Rattle.csn_look.specs.Keys.{NodeKeys}
 use Rattle.csn_look.specs.KeyRows.{Makes}
-use Rattle.csn_look.proofs.ProductsMade.{has_leaf}
-use Rattle.csn_look.proofs.RowFacts.{makes_as, makes_same}
-use Rattle.csn_look.proofs.RowKeys.{FieldKey, field_node, counted_field}
+use Rattle.csn_look.proofs.Tables.ProductsMade.{has_leaf}
+use Rattle.csn_look.proofs.Tables.RowFacts.{makes_as, makes_same}
+use Rattle.csn_look.proofs.Tables.RowKeys.{FieldKey, field_node, counted_field}
 use Rattle.csn_look.proofs.key_rows.field_row.Goals as goal
 
 pub returns-in_ok-at-in-Fixed : goal.returns-in_ok-at-in-Fixed

@@ -1,8 +1,8 @@
 use Rattle.std.proofs.Common.{◌≡◌, ℕ, Bool, true, false, List, length}
 use Rattle.std.proofs.lemmas.Result.{IfOk-weaker}
 use Rattle.csn_look.specs.KeyRows.{HasTable}
-use Rattle.csn_look.proofs.RowKeys.{FieldKey, wide_field, narrow_field}
-use Rattle.csn_look.proofs.ProductsMade.{has_leaf}
+use Rattle.csn_look.proofs.Tables.RowKeys.{FieldKey, wide_field, narrow_field}
+use Rattle.csn_look.proofs.Tables.ProductsMade.{has_leaf}
 use Rattle.csn_look.proofs.key_rows.field_table.Goals as goal
 
 pub returns-then-width-clause-kept : goal.returns-then-width-clause-kept

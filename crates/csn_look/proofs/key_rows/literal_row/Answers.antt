@@ -1,9 +1,9 @@
 use Rattle.std.proofs.Common.{◌≡◌, ℕ, Bool, List, refl, nat_le}
 use Rattle.csn_desc.specs.declared.node.Node.TheVariants.{Lits}
 use Rattle.csn_look.specs.Keys.{NodeKeys}
-use Rattle.csn_look.proofs.RowFacts.{row_next, row_all}
-use Rattle.csn_look.proofs.RowKeys.{lits_keys}
-use Rattle.csn_look.proofs.ProductsMade.{has_leaf}
+use Rattle.csn_look.proofs.Tables.RowFacts.{row_next, row_all}
+use Rattle.csn_look.proofs.Tables.RowKeys.{lits_keys}
+use Rattle.csn_look.proofs.Tables.ProductsMade.{has_leaf}
 use Rattle.csn_look.proofs.key_rows.literal_row.Goals as goal
 
 pub loop-octet-preserved : goal.loop-octet-preserved

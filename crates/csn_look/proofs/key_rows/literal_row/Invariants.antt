@@ -1,7 +1,7 @@
 use Rattle.csn_desc.specs.declared.node.Node.TheVariants.{Lits}
 use Rattle.csn_desc.specs.Nodes.{DescV}
 use Rattle.csn_look.specs.Keys.{NodeKeys}
-use Rattle.csn_look.proofs.RowFacts.{RowBelow}
+use Rattle.csn_look.proofs.Tables.RowFacts.{RowBelow}
 use Rattle.csn_look.proofs.key_rows.literal_row.Given as goal
 
 -- the places before this one are filled

@@ -1,5 +1,5 @@
 use Rattle.std.proofs.Common.{◌∙◌}
-use Rattle.csn_look.proofs.RowKeys.{spelled_push, spelled_all}
+use Rattle.csn_look.proofs.Tables.RowKeys.{spelled_push, spelled_all}
 use Rattle.csn_look.proofs.key_rows.literal_word.Goals as goal
 
 pub loop-at-preserved : goal.loop-at-preserved

@@ -3,9 +3,9 @@ use Rattle.std.proofs.lemmas.Bool.Decides.{Decides-eqb}
 use Rattle.std.proofs.lemmas.Slice.Eq.{slice_eq-Decides}
 use Rattle.csn_look.specs.Keys.{TimesKeys}
 use Rattle.csn_look.specs.KeyRows.{HasRow, RowAfter}
-use Rattle.csn_look.proofs.RowFacts.{more_then, row_as, row_stays, row_tables, tables_stay}
-use Rattle.csn_look.proofs.RowKeys.{no_times}
-use Rattle.csn_look.proofs.RowsMade.{times_next, times_stand}
+use Rattle.csn_look.proofs.Tables.RowFacts.{more_then, row_as, row_stays, row_tables, tables_stay}
+use Rattle.csn_look.proofs.Tables.RowKeys.{no_times}
+use Rattle.csn_look.proofs.Tables.RowsMade.{times_next, times_stand}
 use Rattle.csn_look.proofs.key_rows.repeated_row.Goals as goal
 
 pub loop-done-init : goal.loop-done-init

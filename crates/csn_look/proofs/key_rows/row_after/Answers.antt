@@ -1,6 +1,6 @@
 use Rattle.std.proofs.Common.{arith}
 use Rattle.csn_look.specs.KeyRows.{RowAfter}
-use Rattle.csn_look.proofs.RowFacts.{row_next, after_at, after_same, makes_same}
+use Rattle.csn_look.proofs.Tables.RowFacts.{row_next, after_at, after_same, makes_same}
 use Rattle.csn_look.proofs.key_rows.row_after.Goals as goal
 
 pub loop-octet-preserved : goal.loop-octet-preserved

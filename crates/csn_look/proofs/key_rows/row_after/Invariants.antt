@@ -1,5 +1,5 @@
 use Rattle.csn_look.specs.KeyRows.{RowAfter}
-use Rattle.csn_look.proofs.RowFacts.{RowBelow}
+use Rattle.csn_look.proofs.Tables.RowFacts.{RowBelow}
 use Rattle.csn_look.proofs.key_rows.row_after.Given as goal
 
 -- the places before this one are filled

@@ -3,7 +3,7 @@ use Rattle.std.proofs.Math.ListN.{length-set}
 use Rattle.csn_desc.specs.Nodes.{parts_of}
 use Rattle.csn_desc.proofs.Numbering.{parts_later}
 use Rattle.csn_look.specs.KeyRows.{IsRowed, AreRowed}
-use Rattle.csn_look.proofs.RowsMade.{node_row, rowed_more}
+use Rattle.csn_look.proofs.Tables.RowsMade.{node_row, rowed_more}
 use Rattle.csn_look.proofs.key_rows.rows_of.Goals as goal
 
 pub node-requires-in-loop-i : goal.node-requires-in-loop-i

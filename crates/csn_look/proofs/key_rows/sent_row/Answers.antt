@@ -1,9 +1,9 @@
 use Rattle.std.proofs.Common.{◌≡◌, ℕ, [], ◌∷◌, ◌++◌, Bool, List, ap, ◌∙◌, subst}
 use Rattle.csn_desc.specs.declared.reading.Reading.TheVariants.{Sent}
 use Rattle.csn_look.specs.KeyRows.{HasTable, IsSpareKey}
-use Rattle.csn_look.proofs.ProductsMade.{has_leaf}
-use Rattle.csn_look.proofs.RowFacts.{row_next}
-use Rattle.csn_look.proofs.RowKeys.{sent_spare}
+use Rattle.csn_look.proofs.Tables.ProductsMade.{has_leaf}
+use Rattle.csn_look.proofs.Tables.RowFacts.{row_next}
+use Rattle.csn_look.proofs.Tables.RowKeys.{sent_spare}
 use Rattle.csn_look.proofs.key_rows.sent_row.Goals as goal
 
 pub loop-octet-preserved : goal.loop-octet-preserved

@@ -1,6 +1,6 @@
 use Rattle.csn_desc.specs.declared.reading.Reading.TheVariants.{Sent}
 use Rattle.csn_look.specs.KeyRows.{IsSpareKey}
-use Rattle.csn_look.proofs.RowFacts.{RowBelow}
+use Rattle.csn_look.proofs.Tables.RowFacts.{RowBelow}
 use Rattle.csn_look.proofs.key_rows.sent_row.Given as goal
 
 -- the places before this one are filled

@@ -3,9 +3,9 @@ use Rattle.std.proofs.lemmas.Result.{IfOk-weaker}
 use Rattle.csn_desc.specs.declared.reading.Reading.{Reading}
 use Rattle.csn_desc.specs.declared.reading.Reading.TheVariants.{Received, Sent}
 use Rattle.csn_look.specs.KeyRows.{Makes, IsSpareKey}
-use Rattle.csn_look.proofs.ProductsMade.{has_leaf}
-use Rattle.csn_look.proofs.RowFacts.{makes_same}
-use Rattle.csn_look.proofs.RowKeys.{received_spare}
+use Rattle.csn_look.proofs.Tables.ProductsMade.{has_leaf}
+use Rattle.csn_look.proofs.Tables.RowFacts.{makes_same}
+use Rattle.csn_look.proofs.Tables.RowKeys.{received_spare}
 use Rattle.csn_look.proofs.key_rows.spare_row.Goals as goal
 
 pub returns-in_ok-at-in-Received : goal.returns-in_ok-at-in-Received

@@ -1,8 +1,8 @@
 use Rattle.std.proofs.Common.{◌≡◌, ◌+◌, ◌-◌, ◌*◌, ◌<◌, ◌++◌, ◌∷◌, [], length, arith, sym, ap, ◌∙◌, length-append}
 use Rattle.csn_look.specs.KeyMarks.{is_marked, place_of}
 use Rattle.csn_look.specs.KeyLists.{keys_from}
-use Rattle.csn_look.proofs.Places.{place_of-push}
-use Rattle.csn_look.proofs.KeyLists.{small_place, word_longer, listed_none, listed_more, if_ok_then}
+use Rattle.csn_look.proofs.Basics.Places.{place_of-push}
+use Rattle.csn_look.proofs.Tables.KeyLists.{small_place, word_longer, listed_none, listed_more, if_ok_then}
 use Rattle.csn_look.proofs.key_set.+list_keys.Goals as goal
 
 pub list_key-requires-clause-small : goal.list_key-requires-clause-small

@@ -1,6 +1,6 @@
 use Rattle.std.proofs.Common.{sym, ap, ◌∙◌}
 use Rattle.csn_look.specs.KeyMarks.{is_marked, key_mark}
-use Rattle.csn_look.proofs.KeyLists.{key_none}
+use Rattle.csn_look.proofs.Tables.KeyLists.{key_none}
 use Rattle.csn_look.proofs.key_set.list_key.Goals as goal
 
 pub returns : goal.returns

@@ -2,7 +2,7 @@ use Rattle.std.proofs.Common.{◌≡◌, ℕ, ◌<◌, ◌%◌, List, [], get_or
 use Rattle.std.proofs.lemmas.List.{get_or_read}
 use Rattle.csn_look.specs.KeyTables.{IsKeyTable}
 use Rattle.csn_look.specs.KeySteps.{Extends}
-use Rattle.csn_look.proofs.Products.{AtSize, below_none, below_next, below_all}
+use Rattle.csn_look.proofs.Tables.Products.{AtSize, below_none, below_next, below_all}
 use Rattle.csn_look.proofs.key_table.add_after.Goals as goal
 
 pub loop-size-init : goal.loop-size-init

@@ -1,6 +1,6 @@
 use Rattle.std.proofs.Common.{◌%◌, [], get_or}
 use Rattle.csn_look.specs.KeySteps.{Extends}
-use Rattle.csn_look.proofs.Products.{AfterBelow}
+use Rattle.csn_look.proofs.Tables.Products.{AfterBelow}
 use Rattle.csn_look.proofs.key_table.add_after.Given as goal
 
 -- the keys that begin with fewer bits of the first part are added

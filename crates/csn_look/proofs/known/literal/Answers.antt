@@ -1,8 +1,8 @@
 use Rattle.std.proofs.Common.{◌≡◌, ℕ, ◌%◌, ◌↔◌, nat_eq, subst, ap, ◌∙◌}
 use Rattle.std.specs.Prelude.{IsTrue}
 use Rattle.std.specs.FinSet as set
-use Rattle.csn_look.proofs.Telling.{zero_test}
-use Rattle.csn_look.proofs.LeavesTell.{lits_sets}
+use Rattle.csn_look.proofs.Sets.Telling.{zero_test}
+use Rattle.csn_look.proofs.Sets.LeavesTell.{lits_sets}
 use Rattle.csn_look.proofs.known.literal.Goals as goal
 
 pub returns : goal.returns

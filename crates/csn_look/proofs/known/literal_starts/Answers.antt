@@ -1,5 +1,5 @@
 use Rattle.std.proofs.Common.{sym, ◌∙◌}
-use Rattle.csn_look.proofs.LeavesTell.{no_lits_start, some_lits_start}
+use Rattle.csn_look.proofs.Sets.LeavesTell.{no_lits_start, some_lits_start}
 use Rattle.csn_look.proofs.known.literal_starts.Goals as goal
 
 pub returns-then-len-eq0 : goal.returns-then-len-eq0

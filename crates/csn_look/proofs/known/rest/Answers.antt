@@ -1,5 +1,5 @@
 use Rattle.std.proofs.Common.{refl}
-use Rattle.csn_look.proofs.LeavesTell.{rest_sets}
+use Rattle.csn_look.proofs.Sets.LeavesTell.{rest_sets}
 use Rattle.csn_look.proofs.known.rest.Goals as goal
 
 pub returns : goal.returns

@@ -1,6 +1,6 @@
 use Rattle.std.proofs.Common.{◌≡◌, ℕ, sym, ◌∙◌}
 use Rattle.csn_desc.specs.Spelled.{symbol_bit}
-use Rattle.csn_look.proofs.Octets.{below_none, below_with, below_without}
+use Rattle.csn_look.proofs.Basics.Octets.{below_none, below_with, below_without}
 use Rattle.csn_look.proofs.known.symbol_starts.Goals as goal
 use Rattle.csn_look.proofs.known.symbol_starts.Goals.{then-bit_of_symbol-bit, else-bit_of_symbol-bit}
 

@@ -1,6 +1,6 @@
 use Rattle.std.proofs.Common.{◌≡◌}
 use Rattle.csn_desc.specs.Spelled.{symbol_bit}
-use Rattle.csn_look.proofs.Octets.{Below}
+use Rattle.csn_look.proofs.Basics.Octets.{Below}
 use Rattle.csn_look.proofs.known.symbol_starts.Given as goal
 
 abbrev pub invariant-loop-octet : goal.invariant-loop-octet

@@ -1,5 +1,5 @@
 use Rattle.std.proofs.Common.{ℕ, ◌+◌, ◌*◌, ◌%◌}
-use Rattle.csn_look.proofs.Telling.{no_value_yet, value_more}
+use Rattle.csn_look.proofs.Sets.Telling.{no_value_yet, value_more}
 use Rattle.csn_look.proofs.known.valued.Goals as goal
 
 pub loop-value-init : goal.loop-value-init

@@ -6,8 +6,8 @@ use Rattle.csn_desc.specs.Formed.{IsDescription}
 use Rattle.csn_desc.specs.Laws.{NodesAreWellFormed}
 use Rattle.csn_look.specs.Keys.{InKeys}
 use Rattle.csn_look.specs.Beginnings.{Near}
-use Rattle.csn_look.proofs.KeyFacts.{keys}
-use Rattle.csn_look.proofs.NearFacts.{near_keys}
+use Rattle.csn_look.proofs.Meaning.KeyFacts.{keys}
+use Rattle.csn_look.proofs.Meaning.NearFacts.{near_keys}
 use Rattle.csn_look.proofs.laws.bits_begin_with_keys.Goals as goal
 
 near : NodesAreWellFormed → (d : DescV) (most i o : ℕ) (v : Values) (b : List ℕ) → IsDescription d → NFollow d i o v b → Near (InKeys d most i (o % 8)) b

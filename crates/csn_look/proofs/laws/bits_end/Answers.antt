@@ -1,7 +1,7 @@
 use Rattle.std.proofs.Common.{◌+◌, length, refl, arith}
-use Rattle.csn_look.proofs.ShapeFacts.{shaped}
-use Rattle.csn_look.proofs.EndsFacts.{ends}
-use Rattle.csn_look.proofs.ReachedParts.{end_small}
+use Rattle.csn_look.proofs.Meaning.ShapeFacts.{shaped}
+use Rattle.csn_look.proofs.Meaning.EndsFacts.{ends}
+use Rattle.csn_look.proofs.Handing.ReachedParts.{end_small}
 use Rattle.csn_look.proofs.laws.bits_end.Goals as goal
 
 pub returns-clause-meant : goal.returns-clause-meant

@@ -1,6 +1,6 @@
 use Rattle.std.proofs.Common.{refl}
-use Rattle.csn_look.proofs.ShapeFacts.{shaped}
-use Rattle.csn_look.proofs.StartFacts.{starts, follows}
+use Rattle.csn_look.proofs.Meaning.ShapeFacts.{shaped}
+use Rattle.csn_look.proofs.Meaning.StartFacts.{starts, follows}
 use Rattle.csn_look.proofs.laws.bits_start.Goals as goal
 
 pub returns-clause-meant : goal.returns-clause-meant

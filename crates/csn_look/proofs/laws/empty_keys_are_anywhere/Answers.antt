@@ -1,5 +1,5 @@
 use Rattle.std.proofs.Common.{refl}
-use Rattle.csn_look.proofs.EmptyKeys.{empty_key}
+use Rattle.csn_look.proofs.Meaning.EmptyKeys.{empty_key}
 use Rattle.csn_look.proofs.laws.empty_keys_are_anywhere.Goals as goal
 
 pub returns : goal.returns

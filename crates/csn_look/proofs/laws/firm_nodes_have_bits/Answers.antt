@@ -4,8 +4,8 @@ use Rattle.csn_desc.specs.Nodes.{DescV}
 use Rattle.csn_desc.specs.Values.{Values}
 use Rattle.csn_desc.specs.Means.{NMeans}
 use Rattle.csn_look.specs.Keys.{InKeys, IsFirm}
-use Rattle.csn_look.proofs.ShapeFacts.{Shaped, shaped}
-use Rattle.csn_look.proofs.NullableFacts.{nullable}
+use Rattle.csn_look.proofs.Meaning.ShapeFacts.{Shaped, shaped}
+use Rattle.csn_look.proofs.Meaning.NullableFacts.{nullable}
 use Rattle.csn_look.proofs.laws.firm_nodes_have_bits.Goals as goal
 
 some_bits : (d : DescV) (most i o : ℕ) (v : Values) (b : List ℕ) (t : TreeV) → Shaped d → IsFirm d most i → NMeans d i o v b t → 0 < length b

@@ -1,8 +1,8 @@
 use Rattle.std.proofs.Common.{◌%◌, refl}
-use Rattle.csn_look.proofs.ShapeFacts.{shaped}
-use Rattle.csn_look.proofs.KeyMeant.{key_meant, key_start}
-use Rattle.csn_look.proofs.NearFacts.{has_key}
-use Rattle.csn_look.proofs.KeyFollowed.{key_followed}
+use Rattle.csn_look.proofs.Meaning.ShapeFacts.{shaped}
+use Rattle.csn_look.proofs.Meaning.KeyMeant.{key_meant, key_start}
+use Rattle.csn_look.proofs.Meaning.NearFacts.{has_key}
+use Rattle.csn_look.proofs.Meaning.KeyFollowed.{key_followed}
 use Rattle.csn_look.proofs.laws.keys_are_of_bits.Goals as goal
 
 pub returns-clause-some : goal.returns-clause-some

@@ -1,4 +1,4 @@
-use Rattle.csn_look.proofs.KeyWords.{key_at_most}
+use Rattle.csn_look.proofs.Tables.KeyWords.{key_at_most}
 use Rattle.csn_look.proofs.laws.keys_are_words.Goals as goal
 
 pub returns-clause-bits : goal.returns-clause-bits

@@ -1,7 +1,7 @@
 use Rattle.std.proofs.Common.{◌+◌, length, refl}
-use Rattle.csn_look.proofs.ShapeFacts.{shaped}
-use Rattle.csn_look.proofs.EndsFacts.{ends}
-use Rattle.csn_look.proofs.ReachFacts.{parts_end_more, many_end_more, turn_first, turn_next, turn_reached}
+use Rattle.csn_look.proofs.Meaning.ShapeFacts.{shaped}
+use Rattle.csn_look.proofs.Meaning.EndsFacts.{ends}
+use Rattle.csn_look.proofs.Meaning.ReachFacts.{parts_end_more, many_end_more, turn_first, turn_next, turn_reached}
 use Rattle.csn_look.proofs.laws.next_parts_are_reached.Goals as goal
 
 pub returns : goal.returns

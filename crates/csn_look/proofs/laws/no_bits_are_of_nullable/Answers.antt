@@ -1,6 +1,6 @@
 use Rattle.std.proofs.Common.{refl}
-use Rattle.csn_look.proofs.ShapeFacts.{shaped}
-use Rattle.csn_look.proofs.NullableFacts.{nullable}
+use Rattle.csn_look.proofs.Meaning.ShapeFacts.{shaped}
+use Rattle.csn_look.proofs.Meaning.NullableFacts.{nullable}
 use Rattle.csn_look.proofs.laws.no_bits_are_of_nullable.Goals as goal
 
 pub returns : goal.returns

@@ -1,10 +1,10 @@
 use Rattle.std.proofs.Common.{◌+◌, length, refl, arith}
 use Rattle.csn_look.specs.Reached.{reached_root}
-use Rattle.csn_look.proofs.ShapeFacts.{shaped}
-use Rattle.csn_look.proofs.EndsFacts.{parts_ends, many_ends}
-use Rattle.csn_look.proofs.FollowFacts.{cuts}
-use Rattle.csn_look.proofs.ReachFacts.{seq_reached, lead_reached, times_reached, many_reached, choice_reached, window_reached, named_reached}
-use Rattle.csn_look.proofs.ReachedParts.{reached_small}
+use Rattle.csn_look.proofs.Meaning.ShapeFacts.{shaped}
+use Rattle.csn_look.proofs.Meaning.EndsFacts.{parts_ends, many_ends}
+use Rattle.csn_look.proofs.Meaning.FollowFacts.{cuts}
+use Rattle.csn_look.proofs.Meaning.ReachFacts.{seq_reached, lead_reached, times_reached, many_reached, choice_reached, window_reached, named_reached}
+use Rattle.csn_look.proofs.Handing.ReachedParts.{reached_small}
 use Rattle.csn_look.proofs.laws.parts_are_reached.Goals as goal
 
 pub returns : goal.returns

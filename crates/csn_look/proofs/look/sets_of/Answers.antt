@@ -3,8 +3,8 @@ use Rattle.std.proofs.Math.ListN.{length-set}
 use Rattle.csn_desc.specs.Nodes.{parts_of}
 use Rattle.csn_look.specs.declared.node_sets.NodeSets.{NodeSets}
 use Rattle.csn_look.specs.NodeSets.{AreKnown}
-use Rattle.csn_look.proofs.Spanned.{parts_known, known_more}
-use Rattle.csn_look.proofs.LeavesTell.{node_at}
+use Rattle.csn_look.proofs.Basics.Spanned.{parts_known, known_more}
+use Rattle.csn_look.proofs.Sets.LeavesTell.{node_at}
 use Rattle.csn_look.proofs.look.sets_of.Goals as goal
 
 pub node-node-requires : goal.node-node-requires

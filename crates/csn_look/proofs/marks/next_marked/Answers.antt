@@ -1,5 +1,5 @@
 use Rattle.std.proofs.Common.{◌≡◌, ◌<◌, ◌≤◌, ◌⊎◌, ℕ, inl, inr, arith}
-use Rattle.csn_look.proofs.MarkFacts.{none_left}
+use Rattle.csn_look.proofs.Tables.MarkFacts.{none_left}
 use Rattle.csn_look.proofs.marks.next_marked.Goals as goal
 
 lower_or : (k at : ℕ) → (k < at) ⊎ (at ≤ k)

@@ -1,4 +1,4 @@
-use Rattle.csn_look.proofs.MarkFacts.{set_marked}
+use Rattle.csn_look.proofs.Tables.MarkFacts.{set_marked}
 use Rattle.csn_look.proofs.marks.set_mark.Goals as goal
 
 pub returns : goal.returns

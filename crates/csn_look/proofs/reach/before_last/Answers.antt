@@ -1,5 +1,5 @@
-use Rattle.csn_look.proofs.RepetitionsTell.{many_lengths}
-use Rattle.csn_look.proofs.ReachedParts.{before_none, before_fixed, before_counted}
+use Rattle.csn_look.proofs.Sets.RepetitionsTell.{many_lengths}
+use Rattle.csn_look.proofs.Handing.ReachedParts.{before_none, before_fixed, before_counted}
 use Rattle.csn_look.proofs.reach.before_last.Goals as goal
 
 pub returns-then-n-eq0 : goal.returns-then-n-eq0

@@ -1,5 +1,5 @@
 use Rattle.std.proofs.Common.{refl, arith}
-use Rattle.csn_look.proofs.ReachedParts.{BeginsAt, begins_first, begins_next, kept_more, put_none, put_more, put_all, at_seq}
+use Rattle.csn_look.proofs.Handing.ReachedParts.{BeginsAt, begins_first, begins_next, kept_more, put_none, put_more, put_all, at_seq}
 use Rattle.csn_look.proofs.reach.reach_in_order.Goals as goal
 
 pub loop-at-init : goal.loop-at-init

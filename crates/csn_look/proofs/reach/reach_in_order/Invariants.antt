@@ -1,7 +1,7 @@
 use Rattle.csn_desc.specs.Nodes.{DescV}
 use Rattle.csn_look.specs.Told.{OctetsAre}
 use Rattle.csn_look.specs.NodeSets.{IsLookOf}
-use Rattle.csn_look.proofs.ReachedParts.{KeptBeside, PutSoFar, BeginsAt}
+use Rattle.csn_look.proofs.Handing.ReachedParts.{KeptBeside, PutSoFar, BeginsAt}
 use Rattle.csn_look.proofs.reach.reach_in_order.Given as goal
 
 abbrev pub invariant-loop-at : goal.invariant-loop-at

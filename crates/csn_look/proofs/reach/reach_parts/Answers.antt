@@ -1,6 +1,6 @@
 use Rattle.std.proofs.Common.{refl, length}
-use Rattle.csn_look.proofs.RepetitionsTell.{many_lengths}
-use Rattle.csn_look.proofs.ReachedParts.{once_kind, below_kind, part_below, steps_of, trunc_steps, single_steps, single_others, others_of, at_choice, at_times, at_many, at_window, at_named}
+use Rattle.csn_look.proofs.Sets.RepetitionsTell.{many_lengths}
+use Rattle.csn_look.proofs.Handing.ReachedParts.{once_kind, below_kind, part_below, steps_of, trunc_steps, single_steps, single_others, others_of, at_choice, at_times, at_many, at_window, at_named}
 use Rattle.csn_look.proofs.reach.reach_parts.Goals as goal
 
 pub reach_in_order-requires-clause-once : goal.reach_in_order-requires-clause-once

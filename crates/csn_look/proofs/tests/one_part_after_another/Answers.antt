@@ -1,5 +1,5 @@
 use Rattle.std.proofs.Common.{arith}
-use Rattle.csn_look.proofs.MarkFacts.{zeros}
+use Rattle.csn_look.proofs.Tables.MarkFacts.{zeros}
 use Rattle.csn_look.proofs.tests.one_part_after_another.Goals as goal
 
 pub add_after-requires : goal.add_after-requires

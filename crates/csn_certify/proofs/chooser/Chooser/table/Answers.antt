@@ -1,5 +1,5 @@
 use Rattle.std.proofs.Common.{◌≡◌, ◌+◌, ℕ, List, length, Option, Some, subst, sym, ap, ◌∙◌, arith}
-use Rattle.csn_look.proofs.ReachedParts.{written_back}
+use Rattle.csn_look.proofs.Handing.ReachedParts.{written_back}
 use Rattle.csn_certify.specs.declared.pick_table.Entry.{Entry}
 use Rattle.csn_certify.specs.PickTables.{PickTableV, HasEntries, IsPickTable}
 use Rattle.csn_certify.proofs.FillingFacts.{fresh_empty}

@@ -2,7 +2,7 @@ use Rattle.std.proofs.Common.{◌≡◌, Some, length, refl, sym, subst, arith}
 use Rattle.std.specs.Prelude.{slice_get}
 use Rattle.csn_desc.specs.declared.node.Node.{Node}
 use Rattle.csn_desc.specs.Nodes.{parts_of}
-use Rattle.csn_look.proofs.ReachedParts.{parts_below}
+use Rattle.csn_look.proofs.Handing.ReachedParts.{parts_below}
 use Rattle.csn_certify.proofs.Answered.{not_asked, reached_where_asked}
 use Rattle.csn_certify.proofs.pick.Asked.pick.Goals as goal
 

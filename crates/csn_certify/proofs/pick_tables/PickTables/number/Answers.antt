@@ -1,6 +1,6 @@
 use Rattle.std.proofs.Common.{length, arith}
 use Rattle.csn_desc.specs.declared.node.Node.TheVariants.{Choice}
-use Rattle.csn_look.proofs.ReachedParts.{parts_below}
+use Rattle.csn_look.proofs.Handing.ReachedParts.{parts_below}
 use Rattle.std.proofs.lemmas.Option.{slice_get_within}
 use Rattle.csn_certify.proofs.pick_tables.PickTables.number.Goals as goal
 

@@ -2,7 +2,7 @@ use Rattle.std.proofs.Common.{◌≡◌, ◌+◌, ◌*◌, slice_get, length, sy
 use Rattle.std.specs.Prelude.{slice_index}
 use Rattle.std.proofs.lemmas.Option.{slice_get_within}
 use Rattle.csn_desc.specs.declared.node.Node.TheVariants.{Choice}
-use Rattle.csn_look.proofs.ReachedParts.{parts_below}
+use Rattle.csn_look.proofs.Handing.ReachedParts.{parts_below}
 use Rattle.csn_certify.proofs.TableFacts.{table_shared}
 use Rattle.csn_certify.proofs.pick_tables.PickTables.shared.Goals as goal
 

@@ -2,7 +2,7 @@ use Rattle.std.proofs.Common.{◌≡◌, Some, length, refl, sym, ap, ◌∙◌,
 use Rattle.std.specs.Prelude.{slice_get}
 use Rattle.csn_desc.specs.declared.node.Node.{Node}
 use Rattle.csn_desc.specs.Nodes.{DescV, parts_of}
-use Rattle.csn_look.proofs.ReachedParts.{parts_below}
+use Rattle.csn_look.proofs.Handing.ReachedParts.{parts_below}
 use Rattle.csn_certify.specs.Picks.{IsAsked, asked_choice, asked_many}
 use Rattle.csn_certify.proofs.plan.tests.is_asked.Goals as goal
 

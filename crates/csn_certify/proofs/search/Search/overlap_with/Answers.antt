@@ -6,7 +6,7 @@ use Rattle.csn_certify.specs.Conflicts.{IsNull}
 use Rattle.csn_certify.specs.Search.{IsFirstUnder}
 use Rattle.csn_certify.specs.Overlaps.{MeetsAt, MeetUnder, IsFirstBegun}
 use Rattle.csn_certify.proofs.SearchFacts.{part_inside, rows_inside, denied, least_is_none}
-use Rattle.csn_look.proofs.KeyWords.{key_word}
+use Rattle.csn_look.proofs.Tables.KeyWords.{key_word}
 use Rattle.csn_certify.proofs.OverlapSearch.{same_part, pair_null, pair_apart, pair_none, pair_begun, pair_some, listed_key}
 use Rattle.csn_certify.proofs.search.Search.overlap_with.Goals as goal
 

@@ -1,5 +1,5 @@
 use Rattle.std.proofs.Common.{refl}
-use Rattle.csn_look.proofs.FollowedParts.{with_above, without_above}
+use Rattle.csn_look.proofs.Handing.FollowedParts.{with_above, without_above}
 use Rattle.csn_look.proofs.following.Following.ahead_of.Goals as goal
 
 pub returns-then-rest : goal.returns-then-rest

@@ -1,4 +1,4 @@
-use Rattle.csn_look.proofs.FollowedParts.{parts_follow}
+use Rattle.csn_look.proofs.Handing.FollowedParts.{parts_follow}
 use Rattle.csn_look.proofs.following.FollowingHandDown.hand_down.Goals as goal
 
 pub returns-clause-parts : goal.returns-clause-parts

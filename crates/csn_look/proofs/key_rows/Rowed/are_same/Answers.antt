@@ -1,6 +1,6 @@
 use Rattle.std.proofs.Common.{arith}
 use Rattle.std.proofs.lemmas.Option.{slice_get_within}
-use Rattle.csn_look.proofs.RowKeys.{alike_next}
+use Rattle.csn_look.proofs.Tables.RowKeys.{alike_next}
 use Rattle.csn_look.proofs.key_rows.Rowed.are_same.Goals as goal
 
 pub loop-at-preserved : goal.loop-at-preserved

@@ -1,4 +1,4 @@
-use Rattle.csn_look.proofs.RowKeys.{AreAlikeBelow}
+use Rattle.csn_look.proofs.Tables.RowKeys.{AreAlikeBelow}
 use Rattle.csn_look.proofs.key_rows.Rowed.are_same.Given as goal
 
 -- the parts before this one are alike

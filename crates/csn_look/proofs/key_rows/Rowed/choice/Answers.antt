@@ -3,8 +3,8 @@ use Rattle.std.proofs.lemmas.Result.{IfOk-weaker}
 use Rattle.csn_desc.specs.declared.node.Node.TheVariants.{Choice}
 use Rattle.csn_look.specs.Keys.{NodeKeys}
 use Rattle.csn_look.specs.KeyRows.{IsSameRow, Makes}
-use Rattle.csn_look.proofs.RowFacts.{row_next, kept_table, same_tables}
-use Rattle.csn_look.proofs.RowKeys.{choice_alike}
+use Rattle.csn_look.proofs.Tables.RowFacts.{row_next, kept_table, same_tables}
+use Rattle.csn_look.proofs.Tables.RowKeys.{choice_alike}
 use Rattle.csn_look.proofs.key_rows.Rowed.choice.Goals as goal
 
 pub returns-then-are_same : goal.returns-then-are_same

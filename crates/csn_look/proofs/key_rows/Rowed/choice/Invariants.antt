@@ -1,6 +1,6 @@
 use Rattle.csn_desc.specs.declared.node.Node.TheVariants.{Choice}
 use Rattle.csn_look.specs.Keys.{NodeKeys}
-use Rattle.csn_look.proofs.RowFacts.{RowBelow}
+use Rattle.csn_look.proofs.Tables.RowFacts.{RowBelow}
 use Rattle.csn_look.proofs.key_rows.Rowed.choice.Given as goal
 
 -- the places before this one are filled

@@ -6,9 +6,9 @@ use Rattle.csn_desc.specs.declared.node.Node.{Node}
 use Rattle.csn_desc.specs.declared.node.Node.TheVariants.{Named}
 use Rattle.csn_look.specs.Keys.{InKeys, NodeKeys, PartsKeys}
 use Rattle.csn_look.specs.KeyRows.{IsSpareKey, Makes}
-use Rattle.csn_look.proofs.RowFacts.{more_none, row_as}
-use Rattle.csn_look.proofs.RowKeys.{spare_node, pad_node, null_node, rest_node, many_node, trunc_node, window_node, seq_node, named_node}
-use Rattle.csn_look.proofs.RowsMade.{gives_as, rowed_parts, rowed_part}
+use Rattle.csn_look.proofs.Tables.RowFacts.{more_none, row_as}
+use Rattle.csn_look.proofs.Tables.RowKeys.{spare_node, pad_node, null_node, rest_node, many_node, trunc_node, window_node, seq_node, named_node}
+use Rattle.csn_look.proofs.Tables.RowsMade.{gives_as, rowed_parts, rowed_part}
 use Rattle.csn_look.proofs.key_rows.Rowed.node.Goals as goal
 
 -- spare keys in an equal reading

@@ -1,10 +1,10 @@
 use Rattle.std.proofs.Common.{◌-◌, [], drop, ℕ, List, sym, subst}
 use Rattle.csn_look.specs.Keys.{PartsKeys}
 use Rattle.csn_look.specs.KeyRows.{Makes}
-use Rattle.csn_look.proofs.Telling.{last_none, last_all, last_more}
-use Rattle.csn_look.proofs.RowFacts.{makes_as}
-use Rattle.csn_look.proofs.RowKeys.{no_parts}
-use Rattle.csn_look.proofs.RowsMade.{rowed_stays, parts_next}
+use Rattle.csn_look.proofs.Sets.Telling.{last_none, last_all, last_more}
+use Rattle.csn_look.proofs.Tables.RowFacts.{makes_as}
+use Rattle.csn_look.proofs.Tables.RowKeys.{no_parts}
+use Rattle.csn_look.proofs.Tables.RowsMade.{rowed_stays, parts_next}
 use Rattle.csn_look.proofs.key_rows.Rowed.sequence.Goals as goal
 
 pub loop-at-init : goal.loop-at-init

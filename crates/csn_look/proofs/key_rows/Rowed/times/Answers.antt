@@ -5,8 +5,8 @@ use Rattle.csn_desc.specs.declared.node.Count.TheVariants.{Fixed, Counted}
 use Rattle.csn_desc.specs.declared.node.Node.TheVariants.{Times}
 use Rattle.csn_look.specs.Keys.{InKeys, NodeKeys, TimesKeys}
 use Rattle.csn_look.specs.KeyRows.{Makes}
-use Rattle.csn_look.proofs.RowFacts.{row_tables, makes_as}
-use Rattle.csn_look.proofs.RowKeys.{times_node, counted_times}
+use Rattle.csn_look.proofs.Tables.RowFacts.{row_tables, makes_as}
+use Rattle.csn_look.proofs.Tables.RowKeys.{times_node, counted_times}
 use Rattle.csn_look.proofs.key_rows.Rowed.times.Goals as goal
 
 pub repeated_row-requires : goal.repeated_row-requires

@@ -1,7 +1,7 @@
 use Rattle.std.proofs.Common.{ℕ, List, sym, subst, arith}
 use Rattle.csn_look.specs.KeyMarks.{KeysAre}
 use Rattle.csn_look.specs.Keys.{InKeys}
-use Rattle.csn_look.proofs.RowKeys.{choice_none, choice_next, choice_all}
+use Rattle.csn_look.proofs.Tables.RowKeys.{choice_none, choice_next, choice_all}
 use Rattle.csn_look.proofs.key_rows.Rowed.union.Goals as goal
 
 pub loop-at-init : goal.loop-at-init

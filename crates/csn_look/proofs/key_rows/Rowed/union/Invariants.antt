@@ -1,5 +1,5 @@
 use Rattle.csn_look.specs.KeyMarks.{KeysAre}
-use Rattle.csn_look.proofs.RowKeys.{ChoiceBelow}
+use Rattle.csn_look.proofs.Tables.RowKeys.{ChoiceBelow}
 use Rattle.csn_look.proofs.key_rows.Rowed.union.Given as goal
 
 -- the keys of the parts before this one

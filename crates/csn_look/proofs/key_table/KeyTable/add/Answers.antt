@@ -1,7 +1,7 @@
 use Rattle.std.proofs.Common.{◌≡◌, ℕ, List, length, sym, ◌∙◌, subst, ap}
 use Rattle.csn_look.specs.KeyMarks.{Adds}
 use Rattle.csn_look.specs.KeyTables.{IsKeyTable, AddsKey}
-use Rattle.csn_look.proofs.KeyMarkFacts.{key_added, written_back}
+use Rattle.csn_look.proofs.Tables.KeyMarkFacts.{key_added, written_back}
 use Rattle.csn_look.proofs.key_table.KeyTable.add.Goals as goal
 
 pub invariant_of-self : goal.invariant_of-self

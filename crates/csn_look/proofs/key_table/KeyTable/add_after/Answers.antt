@@ -3,7 +3,7 @@ use Rattle.csn_look.specs.KeyMarks.{Adds}
 use Rattle.csn_look.specs.KeyTables.{IsKeyTable}
 use Rattle.csn_look.specs.KeyProducts.{AfterKeys}
 use Rattle.csn_look.specs.KeySteps.{Extends}
-use Rattle.csn_look.proofs.KeyMarkFacts.{written_back}
+use Rattle.csn_look.proofs.Tables.KeyMarkFacts.{written_back}
 use Rattle.csn_look.proofs.key_table.KeyTable.add_after.Goals as goal
 
 -- the same product, of equal lists

@@ -1,7 +1,7 @@
 use Rattle.std.proofs.Common.{◌≡◌, ℕ, List, ◌||◌, length, IsTrue, sym, ◌∙◌, subst, ap}
 use Rattle.csn_look.specs.KeyMarks.{is_marked, has_key, Adds}
 use Rattle.csn_look.specs.KeyTables.{IsKeyTable}
-use Rattle.csn_look.proofs.KeyMarkFacts.{tables_joined, adds_joined, written_back}
+use Rattle.csn_look.proofs.Tables.KeyMarkFacts.{tables_joined, adds_joined, written_back}
 use Rattle.csn_look.proofs.key_table.KeyTable.add_all.Goals as goal
 
 either : (new old other one two : List ℕ) → old ≡ one → other ≡ two → ((at : ℕ) → is_marked new at ≡ (is_marked old at || is_marked other at)) → (at : ℕ) → is_marked new at ≡ (is_marked one at || is_marked two at)

@@ -2,7 +2,7 @@ use Rattle.std.proofs.Common.{◌≡◌, ℕ, List, length, sym, ◌∙◌, subs
 use Rattle.csn_look.specs.KeyMarks.{Adds}
 use Rattle.csn_look.specs.KeyTables.{IsKeyTable}
 use Rattle.csn_look.specs.KeySteps.{Extends}
-use Rattle.csn_look.proofs.KeyMarkFacts.{written_back}
+use Rattle.csn_look.proofs.Tables.KeyMarkFacts.{written_back}
 use Rattle.csn_look.proofs.key_table.KeyTable.add_words.Goals as goal
 
 pub invariant_of-self : goal.invariant_of-self

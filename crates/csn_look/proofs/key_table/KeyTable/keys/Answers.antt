@@ -3,7 +3,7 @@ use Rattle.csn_look.specs.declared.word.Key.{Key}
 use Rattle.csn_look.specs.KeyMarks.{IsWord}
 use Rattle.csn_look.specs.KeyTables.{IsKeyTable}
 use Rattle.csn_look.specs.KeyLists.{IsKeyList, keys_from}
-use Rattle.csn_look.proofs.KeyLists.{key_list, few_keys}
+use Rattle.csn_look.proofs.Tables.KeyLists.{key_list, few_keys}
 use Rattle.csn_look.proofs.key_table.KeyTable.keys.Goals as goal
 
 no_bits : IsWord []

@@ -1,8 +1,8 @@
 use Rattle.std.proofs.Common.{◌≡◌, ℕ, List, false, length, ap, ◌∙◌}
 use Rattle.std.proofs.Math.ListN.{replicate}
 use Rattle.csn_look.specs.KeyMarks.{is_marked, key_mark, place_of}
-use Rattle.csn_look.proofs.MarkFacts.{unmarked}
-use Rattle.csn_look.proofs.KeyMarkFacts.{no_keys}
+use Rattle.csn_look.proofs.Tables.MarkFacts.{unmarked}
+use Rattle.csn_look.proofs.Tables.KeyMarkFacts.{no_keys}
 use Rattle.csn_look.proofs.key_table.KeyTable.new.Goals as goal
 
 none : (marks : List ℕ) → marks ≡ replicate {A = ℕ} 384 0 → (at : ℕ) → is_marked marks at ≡ false

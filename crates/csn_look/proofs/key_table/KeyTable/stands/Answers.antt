@@ -1,7 +1,7 @@
 use Rattle.std.proofs.Common.{◌≡◌, ℕ, ◌+◌, ◌||◌, Bool, List, IsTrue, ◌↔◌, sym, ap, ◌∙◌, subst}
 use Rattle.csn_look.specs.KeyMarks.{IsWord, is_marked, place_of, IsKeyOf, StartsKey}
 use Rattle.csn_look.specs.KeyTables.{IsKeyTable}
-use Rattle.csn_look.proofs.KeyMarkFacts.{key_told, starts_told}
+use Rattle.csn_look.proofs.Tables.KeyMarkFacts.{key_told, starts_told}
 use Rattle.csn_look.proofs.key_table.KeyTable.stands.Goals as goal
 
 is_key : (marks own word : List ℕ) (at : ℕ) (told : Bool) → marks ≡ own → at ≡ place_of word → told ≡ (is_marked marks at || is_marked marks (8192 + at)) → IsTrue told ↔ IsKeyOf own word

@@ -3,7 +3,7 @@ use Rattle.std.proofs.lemmas.Result.{IfOk-weaker}
 use Rattle.csn_look.specs.KeyMarks.{Adds}
 use Rattle.csn_look.specs.KeyProducts.{AfterKeys}
 use Rattle.csn_look.specs.KeyRows.{HasTable}
-use Rattle.csn_look.proofs.RowFacts.{keys_first, kept_table}
+use Rattle.csn_look.proofs.Tables.RowFacts.{keys_first, kept_table}
 use Rattle.csn_look.proofs.key_tables.KeyTables.keep_after.Goals as goal
 
 pub returns-clause-kept : goal.returns-clause-kept

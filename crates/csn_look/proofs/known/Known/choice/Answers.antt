@@ -1,6 +1,6 @@
 use Rattle.std.proofs.Common.{arith}
-use Rattle.csn_look.proofs.LeavesTell.{no_choice}
-use Rattle.csn_look.proofs.PartsTell.{more_choice, choice_sets}
+use Rattle.csn_look.proofs.Sets.LeavesTell.{no_choice}
+use Rattle.csn_look.proofs.Sets.PartsTell.{more_choice, choice_sets}
 use Rattle.csn_look.proofs.known.Known.choice.Goals as goal
 
 pub loop-at-init : goal.loop-at-init

@@ -1,4 +1,4 @@
-use Rattle.csn_look.proofs.Telling.{ChoiceSetsAre}
+use Rattle.csn_look.proofs.Sets.Telling.{ChoiceSetsAre}
 use Rattle.csn_look.proofs.known.Known.choice.Given as goal
 
 abbrev pub invariant-loop-at : goal.invariant-loop-at

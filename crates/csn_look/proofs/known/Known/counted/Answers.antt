@@ -1,6 +1,6 @@
 use Rattle.std.proofs.Common.{◌*◌, ◌%◌, sym, ap, ◌∙◌}
 use Rattle.std.specs.FinSet as set
-use Rattle.csn_look.proofs.UnitsTell.{fixed_units, valued_units, no_units}
+use Rattle.csn_look.proofs.Sets.UnitsTell.{fixed_units, valued_units, no_units}
 use Rattle.csn_look.proofs.known.Known.counted.Goals as goal
 
 pub returns-in-Fixed : goal.returns-in-Fixed

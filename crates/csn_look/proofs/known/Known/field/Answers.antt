@@ -1,4 +1,4 @@
-use Rattle.csn_look.proofs.UnitsTell.{field_sets}
+use Rattle.csn_look.proofs.Sets.UnitsTell.{field_sets}
 use Rattle.csn_look.proofs.known.Known.field.Goals as goal
 
 pub returns : goal.returns

@@ -1,5 +1,5 @@
 use Rattle.std.proofs.Common.{refl}
-use Rattle.csn_look.proofs.RepetitionsTell.{many_sets}
+use Rattle.csn_look.proofs.Sets.RepetitionsTell.{many_sets}
 use Rattle.csn_look.proofs.known.Known.many.Goals as goal
 
 pub returns : goal.returns

@@ -1,6 +1,6 @@
 use Rattle.std.proofs.Common.{refl}
-use Rattle.csn_look.proofs.LeavesTell.{null_sets}
-use Rattle.csn_look.proofs.LabelsTell.{named_sets, parts_of_kind, part_of_kind, of_kind}
+use Rattle.csn_look.proofs.Sets.LeavesTell.{null_sets}
+use Rattle.csn_look.proofs.Sets.LabelsTell.{named_sets, parts_of_kind, part_of_kind, of_kind}
 use Rattle.csn_look.proofs.known.Known.node.Goals as goal
 
 pub sequence-requires : goal.sequence-requires

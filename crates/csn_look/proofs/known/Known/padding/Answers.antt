@@ -3,7 +3,7 @@ use Rattle.csn_desc.specs.declared.reading.Reading.{Reading}
 use Rattle.csn_desc.specs.declared.symbol.Symbol.TheVariants.{Low}
 use Rattle.csn_desc.specs.Spelled.{IsSpare}
 use Rattle.csn_look.specs.Told.{OctetsAre}
-use Rattle.csn_look.proofs.LeavesTell.{pad_sets}
+use Rattle.csn_look.proofs.Sets.LeavesTell.{pad_sets}
 use Rattle.csn_look.proofs.known.Known.padding.Goals as goal
 
 pub returns : goal.returns

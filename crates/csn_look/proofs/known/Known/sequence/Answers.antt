@@ -1,7 +1,7 @@
 use Rattle.std.proofs.Common.{drop, List, ℕ, sym, subst}
-use Rattle.csn_look.proofs.Telling.{PartsSetsAre, last_none, last_all, last_more}
-use Rattle.csn_look.proofs.LeavesTell.{no_parts}
-use Rattle.csn_look.proofs.PartsTell.{more_parts, seq_sets}
+use Rattle.csn_look.proofs.Sets.Telling.{PartsSetsAre, last_none, last_all, last_more}
+use Rattle.csn_look.proofs.Sets.LeavesTell.{no_parts}
+use Rattle.csn_look.proofs.Sets.PartsTell.{more_parts, seq_sets}
 use Rattle.csn_look.proofs.known.Known.sequence.Goals as goal
 
 pub loop-at-init : goal.loop-at-init

@@ -1,5 +1,5 @@
 use Rattle.std.proofs.Common.{drop}
-use Rattle.csn_look.proofs.Telling.{PartsSetsAre}
+use Rattle.csn_look.proofs.Sets.Telling.{PartsSetsAre}
 use Rattle.csn_look.proofs.known.Known.sequence.Given as goal
 
 abbrev pub invariant-loop-at : goal.invariant-loop-at

@@ -3,7 +3,7 @@ use Rattle.std.specs.FinSet as set
 use Rattle.csn_desc.specs.declared.reading.Reading.{Reading}
 use Rattle.csn_desc.specs.Spelled.{IsSpare}
 use Rattle.csn_look.specs.Told.{OctetsAre}
-use Rattle.csn_look.proofs.LeavesTell.{spare_sets}
+use Rattle.csn_look.proofs.Sets.LeavesTell.{spare_sets}
 use Rattle.csn_look.proofs.known.Known.spare.Goals as goal
 
 pub returns : goal.returns

@@ -1,6 +1,6 @@
 use Rattle.std.proofs.Common.{refl}
-use Rattle.csn_look.proofs.Telling.{same_fact, either, together, zero_test, some_test}
-use Rattle.csn_look.proofs.RepetitionsTell.{fixed_times, counted_times}
+use Rattle.csn_look.proofs.Sets.Telling.{same_fact, either, together, zero_test, some_test}
+use Rattle.csn_look.proofs.Sets.RepetitionsTell.{fixed_times, counted_times}
 use Rattle.csn_look.proofs.known.Known.times.Goals as goal
 
 pub returns-in-Fixed : goal.returns-in-Fixed

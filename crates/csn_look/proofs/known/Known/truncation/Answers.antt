@@ -1,8 +1,8 @@
 use Rattle.std.proofs.Common.{drop, List, ℕ, true, false, refl, sym, subst}
 use Rattle.csn_look.specs.declared.node_sets.NodeSets.{NodeSets}
-use Rattle.csn_look.proofs.Telling.{LeadSetsAre, last_none, last_all, last_more}
-use Rattle.csn_look.proofs.LeavesTell.{no_lead}
-use Rattle.csn_look.proofs.PartsTell.{more_lead, trunc_sets}
+use Rattle.csn_look.proofs.Sets.Telling.{LeadSetsAre, last_none, last_all, last_more}
+use Rattle.csn_look.proofs.Sets.LeavesTell.{no_lead}
+use Rattle.csn_look.proofs.Sets.PartsTell.{more_lead, trunc_sets}
 use Rattle.csn_look.proofs.known.Known.truncation.Goals as goal
 
 pub loop-at-init : goal.loop-at-init

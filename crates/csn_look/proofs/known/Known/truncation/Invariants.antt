@@ -1,5 +1,5 @@
 use Rattle.std.proofs.Common.{drop}
-use Rattle.csn_look.proofs.Telling.{LeadSetsAre}
+use Rattle.csn_look.proofs.Sets.Telling.{LeadSetsAre}
 use Rattle.csn_look.proofs.known.Known.truncation.Given as goal
 
 abbrev pub invariant-loop-at : goal.invariant-loop-at

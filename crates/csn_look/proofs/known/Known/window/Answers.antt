@@ -1,6 +1,6 @@
 use Rattle.std.proofs.Common.{refl}
-use Rattle.csn_look.proofs.Telling.{same_fact, together}
-use Rattle.csn_look.proofs.UnitsTell.{window_sets}
+use Rattle.csn_look.proofs.Sets.Telling.{same_fact, together}
+use Rattle.csn_look.proofs.Sets.UnitsTell.{window_sets}
 use Rattle.csn_look.proofs.known.Known.window.Goals as goal
 
 pub returns : goal.returns

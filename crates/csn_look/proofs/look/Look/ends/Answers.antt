@@ -1,4 +1,4 @@
-use Rattle.csn_look.proofs.LookFacts.{known_sets, ends_are}
+use Rattle.csn_look.proofs.Sets.LookFacts.{known_sets, ends_are}
 use Rattle.csn_look.proofs.look.Look.ends.Goals as goal
 
 pub returns : goal.returns

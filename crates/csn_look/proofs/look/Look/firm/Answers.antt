@@ -1,4 +1,4 @@
-use Rattle.csn_look.proofs.LookFacts.{known_sets, firm_is}
+use Rattle.csn_look.proofs.Sets.LookFacts.{known_sets, firm_is}
 use Rattle.csn_look.proofs.look.Look.firm.Goals as goal
 
 pub returns : goal.returns

@@ -6,7 +6,7 @@ use Rattle.csn_look.specs.SignsV.{SignsV}
 use Rattle.csn_look.specs.Signs.{with_sign}
 use Rattle.csn_look.specs.Starts.{InFirst}
 use Rattle.csn_look.specs.Told.{SignsAre, FollowHas}
-use Rattle.csn_look.proofs.LookFacts.{known_sets, put_first, first_is}
+use Rattle.csn_look.proofs.Sets.LookFacts.{known_sets, put_first, first_is}
 use Rattle.csn_look.proofs.look.Look.first.Goals as goal
 
 pub returns : goal.returns

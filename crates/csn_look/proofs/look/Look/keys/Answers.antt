@@ -4,7 +4,7 @@ use Rattle.csn_look.specs.declared.word.Key.{Key}
 use Rattle.csn_look.specs.Keys.{InKeys}
 use Rattle.csn_look.specs.KeyLists.{IsKeyList}
 use Rattle.csn_look.specs.LookKeys.{ListsKeys}
-use Rattle.csn_look.proofs.LookKeyFacts.{lists_keys}
+use Rattle.csn_look.proofs.Sets.LookKeyFacts.{lists_keys}
 use Rattle.csn_look.proofs.look.Look.keys.Goals as goal
 
 pub returns-clause-keys : goal.returns-clause-keys

@@ -1,7 +1,7 @@
 use Rattle.std.proofs.Common.{ℕ, List, length, sym, subst}
 use Rattle.csn_look.specs.LookV.{AreRows}
 use Rattle.csn_look.specs.LookKeys.{IsKeysOf}
-use Rattle.csn_look.proofs.RowsMade.{keys_of, rows_are}
+use Rattle.csn_look.proofs.Tables.RowsMade.{keys_of, rows_are}
 use Rattle.csn_look.proofs.look.Look.new.Goals as goal
 
 pub invariant_of-result : goal.invariant_of-result

@@ -2,8 +2,8 @@ use Rattle.std.proofs.Common.{IsTrue, ◌↔◌, sym, subst}
 use Rattle.csn_look.specs.declared.symbol_set.Sign.{Sign}
 use Rattle.csn_look.specs.Starts.{StartsSign}
 use Rattle.csn_look.specs.Signs.{bit_of_sign}
-use Rattle.csn_look.proofs.Telling.{is_so}
-use Rattle.csn_look.proofs.LookFacts.{known_sets}
+use Rattle.csn_look.proofs.Sets.Telling.{is_so}
+use Rattle.csn_look.proofs.Sets.LookFacts.{known_sets}
 use Rattle.csn_look.proofs.look.Look.starts.Goals as goal
 
 pub returns-in-Zero : goal.returns-in-Zero

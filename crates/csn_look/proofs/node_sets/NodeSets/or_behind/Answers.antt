@@ -1,5 +1,5 @@
 use Rattle.csn_look.specs.Sums.{Leads}
-use Rattle.csn_look.proofs.Telling.{behind_too}
+use Rattle.csn_look.proofs.Sets.Telling.{behind_too}
 use Rattle.csn_look.proofs.node_sets.NodeSets.or_behind.Goals as goal
 
 pub returns-then-self : goal.returns-then-self

@@ -1,6 +1,6 @@
 use Rattle.std.proofs.Common.{◌+◌, ◌%◌}
 use Rattle.csn_look.specs.Sums.{Has}
-use Rattle.csn_look.proofs.Octets.{Swept}
+use Rattle.csn_look.proofs.Basics.Octets.{Swept}
 use Rattle.csn_look.proofs.octet_set.OctetSet.before.Given as goal
 
 abbrev pub invariant-loop-by : goal.invariant-loop-by

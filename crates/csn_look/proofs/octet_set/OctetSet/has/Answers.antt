@@ -1,6 +1,6 @@
 use Rattle.std.proofs.Common.{ap, ◌∙◌}
 use Rattle.std.specs.FinSet as set
-use Rattle.csn_look.proofs.OctetMarks.{has_marked}
+use Rattle.csn_look.proofs.Basics.OctetMarks.{has_marked}
 use Rattle.csn_look.proofs.octet_set.OctetSet.has.Goals as goal
 
 pub returns : goal.returns

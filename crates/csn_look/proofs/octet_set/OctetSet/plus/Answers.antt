@@ -1,6 +1,6 @@
 use Rattle.std.proofs.Common.{ℕ, ◌+◌, ◌-◌, ◌%◌, sym, ◌∙◌, arith}
 use Rattle.csn_look.specs.Sums.{Has}
-use Rattle.csn_look.proofs.Octets.{swept_none, swept_more, swept_same, plus_is}
+use Rattle.csn_look.proofs.Basics.Octets.{swept_none, swept_more, swept_same, plus_is}
 use Rattle.csn_look.proofs.octet_set.OctetSet.plus.Goals as goal
 use Rattle.csn_look.proofs.octet_set.OctetSet.plus.Goals.{then-has, else-has}
 

@@ -1,7 +1,7 @@
 use Rattle.std.proofs.Common.{refl, sym, ap, ◌∙◌}
 use Rattle.std.specs.FinSet as set
 use Rattle.csn_look.specs.Marks.{marked}
-use Rattle.csn_look.proofs.Octets.{closing_none, closing_more, closing_end, closing_falls}
+use Rattle.csn_look.proofs.Basics.Octets.{closing_none, closing_more, closing_end, closing_falls}
 use Rattle.csn_look.proofs.octet_set.OctetSet.repeated.Goals as goal
 
 pub loop-sums-init : goal.loop-sums-init

@@ -1,6 +1,6 @@
 use Rattle.std.proofs.Common.{◌-◌}
 use Rattle.csn_look.specs.Marks.{marks_of}
-use Rattle.csn_look.proofs.Octets.{Closing}
+use Rattle.csn_look.proofs.Basics.Octets.{Closing}
 use Rattle.csn_look.proofs.octet_set.OctetSet.repeated.Given as goal
 
 abbrev pub invariant-loop-sums : goal.invariant-loop-sums

@@ -1,7 +1,7 @@
 use Rattle.std.proofs.Common.{◌/◌, sym, subst, ap, ◌∙◌, arith}
 use Rattle.std.specs.Ordering.{nat_cmp}
 use Rattle.std.specs.FinSet as set
-use Rattle.csn_look.proofs.Octets.{Folds, only_zero, numbers_are, fold_even, fold_odd, fold_end}
+use Rattle.csn_look.proofs.Basics.Octets.{Folds, only_zero, numbers_are, fold_even, fold_odd, fold_end}
 use Rattle.csn_look.proofs.octet_set.OctetSet.times.Goals as goal
 use Rattle.csn_look.proofs.octet_set.OctetSet.times.Goals.{then-left-eq1, else-left-eq1}
 

@@ -1,4 +1,4 @@
-use Rattle.csn_look.proofs.Octets.{Folds}
+use Rattle.csn_look.proofs.Basics.Octets.{Folds}
 use Rattle.csn_look.proofs.octet_set.OctetSet.times.Given as goal
 
 abbrev pub invariant-loop-left : goal.invariant-loop-left

@@ -1,6 +1,6 @@
 use Rattle.std.proofs.Common.{ℕ, ◌+◌, ◌-◌, ◌%◌, sym, ◌∙◌}
 use Rattle.csn_look.specs.Sums.{Has}
-use Rattle.csn_look.proofs.Octets.{below_none, below_with, below_without}
+use Rattle.csn_look.proofs.Basics.Octets.{below_none, below_with, below_without}
 use Rattle.csn_look.proofs.octet_set.OctetSet.turned.Goals as goal
 use Rattle.csn_look.proofs.octet_set.OctetSet.turned.Goals.{then-has, else-has}
 

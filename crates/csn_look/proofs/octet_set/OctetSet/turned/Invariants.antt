@@ -1,6 +1,6 @@
 use Rattle.std.proofs.Common.{◌+◌, ◌-◌, ◌%◌}
 use Rattle.csn_look.specs.Sums.{Has}
-use Rattle.csn_look.proofs.Octets.{Below}
+use Rattle.csn_look.proofs.Basics.Octets.{Below}
 use Rattle.csn_look.proofs.octet_set.OctetSet.turned.Given as goal
 
 abbrev pub invariant-loop-octet : goal.invariant-loop-octet

@@ -1,7 +1,7 @@
 use Rattle.std.proofs.Common.{ap, ◌∙◌}
 use Rattle.std.specs.FinSet as set
 use Rattle.csn_look.specs.Marks.{marked}
-use Rattle.csn_look.proofs.Octets.{marked_union}
+use Rattle.csn_look.proofs.Basics.Octets.{marked_union}
 use Rattle.csn_look.proofs.octet_set.OctetSet.union.Goals as goal
 
 pub returns : goal.returns

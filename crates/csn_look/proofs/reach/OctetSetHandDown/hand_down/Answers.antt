@@ -1,4 +1,4 @@
-use Rattle.csn_look.proofs.ReachedParts.{parts_right}
+use Rattle.csn_look.proofs.Handing.ReachedParts.{parts_right}
 use Rattle.csn_look.proofs.reach.OctetSetHandDown.hand_down.Goals as goal
 
 pub returns-clause-parts : goal.returns-clause-parts

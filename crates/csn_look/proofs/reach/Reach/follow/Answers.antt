@@ -2,8 +2,8 @@ use Rattle.std.proofs.Common.{length, ap, refl}
 use Rattle.std.proofs.lemmas.Option.{slice_get_read}
 use Rattle.csn_look.specs.Reached.{InFollow}
 use Rattle.csn_look.specs.ReachV.{ReachV}
-use Rattle.csn_look.proofs.Puts.{read_through}
-use Rattle.csn_look.proofs.FollowedParts.{follow_says, known_follow}
+use Rattle.csn_look.proofs.Basics.Puts.{read_through}
+use Rattle.csn_look.proofs.Handing.FollowedParts.{follow_says, known_follow}
 use Rattle.csn_look.proofs.reach.Reach.follow.Goals as goal
 
 pub returns : goal.returns

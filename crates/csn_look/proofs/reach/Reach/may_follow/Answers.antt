@@ -8,9 +8,9 @@ use Rattle.csn_look.specs.FollowV.{IsFollowOf, FollowsAre}
 use Rattle.csn_look.specs.Reached.{InFollow}
 use Rattle.csn_look.specs.ReachV.{ReachV}
 use Rattle.csn_look.specs.Signs.{bit_of_sign}
-use Rattle.csn_look.proofs.Puts.{read_through}
-use Rattle.csn_look.proofs.FollowedParts.{known_follow}
-use Rattle.csn_look.proofs.Telling.{is_so}
+use Rattle.csn_look.proofs.Basics.Puts.{read_through}
+use Rattle.csn_look.proofs.Handing.FollowedParts.{known_follow}
+use Rattle.csn_look.proofs.Sets.Telling.{is_so}
 use Rattle.csn_look.proofs.reach.Reach.may_follow.Goals as goal
 
 -- what is kept of the node says what may follow it

@@ -1,7 +1,7 @@
 use Rattle.std.proofs.Common.{◌∙◌, ap}
 use Rattle.std.specs.FinSet as set
-use Rattle.csn_look.proofs.ReachedParts.{root_right}
-use Rattle.csn_look.proofs.FollowedParts.{root_follow}
+use Rattle.csn_look.proofs.Handing.ReachedParts.{root_right}
+use Rattle.csn_look.proofs.Handing.FollowedParts.{root_follow}
 use Rattle.csn_look.proofs.reach.Reach.new.Goals as goal
 
 pub handed_down-requires-clause-root : goal.handed_down-requires-clause-root

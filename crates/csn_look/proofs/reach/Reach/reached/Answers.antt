@@ -2,8 +2,8 @@ use Rattle.std.proofs.Common.{length, ap, refl, arith}
 use Rattle.std.proofs.lemmas.Option.{slice_get_read}
 use Rattle.csn_look.specs.Reached.{Reached}
 use Rattle.csn_look.specs.ReachV.{ReachV}
-use Rattle.csn_look.proofs.Puts.{read_through}
-use Rattle.csn_look.proofs.ReachedParts.{has_at}
+use Rattle.csn_look.proofs.Basics.Puts.{read_through}
+use Rattle.csn_look.proofs.Handing.ReachedParts.{has_at}
 use Rattle.csn_look.proofs.reach.Reach.reached.Goals as goal
 
 pub returns : goal.returns

@@ -1,4 +1,4 @@
-use Rattle.csn_look.proofs.ProductsMade.{made_stays}
+use Rattle.csn_look.proofs.Tables.ProductsMade.{made_stays}
 use Rattle.csn_look.proofs.table_maker.TableMaker.keep.Goals as goal
 
 pub invariant_of-self : goal.invariant_of-self

@@ -1,7 +1,7 @@
 use Rattle.std.proofs.Common.{◌<◌, ◌%◌, ℕ, List, length, get_or, sym, subst}
 use Rattle.csn_look.specs.KeyProducts.{AfterKeys}
 use Rattle.csn_look.specs.KeyRows.{table_of, HasTable}
-use Rattle.csn_look.proofs.ProductsMade.{product_of, made_stays}
+use Rattle.csn_look.proofs.Tables.ProductsMade.{product_of, made_stays}
 use Rattle.csn_look.proofs.table_maker.TableMaker.keep_after.Goals as goal
 
 pub invariant_of-self : goal.invariant_of-self

@@ -3,8 +3,8 @@ use Rattle.std.proofs.lemmas.Result.{IfOk-weaker}
 use Rattle.csn_look.specs.KeyMarks.{place_of, key_mark, KeysAre}
 use Rattle.csn_look.specs.KeyRows.{HasTable}
 use Rattle.csn_look.specs.MadeProducts.{LeafKeys}
-use Rattle.csn_look.proofs.ProductsMade.{leaf_is_key, has_leaf, back_and_forth}
-use Rattle.csn_look.proofs.RowFacts.{keys_as, keys_first}
+use Rattle.csn_look.proofs.Tables.ProductsMade.{leaf_is_key, has_leaf, back_and_forth}
+use Rattle.csn_look.proofs.Tables.RowFacts.{keys_as, keys_first}
 use Rattle.csn_look.proofs.table_maker.TableMaker.keep_key.Goals as goal
 
 pub returns-in-Some-clause-kept : goal.returns-in-Some-clause-kept

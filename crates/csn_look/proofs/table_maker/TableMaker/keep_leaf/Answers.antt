@@ -3,7 +3,7 @@ use Rattle.std.specs.Prelude.{slice_index_or}
 use Rattle.csn_look.specs.KeyMarks.{KeysAre}
 use Rattle.csn_look.specs.KeyRows.{HasTable}
 use Rattle.csn_look.specs.MadeProducts.{LeafKeys}
-use Rattle.csn_look.proofs.ProductsMade.{made_stays, leaf_kept, leaves_same}
+use Rattle.csn_look.proofs.Tables.ProductsMade.{made_stays, leaf_kept, leaves_same}
 use Rattle.csn_look.proofs.table_maker.TableMaker.keep_leaf.Goals as goal
 
 -- the table that was kept

@@ -3,8 +3,8 @@ use Rattle.std.proofs.lemmas.Result.{IfOk-weaker}
 use Rattle.csn_look.specs.KeyMarks.{KeysAre}
 use Rattle.csn_look.specs.KeyRows.{HasTable}
 use Rattle.csn_look.specs.MadeProducts.{leaf_of_size, LeafKeys}
-use Rattle.csn_look.proofs.ProductsMade.{leaf_is_size, has_leaf, back_and_forth}
-use Rattle.csn_look.proofs.RowFacts.{keys_as, keys_first}
+use Rattle.csn_look.proofs.Tables.ProductsMade.{leaf_is_size, has_leaf, back_and_forth}
+use Rattle.csn_look.proofs.Tables.RowFacts.{keys_as, keys_first}
 use Rattle.csn_look.proofs.table_maker.TableMaker.keep_words.Goals as goal
 
 pub returns-in-Some-clause-kept : goal.returns-in-Some-clause-kept

@@ -1,7 +1,7 @@
 use Rattle.std.proofs.Common.{◌≡◌, ℕ, [], ◌∷◌, ◌++◌, List, sym, subst}
 use Rattle.csn_look.specs.declared.table_maker.Product.{Product}
 use Rattle.csn_look.specs.MadeProducts.{IsProduct, AreProducts}
-use Rattle.csn_look.proofs.ProductsMade.{product_kept}
+use Rattle.csn_look.proofs.Tables.ProductsMade.{product_kept}
 use Rattle.csn_look.proofs.table_maker.TableMaker.remember.Goals as goal
 
 -- the list with one product more

@@ -1,6 +1,6 @@
 use Rattle.std.proofs.Common.{◌≡◌, ◌-◌, length, get_or, ap, ◌∙◌, arith}
 use Rattle.csn_look.specs.WordV.{word_of}
-use Rattle.csn_look.proofs.Words.{word_bit}
+use Rattle.csn_look.proofs.Basics.Words.{word_bit}
 use Rattle.csn_look.proofs.word.Word.get.Goals as goal
 
 pub returns-clause-value : goal.returns-clause-value

@@ -1,6 +1,6 @@
 use Rattle.std.proofs.Common.{List, ℕ, length, ap, subst, ◌∙◌, arith}
 use Rattle.csn_bits.specs.Octets.{IsBits}
-use Rattle.csn_look.proofs.Words.{word_of-bits, word_of-short, word_size}
+use Rattle.csn_look.proofs.Basics.Words.{word_of-bits, word_of-short, word_size}
 use Rattle.csn_look.proofs.word.Word.len.Goals as goal
 
 pub returns-clause-count : goal.returns-clause-count

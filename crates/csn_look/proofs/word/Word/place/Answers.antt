@@ -1,6 +1,6 @@
 use Rattle.std.proofs.Common.{List, ℕ, sym, ap, subst, ◌∙◌}
 use Rattle.csn_look.specs.KeyMarks.{IsWord, place_of}
-use Rattle.csn_look.proofs.Words.{word_of-place, word_of-is}
+use Rattle.csn_look.proofs.Basics.Words.{word_of-place, word_of-is}
 use Rattle.csn_look.proofs.word.Word.place.Goals as goal
 
 pub returns-clause-value : goal.returns-clause-value

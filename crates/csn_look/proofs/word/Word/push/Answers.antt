@@ -1,6 +1,6 @@
 use Rattle.std.proofs.Common.{◌≡◌, ◌++◌, ◌∷◌, [], length, ap, ◌∙◌, arith}
 use Rattle.csn_look.specs.WordV.{word_of}
-use Rattle.csn_look.proofs.Words.{roomy, word_of-push}
+use Rattle.csn_look.proofs.Basics.Words.{roomy, word_of-push}
 use Rattle.csn_look.proofs.word.Word.push.Goals as goal
 
 pub invariant_of-self : goal.invariant_of-self

@@ -1,4 +1,4 @@
-use Rattle.csn_look.proofs.Words.{place_of-word}
+use Rattle.csn_look.proofs.Basics.Words.{place_of-word}
 use Rattle.csn_look.proofs.word.Word.with_place.Goals as goal
 
 pub returns : goal.returns
