@@ -112,8 +112,10 @@ fn told(alloc: Global, steps: &[Step]) -> Result<Option<Conflict>, Fail> {
 /// How many nodes a description has that is certified.
 fn nodes(alloc: Global, steps: &[Step]) -> Result<u16, Fail> {
     let desc = built(alloc, steps)?;
-    let plan = certify(alloc, desc).map_err(|_| "not certified")?;
-    Ok(plan.len())
+    match certify(alloc, desc) {
+        Ok(plan) => Ok(plan.len()),
+        Err(_fault) => Err(Fail::from("not certified")),
+    }
 }
 
 fn word(bits: &[u8]) -> Word {

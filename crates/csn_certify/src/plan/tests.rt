@@ -67,7 +67,10 @@ fn plan_of(alloc: Global, builder: DescBuilder, built: bool) -> Result<Plan, Fai
         return Err("not built".into());
     }
     let desc = builder.finish().map_err(|_| "no description")?;
-    Ok(certify(alloc, desc).map_err(|_| "not certified")?)
+    match certify(alloc, desc) {
+        Ok(plan) => Ok(plan),
+        Err(_fault) => Err(Fail::from("not certified")),
+    }
 }
 
 // { 0 <A : bit (2)> | 10 <A : bit> | 11 }
