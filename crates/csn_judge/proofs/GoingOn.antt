@@ -1,0 +1,103 @@
+-- Turns up to one that waits or refuses.
+use Rattle.std.proofs.Common.{◌≡◌, ℕ, ◌+◌, ◌-◌, ◌*◌, ◌<◌, ◌≤◌, Bool, true, false, if◌then◌else◌, List, [], ◌∷◌, ◌++◌, length, refl, sym, ◌∙◌, ap, subst, arith, append-nil, length-append}
+use Rattle.csn_desc.specs.declared.moves.Move.{Move}
+use Rattle.csn_desc.specs.declared.node.Node.{Node}
+use Rattle.csn_desc.specs.Nodes.{DescV}
+use Rattle.csn_judge.specs.declared.frame.Frame.{Frame}
+use Rattle.csn_judge.specs.declared.pace.Pace.{Pace}
+use Rattle.csn_judge.specs.declared.turn.Turn.{Turn}
+use Rattle.csn_judge.specs.declared.turn.Turn.TheVariants.{Moved, Waits, Refused}
+use Rattle.csn_judge.specs.declared.verdict.Verdict.TheVariants.{Going as still_going, Refused as no_more}
+use Rattle.csn_judge.specs.Told.{tells_none}
+use Rattle.csn_judge.specs.Credit.{weight_of, weights_of, credit_of, Pays, PaysAll}
+use Rattle.csn_judge.specs.Left.{Left}
+use Rattle.csn_judge.specs.Turns.{StateV, Stands, StandsSomewhere, GoesOn, Turns}
+use Rattle.csn_judge.proofs.Closing.{passes_of}
+use Rattle.csn_judge.proofs.StepFacts.{steps_none}
+use Rattle.csn_judge.proofs.TurningOn.{on_then, turns_then}
+use Rattle.csn_judge.proofs.Paying.{weighs}
+
+no_bits : (taken bits : List ℕ) → [] ≡ taken ++ bits → bits ≡ []
+no_bits taken [] is = refl
+no_bits taken (bit ∷ bits) is = absurd (omega (arith, ap (λ (l : List ℕ). length l) is, length-append taken (bit ∷ bits)))
+
+-- a turn that waits is paid for but for one step, and where nothing is open it takes none
+last_step : (nodes : ℕ) (frames : List Frame) (pace : Pace) (bits steps steps_after : ℕ)
+    → steps_after ≤ steps + 2 → (frames ≡ [] → steps_after ≡ steps) → steps_after ≤ 1 + (steps + credit_of nodes frames pace bits)
+last_step nodes [] pace bits steps steps_after few idle = omega (arith, idle refl)
+last_step nodes (frame ∷ frames) pace bits steps steps_after few idle =
+    omega (arith, few, weighs frame, heavier (weight_of frame) (weights_of frames) (4 * (nodes - pace.next)) (if pace.again then 0 else 4 * nodes) (6 * nodes * bits))
+  where
+    heavier : (top frames next again bits : ℕ) → top ≤ top + frames + next + again + bits
+    heavier top frames next again bits = omega arith
+
+module _ (d : DescV) {S : Type 0} (takes : S → Move → Node → S → Type 0) where
+  -- the turns so far, from the first state on: what they have come to, and that they are paid for
+  pub record Going (first now : StateV) (s t : S) (steps steps_now : ℕ) : Type 0 where
+    pub on : (stack : List Left) (done : List ℕ) → Stands d first stack done → GoesOn d takes first now s t stack done
+    pub paid :
+        steps_now + credit_of (length d.nodes) now.frames now.pace (length now.coming.bits)
+        ≤ steps + credit_of (length d.nodes) first.frames first.pace (length first.coming.bits)
+
+  -- none
+  pub going_none : (first : StateV) (s : S) (steps : ℕ) → Going first first s s steps steps
+  going_none first s steps =
+      record {
+        on = λ stack done stands.
+            let same : done ++ [] ≡ done = append-nil done in
+            record {
+              now = stack;
+              taken = [];
+              made = [];
+              stands = subst (λ (l : List ℕ). Stands d first stack l) (sym same) stands;
+              bits = refl;
+              ended = refl;
+              steps = passes_of first.coming.ended (steps_none d stack done first.coming.bits);
+              tells = tells_none refl refl;
+            };
+        paid = omega arith;
+      }
+
+  -- the state that they have come to stands somewhere
+  pub going_stands : {first now : StateV} {s t : S} {steps steps_now : ℕ} {here : DescV} → here ≡ d → Going first now s t steps steps_now → StandsSomewhere d first → StandsSomewhere here now
+  going_stands {now = now} same going some =
+      let on = going.on some.stack some.done some.stands in
+      subst (λ (e : DescV). StandsSomewhere e now) (sym same)
+      (record { known = some.known; stack = on.now; done = some.done ++ on.taken; stands = on.stands })
+
+  -- one more
+  pub going_more : {first now : StateV} {s t : S} {steps steps_now : ℕ} {here : DescV} (next : StateV) (u : S) (steps_next : ℕ) → here ≡ d → Going first now s t steps steps_now
+      → Turns here takes now next t u Moved
+      → Pays (credit_of (length here.nodes) now.frames now.pace (length now.coming.bits)) (credit_of (length here.nodes) next.frames next.pace (length next.coming.bits)) steps_now steps_next Moved
+      → Going first next s u steps steps_next
+  going_more {now = now} {t = t} {steps_now = steps_now} next u steps_next same going turns pays =
+      let turned = subst (λ (e : DescV). Turns e takes now next t u Moved) same turns in
+      let less = subst (λ (e : DescV). Pays (credit_of (length e.nodes) now.frames now.pace (length now.coming.bits)) (credit_of (length e.nodes) next.frames next.pace (length next.coming.bits)) steps_now steps_next Moved) same pays in
+      record {
+        on = λ stack done stands. let on = going.on stack done stands in on_then d takes on (turned on.now (done ++ on.taken) on.stands);
+        paid = omega (arith, going.paid, less.0);
+      }
+
+  -- the last
+  pub going_turns : {first now : StateV} {s t : S} {steps steps_now : ℕ} {here : DescV} (next : StateV) (u : S) (turn : Turn) → here ≡ d → Going first now s t steps steps_now
+      → (first.coming.ended ≡ true → first.coming.bits ≡ []) → StandsSomewhere d first
+      → Turns here takes now next t u turn → Turns d takes first next s u turn
+  going_turns {first} {now} {t = t} next u turn same going quiet some turns =
+      let on = going.on some.stack some.done some.stands in
+      turns_then d takes next u turn (λ ended. no_bits on.taken now.coming.bits (sym (quiet ended) ∙ on.bits)) going.on
+      (subst (λ (e : DescV). Turns e takes now next t u turn) same turns)
+
+  pub waits_pays : {first now : StateV} {s t : S} {steps steps_now : ℕ} {here : DescV} (next : StateV) (steps_next : ℕ) → here ≡ d → Going first now s t steps steps_now
+      → Pays (credit_of (length here.nodes) now.frames now.pace (length now.coming.bits)) (credit_of (length here.nodes) next.frames next.pace (length next.coming.bits)) steps_now steps_next Waits
+      → (now.frames ≡ [] → steps_next ≡ steps_now)
+      → PaysAll (credit_of (length d.nodes) first.frames first.pace (length first.coming.bits)) (credit_of (length d.nodes) next.frames next.pace (length next.coming.bits)) steps steps_next still_going
+  waits_pays {now = now} {steps_now = steps_now} next steps_next same going pays idle =
+      let less = subst (λ (e : DescV). Pays (credit_of (length e.nodes) now.frames now.pace (length now.coming.bits)) (credit_of (length e.nodes) next.frames next.pace (length next.coming.bits)) steps_now steps_next Waits) same pays in
+      (omega (arith, going.paid, less.0, less.1), omega (arith, going.paid, last_step (length d.nodes) now.frames now.pace (length now.coming.bits) steps_now steps_next less.0 idle))
+
+  pub refused_pays : {first now : StateV} {s t : S} {steps steps_now : ℕ} {here : DescV} (next : StateV) (steps_next place : ℕ) → here ≡ d → Going first now s t steps steps_now
+      → Pays (credit_of (length here.nodes) now.frames now.pace (length now.coming.bits)) (credit_of (length here.nodes) next.frames next.pace (length next.coming.bits)) steps_now steps_next (Refused place)
+      → PaysAll (credit_of (length d.nodes) first.frames first.pace (length first.coming.bits)) (credit_of (length d.nodes) next.frames next.pace (length next.coming.bits)) steps steps_next (no_more place)
+  refused_pays {now = now} {steps_now = steps_now} next steps_next place same going pays =
+      let less = subst (λ (e : DescV). steps_next ≤ steps_now + credit_of (length e.nodes) now.frames now.pace (length now.coming.bits)) same pays in
+      omega (arith, going.paid, less)

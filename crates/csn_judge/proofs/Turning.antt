@@ -1,0 +1,493 @@
+-- Turns of the frames of nodes with parts.
+use Rattle.std.proofs.Common.{inl, inr, ◌≡◌, ℕ, suc, ◌+◌, ◌<◌, ◌≤◌, ◌||◌, nat_lt, Bool, true, false, if◌then◌else◌, List, drop, [], ◌∷◌, ◌++◌, length, reverse, refl, sym, ◌∙◌, ap, subst, arith, append-nil, Option, Some, None, slice_get}
+use Rattle.std.proofs.lemmas.List.{reverse-append}
+use Rattle.std.proofs.lemmas.Option.{slice_get_within}
+use Rattle.std.proofs.lemmas.Bool.{ltb-true}
+use Rattle.csn_desc.specs.declared.moves.Move.{Move}
+use Rattle.csn_desc.specs.declared.moves.Move.TheVariants.{Leave}
+use Rattle.csn_desc.specs.declared.node.Node.{Node}
+use Rattle.csn_desc.specs.Nodes.{DescV}
+use Rattle.csn_desc.specs.Values.{Values, count_of}
+use Rattle.csn_desc.specs.Formed.{Formed, formed, IsDescription}
+use Rattle.csn_judge.specs.declared.frame.Frame.{Frame}
+use Rattle.csn_judge.specs.declared.frame.Frame.TheVariants as frame
+use Rattle.csn_judge.specs.declared.values.Value.{Value}
+use Rattle.csn_judge.specs.declared.pace.Pace.{Pace}
+use Rattle.csn_judge.specs.declared.turn.Turn.{Turn}
+use Rattle.csn_judge.specs.declared.turn.Turn.TheVariants.{Moved, Waits, Refused}
+use Rattle.csn_judge.specs.Known.{Known}
+use Rattle.csn_judge.specs.Coming.{Coming}
+use Rattle.csn_judge.specs.Told.{Tells, tells_none, tells_leave}
+use Rattle.csn_desc.specs.Values.{is_named, is_labelled}
+use Rattle.csn_desc.specs.Formed.{is_counted}
+use Rattle.csn_judge.specs.Left.{Left, bits_left, symbols_left, spare_left, pad_left, rest_left, choice_left, free_left, cut_left, parts_left, lead_left, window_left, completes_window, all_left, none_left, turns_left, behind}
+use Rattle.csn_judge.specs.Remains.{Passes, Within, Goes, Rest, rest_next}
+use Rattle.csn_judge.specs.Inside.{IsStack, stack_node, IsReady, AreOwed, IsFresh, fresh_as, fresh_turn, of_all, of_turns, of_read, of_window}
+use Rattle.csn_judge.specs.Shown.{kept_of, seen_in, seen_behind, limit_in, Round, Repeats, Cuts, round_none, round_choice, round_named, round_window, round_seq, round_trunc, round_times, round_many, Shows, shows_none, shows_begin, shows_turns, shows_free, shows_taken, shows_labelled, shows_window, shows_parts, shows_lead}
+use Rattle.csn_judge.specs.Turns.{IsStopped, Turns, IsPassed, passed_choice, passed_label, fresh_at, begun_by, StateV, state_of, state_with, Stands, GoesOn, around_of}
+use Rattle.csn_judge.proofs.StepFacts.{steps_none, goes_along, rest_from, goes_from, split, popped, replaced, none_taken, alike}
+use Rattle.csn_judge.proofs.Refusing.{window_stuck}
+use Rattle.csn_judge.proofs.Parts.{Moving}
+use Rattle.csn_judge.proofs.Choosing.{nothing_goes}
+use Rattle.csn_judge.proofs.Closing.{passes_of, window_alike}
+use Rattle.csn_judge.proofs.Stacks.{window_read, up_part, of_begun, turn_begun, IsNow, not_fresh, now_fresh, popped_stack, turns_read}
+use Rattle.csn_judge.proofs.Wholes.{next_turn, no_turns}
+
+-- one frame more
+pub pushed : {A : Type 0} (items : List A) (top : A) → reverse (items ++ top ∷ []) ≡ top ∷ reverse items
+pushed items top = reverse-append items (top ∷ [])
+
+module _ (d : DescV) where
+  pub moving : Known d → Moving
+  moving known = record { some = known.have_moves; one = known.one_list }
+
+  -- fewer than 64 nodes are open round another
+  pub room : {next : ℕ} {fresh : Option ℕ} {left : Left} {outer : List Left} {done : List ℕ} → IsStack d next fresh (left ∷ outer) done → length outer < 64
+  room (stack_node i from v bits ready left inside) = few ready.formed
+    where
+      few : {seen : List ℕ} {round i : ℕ} → Formed d.nodes seen round i → round < 64
+      few (formed n at small head parts counted later) = small
+
+  -- a node that is not entered yet is one of the description
+  pub begun_within : {next : ℕ} {fresh : Option ℕ} {i : ℕ} {v : Values} {outer : List Left} {done : List ℕ} → IsStack d next fresh (all_left i v ∷ outer) done → i < length d.nodes
+  begun_within (stack_node k from w bits ready (of_all same place just) inside) = formed_within ready.formed
+    where
+      formed_within : {seen : List ℕ} {round j : ℕ} → Formed d.nodes seen round j → j < length d.nodes
+      formed_within {j = j} (formed n at small head parts counted later) = slice_get_within d.nodes j n at
+
+  -- there are as many frames
+  pub round_length : {frames : List Frame} {outer : List Left} {i : ℕ} → Round d frames outer i → length frames ≡ length outer
+  round_length (round_none first) = refl
+  round_length (round_choice is round) = ap suc (round_length round)
+  round_length (round_named is round) = ap suc (round_length round)
+  round_length (round_window is round) = ap suc (round_length round)
+  round_length (round_seq parts is round) = ap suc (round_length round)
+  round_length (round_trunc parts is round) = ap suc (round_length round)
+  round_length (round_times is round) = ap suc (round_length round)
+  round_length (round_many is round) = ap suc (round_length round)
+
+  -- behind a node the frames round it show what is left of theirs
+  pub shown_behind : {frames : List Frame} {outer : List Left} {k : ℕ} {values : List Value} (done : List ℕ)
+      → Round d frames outer k → values ≡ kept_of d (seen_behind d outer done) → Shows d frames values outer done
+  shown_behind done (round_none first) kept = shows_none kept
+  shown_behind done (round_choice is round) kept = shows_taken _ is kept round
+  shown_behind done (round_named is round) kept = shows_labelled _ is kept round
+  shown_behind done (round_window is round) kept = shows_window _ is kept round
+  shown_behind done (round_seq parts is round) kept = shows_parts parts is kept round
+  shown_behind done (round_trunc parts is round) kept = shows_lead parts is kept round
+  shown_behind done (round_times is round) kept = shows_turns is kept round
+  shown_behind done (round_many is round) kept = shows_free is kept round
+
+  -- a node that no count stands on adds no value
+  kept_alone : (i : ℕ) (b : List ℕ) (v : Values) (labelled : Bool) → is_counted d.nodes i ≡ false
+      → kept_of d (if labelled then (i, b) ∷ v else v) ≡ kept_of d v
+  kept_alone i b v true alone = rw alone refl
+  kept_alone i b v false alone = refl
+
+  pub kept_behind : {frames : List Frame} {outer : List Left} {k : ℕ} (done : List ℕ)
+      → Round d frames outer k → is_counted d.nodes k ≡ false → kept_of d (seen_behind d outer done) ≡ kept_of d (seen_in outer)
+  kept_behind done (round_none first) alone = refl
+  kept_behind done (round_choice is round) alone = refl
+  kept_behind done (round_named is round) alone = refl
+  kept_behind done (round_window is round) alone = refl
+  kept_behind done (round_seq {i = i} {from = from} {v = v} parts is round) alone = kept_alone i (drop from done) v (is_named d.nodes i) alone
+  kept_behind done (round_trunc {i = i} {from = from} {v = v} parts is round) alone = kept_alone i (drop from done) v (is_named d.nodes i) alone
+  kept_behind done (round_times is round) alone = refl
+  kept_behind done (round_many is round) alone = refl
+
+  -- nor does one that is no label
+  pub unnamed : (k : ℕ) {node : Node} → slice_get d.nodes k ≡ Some node → is_labelled (Some node) ≡ false → is_named d.nodes k ≡ false
+  unnamed k at plain = ap (λ n. is_labelled n) at ∙ plain
+
+  kept_same : (i : ℕ) (b : List ℕ) (v : Values) (labelled : Bool) → labelled ≡ false
+      → kept_of d (if labelled then (i, b) ∷ v else v) ≡ kept_of d v
+  kept_same i b v true plain = absurd (cc)
+  kept_same i b v false plain = refl
+
+  pub kept_unnamed : {frames : List Frame} {outer : List Left} {k : ℕ} (done : List ℕ)
+      → Round d frames outer k → is_named d.nodes k ≡ false → kept_of d (seen_behind d outer done) ≡ kept_of d (seen_in outer)
+  kept_unnamed done (round_none first) plain = refl
+  kept_unnamed done (round_choice is round) plain = refl
+  kept_unnamed done (round_named is round) plain = refl
+  kept_unnamed done (round_window is round) plain = refl
+  kept_unnamed done (round_seq {i = i} {from = from} {v = v} parts is round) plain = kept_same i (drop from done) v (is_named d.nodes i) plain
+  kept_unnamed done (round_trunc {i = i} {from = from} {v = v} parts is round) plain = kept_same i (drop from done) v (is_named d.nodes i) plain
+  kept_unnamed done (round_times is round) plain = refl
+  kept_unnamed done (round_many is round) plain = refl
+
+  -- ---- a repetition by number
+
+  pub record TurnsStand (k i n : ℕ) (frames : List Frame) (values : List Value) (stack : List Left) : Type 0 where
+    pub outer : List Left
+    pub v : Values
+    pub is : stack ≡ turns_left n i v ∷ outer
+    pub repeats : Repeats d k i v outer
+    pub kept : values ≡ kept_of d v
+    pub round : Round d frames outer k
+
+  pub turns_stand : {k i n : ℕ} {frames : List Frame} {values : List Value} {stack : List Left} {done : List ℕ}
+      → Shows d (frame.Times k i n ∷ frames) values stack done → TurnsStand k i n frames values stack
+  turns_stand (shows_turns is kept round) = record { outer = _; v = _; is = refl; repeats = is; kept = kept; round = round }
+
+  -- ---- how far the nodes have been gone through
+
+  -- a node that begins goes back, or it is as it was
+  pub begun_fresh : (i place : ℕ) (pace : Pace) → IsFresh d (fresh_at pace place) place (fresh_at (begun_by i pace) place)
+  begun_fresh i place pace = by pace.again (nat_lt i pace.next)
+    where
+      by : (again back : Bool) → IsFresh d (if again then Some place else None) place (if again || back then Some place else None)
+      by true back = fresh_as refl
+      by false true = fresh_turn refl
+      by false false = fresh_as refl
+
+  -- it is as it was where the number rises
+  pub begun_rising : (i place : ℕ) (pace : Pace) → pace.next ≤ i → fresh_at (begun_by i pace) place ≡ fresh_at pace place
+  begun_rising i place pace rises = by pace.again (nat_lt i pace.next) refl
+    where
+      by : (again back : Bool) → nat_lt i pace.next ≡ back → (if again || back then Some place else None) ≡ (if again then Some place else None)
+      by true back e = refl
+      by false true e = absurd (omega (arith, rises, ltb-true i pace.next e))
+      by false false e = refl
+
+  pub risen : {i : ℕ} {v : Values} {outer : List Left} {done : List ℕ} (pace : Pace) → pace.next ≤ i
+      → IsStack d (suc i) (fresh_at pace (length done)) (all_left i v ∷ outer) done
+      → IsStack d (begun_by i pace).next (fresh_at (begun_by i pace) (length done)) (all_left i v ∷ outer) done
+  risen {i} {v} {outer} {done} pace rises is =
+      let P : Option ℕ → Type 0 = λ f. IsStack d (suc i) f (all_left i v ∷ outer) done in
+      subst P (sym (begun_rising i (length done) pace rises)) is
+
+  pub fresh_now : (known : Known d) (pace : Pace) (done : List ℕ) → IsNow d 12 known.description known.certified (fresh_at pace (length done)) done
+  fresh_now known pace done = by pace.again
+    where
+      by : (again : Bool) → IsNow d 12 known.description known.certified (if again then Some (length done) else None) done
+      by true = now_fresh refl
+      by false = not_fresh refl
+
+  -- a turn of it begins
+  pub turn_stack : {n i : ℕ} {v : Values} {outer : List Left} {done : List ℕ} (pace : Pace) → Known d
+      → IsStack d pace.next (fresh_at pace (length done)) (turns_left (suc n) i v ∷ outer) done
+      → IsStack d (begun_by i pace).next (fresh_at (begun_by i pace) (length done)) (all_left i v ∷ turns_left n i v ∷ outer) done
+  turn_stack {n} {i} {outer = outer} {done = done} pace known (stack_node k from w bits ready (of_turns {count = count} at same turn order none up turned) inside) =
+      let P : Values → Type 0 = λ u. IsStack d (begun_by i pace).next (fresh_at (begun_by i pace) (length done)) (all_left i u ∷ turns_left n i u ∷ outer) done in
+      subst P (sym same) (of_begun d (turn_begun d 12 known.description known.certified _ (begun_fresh i (length done) pace) at turn order (λ e. ap (λ u. count_of u count) (sym same) ∙ none e) bits ready inside))
+
+  -- the node round one of which nothing is left
+  pub left_stack : {outer : List Left} {done : List ℕ} (pace : Pace) → Known d
+      → IsStack d pace.next (fresh_at pace (length done)) (none_left ∷ outer) done → IsStack d pace.next (fresh_at pace (length done)) outer done
+  left_stack {done = done} pace known (stack_node i from v bits ready (of_read read up) inside) =
+      popped_stack d 12 known.description known.certified inside (fresh_now known pace done) read up bits
+
+  -- ---- a choice or a label behind its part
+
+  pub record TakenStand (k : ℕ) (frames : List Frame) (values : List Value) (stack : List Left) : Type 0 where
+    pub outer : List Left
+    pub is : stack ≡ none_left ∷ outer
+    pub kept : values ≡ kept_of d (seen_in outer)
+    pub plain : (done : List ℕ) → kept_of d (seen_behind d outer done) ≡ kept_of d (seen_in outer)
+    pub round : Round d frames outer k
+
+  pub taken_stand : {k : ℕ} {frames : List Frame} {values : List Value} {stack : List Left} {done : List ℕ}
+      → Shows d (frame.Choice k ∷ frames) values stack done → TakenStand k frames values stack
+  taken_stand (shows_taken i is kept round) =
+      record { outer = _; is = refl; kept = kept; plain = λ done. kept_unnamed done round (unnamed _ is.at refl); round = round }
+
+  pub labelled_stand : {k : ℕ} {frames : List Frame} {values : List Value} {stack : List Left} {done : List ℕ}
+      → Shows d (frame.Named k ∷ frames) values stack done → TakenStand k frames values stack
+  labelled_stand (shows_labelled i is kept round) =
+      record { outer = _; is = refl; kept = kept; plain = λ done. kept_behind done round is.alone; round = round }
+
+  -- ---- a window behind its part
+
+  pub record WindowStands (k end limit : ℕ) (frames : List Frame) (values : List Value) (stack : List Left) : Type 0 where
+    pub outer : List Left
+    pub is : stack ≡ window_left end ∷ outer
+    pub kept : values ≡ kept_of d (seen_in outer)
+    pub i : ℕ
+    pub cuts : Cuts d k i limit outer
+    pub round : Round d frames outer k
+
+  pub window_stands : {k end limit : ℕ} {frames : List Frame} {values : List Value} {stack : List Left} {done : List ℕ}
+      → Shows d (frame.Window k end limit ∷ frames) values stack done → WindowStands k end limit frames values stack
+  window_stands (shows_window i is kept round) = record { outer = _; is = refl; kept = kept; i = i; cuts = is; round = round }
+
+  -- where it has its bits
+  pub window_done : {next : ℕ} {fresh : Option ℕ} {end : ℕ} {outer : List Left} {done : List ℕ} → Known d → length done ≡ end
+      → IsStack d next fresh (window_left end ∷ outer) done → IsStack d next fresh (none_left ∷ outer) done
+  window_done known full (stack_node k from w bits ready (of_window n at counts is read up) inside) =
+      stack_node k from w bits ready (of_read (window_read d 12 known.description known.certified at counts (sym (full ∙ is)) ready.widths read) (up_part d [] _ [] at refl up)) inside
+
+  -- a place that is not behind the limit is not behind the end of a window
+  pub within_limit : (stack : List Left) (place : ℕ) → place ≤ limit_in stack → Within stack place
+  within_limit [] place h = tt
+  within_limit (window_left end ∷ outer) place h = (omega (arith, h), within_limit outer place (omega (arith, h)))
+  within_limit (all_left i v ∷ outer) place h = (tt, within_limit outer place h)
+  within_limit (bits_left n ∷ outer) place h = (tt, within_limit outer place h)
+  within_limit (symbols_left run ∷ outer) place h = (tt, within_limit outer place h)
+  within_limit (spare_left symbol ∷ outer) place h = (tt, within_limit outer place h)
+  within_limit (pad_left begun ∷ outer) place h = (tt, within_limit outer place h)
+  within_limit (rest_left ∷ outer) place h = (tt, within_limit outer place h)
+  within_limit (choice_left parts v ∷ outer) place h = (tt, within_limit outer place h)
+  within_limit (none_left ∷ outer) place h = (tt, within_limit outer place h)
+  within_limit (parts_left i from after v ∷ outer) place h = (tt, within_limit outer place h)
+  within_limit (turns_left n i v ∷ outer) place h = (tt, within_limit outer place h)
+  within_limit (free_left i v ∷ outer) place h = (tt, within_limit outer place h)
+  within_limit (cut_left parts v ∷ outer) place h = (tt, within_limit outer place h)
+  within_limit (lead_left i from after v ∷ outer) place h = (tt, within_limit outer place h)
+
+  -- two steps that take no bits, of which the first makes no moves
+  pub passes_then : {ended : Bool} {old middle new : List Left} {done ahead : List ℕ} {made : List Move}
+      → Passes d ended old middle done [] ahead [] → Passes d ended middle new done [] ahead made
+      → Passes d ended old new done [] ahead made
+  passes_then {done = done} first second =
+      record {
+        ends = λ later rest e h.
+            let middle = first.ends later rest e h in
+            let after = second.ends later middle.0 e (rest_from d (append-nil done) middle.2) in
+            (after.0, middle.1 ∙ after.1, after.2);
+        ended_by = λ later more e h.
+            first.ended_by later (_ ++ more) e (rest_from d (sym (append-nil done)) (second.ended_by later more e h));
+        goes = λ b going agrees g. second.goes b going agrees (goes_from d (append-nil done) (first.goes b going agrees g));
+        went = λ b going agrees g. first.went b going agrees (goes_from d (sym (append-nil done)) (second.went b going agrees g));
+      }
+
+  -- where no turn is left
+  pub turns_done : {next : ℕ} {fresh : Option ℕ} → Known d → {i : ℕ} {v : Values} {outer : List Left} {done : List ℕ}
+      → IsStack d next fresh (turns_left 0 i v ∷ outer) done → IsStack d next fresh (none_left ∷ outer) done
+  turns_done known (stack_node k from w bits ready (of_turns at same turn order none up turned) inside) =
+      stack_node k from w bits ready (of_read (turns_read d 12 known.description known.certified at turn order _ none) (up_part d [] _ [] at refl up)) inside
+
+  module _ {S : Type 0} (takes : S → Move → Node → S → Type 0) (before : S) (values : List Value) (pace : Pace) (coming : Coming) where
+    abbrev pub state : List Frame → StateV
+    state frames = record { frames = frames; values = values; pace = pace; coming = coming }
+
+    -- no bits are taken
+    pub still :
+        {frames others : List Frame} {more : List Value} {after : S} {stack now : List Left} {done : List ℕ} {made : List Move} (next : Pace)
+        → coming.place ≡ length done → Shows d others more now done → IsStack d next.next (fresh_at next (length done)) now done → coming.limit ≡ limit_in now
+        → AreOwed now done coming.bits → Passes d coming.ended stack now done [] coming.bits made
+        → Tells d takes (around_of frames) made (around_of others) before after
+        → GoesOn d takes (state frames) (record { frames = others; values = more; pace = next; coming = coming }) before after stack done
+    still {others = others} {more = more} {now = now} {done = done} next place shows is limit owed passes told =
+        let same : done ++ [] ≡ done = append-nil done in
+        record {
+          now = now;
+          taken = [];
+          made = _;
+          stands =
+              subst (λ (l : List ℕ). Stands d (record { frames = others; values = more; pace = next; coming = coming }) now l) (sym same)
+              (record { shows = shows; stack_is = is; place = place; limit = limit; owed = owed });
+          bits = refl;
+          ended = refl;
+          steps = passes;
+          tells = told;
+        }
+
+    -- the same where the innermost window ends elsewhere
+    pub still_until :
+        {frames others : List Frame} {more : List Value} {after : S} {stack now : List Left} {done : List ℕ} {made : List Move} (next : Pace) (later : Coming)
+        → later.bits ≡ coming.bits → later.ended ≡ coming.ended
+        → later.place ≡ length done → Shows d others more now done → IsStack d next.next (fresh_at next (length done)) now done → later.limit ≡ limit_in now
+        → AreOwed now done later.bits → Passes d coming.ended stack now done [] later.bits made
+        → Tells d takes (around_of frames) made (around_of others) before after
+        → GoesOn d takes (state frames) (record { frames = others; values = more; pace = next; coming = later }) before after stack done
+    still_until {others = others} {more = more} {now = now} {done = done} next later bits ended place shows is limit owed passes told =
+        let same : done ++ [] ≡ done = append-nil done in
+        record {
+          now = now;
+          taken = [];
+          made = _;
+          stands =
+              subst (λ (l : List ℕ). Stands d (record { frames = others; values = more; pace = next; coming = later }) now l) (sym same)
+              (record { shows = shows; stack_is = is; place = place; limit = limit; owed = owed });
+          bits = sym bits;
+          ended = ended;
+          steps = passes;
+          tells = told;
+        }
+
+    -- what is open takes no bit here: it stays as it is
+    pub stops :
+        (frames : List Frame) (turn : Turn) → IsStopped coming turn → Known d
+        → ((stack : List Left) (done : List ℕ) → Stands d (state frames) stack done → (bit : ℕ) (rest : List ℕ) → ¬ Goes d stack done (bit ∷ rest))
+        → ((stack : List Left) (done : List ℕ) → Stands d (state frames) stack done → (rest : List Move) → ¬ Rest d stack done [] rest)
+        → Turns d takes (state frames) (state frames) before before turn
+    stops frames Moved stopped known stuck unended = absurd stopped
+    stops frames Waits (none, held, inside) known stuck unended = λ stack done stands.
+        let within = within_limit stack (length done) (rw (← stands.place, ← stands.limit) inside) in
+        let same : done ++ [] ≡ done = append-nil done in
+        record {
+          on =
+              record {
+                now = stack;
+                taken = [];
+                made = [];
+                stands = subst (λ (l : List ℕ). Stands d (state frames) stack l) (sym same) stands;
+                bits = refl;
+                ended = refl;
+                steps = passes_of coming.ended (steps_none d stack done coming.bits);
+                tells = tells_none refl refl;
+              };
+          few = omega (arith, ap (λ (l : List ℕ). length l) none);
+          held = omega (arith, held, ap (λ (l : List ℕ). length l) none);
+          followed = λ going. goes_from d (sym same) (goes_along d (sym none) (nothing_goes d (moving known) known.empties stands.stack_is within));
+          held_ends = λ some. absurd (omega (arith, some, ap (λ (l : List ℕ). length l) none));
+          over = λ ended. inr (λ rest h. unended stack done stands rest (rest_from d same h));
+        }
+    stops frames (Refused place) (bit, rest, is, here, inside) known stuck unended = λ stack done stands.
+        let within = within_limit stack (length done) (rw (← stands.place, ← stands.limit) inside) in
+        record {
+          made = [];
+          around = _;
+          alike = [];
+          bit = bit;
+          later = rest;
+          bits = is;
+          place_is = omega (arith, here, stands.place);
+          followed = nothing_goes d (moving known) known.empties stands.stack_is within;
+          no_further = stuck stack done stands bit [];
+          tells = tells_none refl refl;
+        }
+
+    -- frames and values that are the same go on in the same way
+    pub GoesOn-along :
+        {old : StateV} {frames others : List Frame} {kept more : List Value} {first second : Pace} {after : S} {stack : List Left} {done : List ℕ}
+        → frames ≡ others → kept ≡ more → first ≡ second
+        → GoesOn d takes old (record { frames = others; values = more; pace = second; coming = coming }) before after stack done
+        → GoesOn d takes old (record { frames = frames; values = kept; pace = first; coming = coming }) before after stack done
+    GoesOn-along {old} {frames} {others} {kept} {more} {first} {second} {after} {stack} {done} e f g on =
+        let P : List Frame → Type 0 = λ l. GoesOn d takes old (record { frames = l; values = more; pace = second; coming = coming }) before after stack done in
+        let Q : List Value → Type 0 = λ l. GoesOn d takes old (record { frames = frames; values = l; pace = second; coming = coming }) before after stack done in
+        let R : Pace → Type 0 = λ l. GoesOn d takes old (record { frames = frames; values = kept; pace = l; coming = coming }) before after stack done in
+        subst R (sym g) (subst Q (sym f) (subst P (sym e) on))
+
+    -- a frame that was put back
+    pub stays :
+        {frames others : List Frame} (turn : Turn) (old : StateV) (after : S)
+        → frames ≡ others → Turns d takes old (state others) before after turn → Turns d takes old (state frames) before after turn
+    stays turn old after e turns =
+        let P : List Frame → Type 0 = λ l. Turns d takes old (state l) before after turn in
+        subst P (sym e) turns
+
+    -- a node is left of which nothing is left, where the innermost window may end
+    pub leaves_until :
+        {top : Frame} {frames : List Frame} {more : List Value} {after : S} {stack outer : List Left} {done : List ℕ} {k : ℕ} (later : Coming)
+        → later.bits ≡ coming.bits → later.ended ≡ coming.ended
+        → (node : Node) → Known d → slice_get d.nodes k ≡ Some node → takes before Leave node after
+        → around_of (top ∷ frames) ≡ k ∷ around_of frames → later.place ≡ length done
+        → IsStack d pace.next (fresh_at pace (length done)) (none_left ∷ outer) done → Round d frames outer k → more ≡ kept_of d (seen_behind d outer done)
+        → later.limit ≡ limit_in outer → AreOwed outer done later.bits
+        → Passes d coming.ended stack (none_left ∷ outer) done [] later.bits []
+        → GoesOn d takes (state (top ∷ frames)) (record { frames = frames; values = more; pace = pace; coming = later }) before after stack done
+    leaves_until {frames = frames} {outer = outer} {done = done} later bits ended node known at told around place is round kept limit owed passes =
+        still_until pace later bits ended place (shown_behind done round kept) (left_stack pace known is) limit owed
+        (passes_then passes (passes_of coming.ended (popped d later.bits (nothing_goes d (moving known) known.empties (left_stack pace known is)))))
+        (rw around (tells_leave node _ at told (tells_none refl refl)))
+
+    -- a node is left of which nothing is left
+    pub leaves :
+        {top : Frame} {frames : List Frame} {more : List Value} {after : S} {stack outer : List Left} {done : List ℕ} {k : ℕ}
+        (node : Node) → Known d → slice_get d.nodes k ≡ Some node → takes before Leave node after
+        → around_of (top ∷ frames) ≡ k ∷ around_of frames → coming.place ≡ length done
+        → IsStack d pace.next (fresh_at pace (length done)) (none_left ∷ outer) done → Round d frames outer k → more ≡ kept_of d (seen_behind d outer done)
+        → coming.limit ≡ limit_in outer → AreOwed outer done coming.bits
+        → Passes d coming.ended stack (none_left ∷ outer) done [] coming.bits []
+        → GoesOn d takes (state (top ∷ frames)) (record { frames = frames; values = more; pace = pace; coming = coming }) before after stack done
+    leaves {frames = frames} {outer = outer} {done = done} node known at told around place is round kept limit owed passes =
+        still pace place (shown_behind done round kept) (left_stack pace known is) limit owed
+        (passes_then passes (passes_of coming.ended (popped d coming.bits (nothing_goes d (moving known) known.empties (left_stack pace known is)))))
+        (rw around (tells_leave node _ at told (tells_none refl refl)))
+
+    -- a turn of a repetition begins
+    pub begins_turn :
+        {k i m n : ℕ} {frames : List Frame} {stack : List Left} {done : List ℕ}
+        → m ≡ suc n → Known d → Stands d (state (frame.Times k i m ∷ frames)) stack done
+        → GoesOn d takes (state (frame.Times k i m ∷ frames)) (record { frames = frame.Begin i ∷ frame.Times k i n ∷ frames; values = values; pace = begun_by i pace; coming = coming }) before before stack done
+    begins_turn {k} {i} {m} {n} {frames} {stack} {done} some known stands =
+        let t = turns_stand stands.shows in
+        let P : List Left → Type 0 = λ l. GoesOn d takes (state (frame.Times k i m ∷ frames)) (record { frames = frame.Begin i ∷ frame.Times k i n ∷ frames; values = values; pace = begun_by i pace; coming = coming }) before before l done in
+        let is : stack ≡ turns_left (suc n) i t.v ∷ t.outer = t.is ∙ ap (λ j. turns_left j i t.v ∷ t.outer) some in
+        subst P (sym is)
+        (still (begun_by i pace) stands.place (shows_begin refl t.kept (round_times t.repeats t.round))
+        (turn_stack pace known (subst (λ (l : List Left). IsStack d pace.next (fresh_at pace (length done)) l done) is stands.stack_is))
+        (stands.limit ∙ ap (λ (l : List Left). limit_in l) is)
+        (subst (λ (l : List Left). AreOwed l done coming.bits) is stands.owed)
+        (passes_of coming.ended (split d t.outer coming.bits (next_turn d (moving known) n i t.v done)))
+        (tells_none refl refl))
+
+    -- and it is left behind the last
+    pub ends_turns :
+        {k i m : ℕ} {frames : List Frame} {after : S} {stack : List Left} {done : List ℕ}
+        (node : Node) → m ≡ 0 → Known d → Stands d (state (frame.Times k i m ∷ frames)) stack done
+        → slice_get d.nodes k ≡ Some node → takes before Leave node after
+        → GoesOn d takes (state (frame.Times k i m ∷ frames)) (state frames) before after stack done
+    ends_turns {k} {i} {m} {frames} {after} {stack} {done} node none known stands at told =
+        let t = turns_stand stands.shows in
+        let P : List Left → Type 0 = λ l. GoesOn d takes (state (frame.Times k i m ∷ frames)) (state frames) before after l done in
+        let is : stack ≡ turns_left 0 i t.v ∷ t.outer = t.is ∙ ap (λ j. turns_left j i t.v ∷ t.outer) none in
+        subst P (sym is)
+        (leaves node known at told refl stands.place (turns_done known (subst (λ (l : List Left). IsStack d pace.next (fresh_at pace (length done)) l done) is stands.stack_is)) t.round
+        (t.kept ∙ ap (λ v. kept_of d v) t.repeats.seen ∙ sym (kept_unnamed done t.round (unnamed _ t.repeats.at refl)))
+        (stands.limit ∙ ap (λ (l : List Left). limit_in l) is)
+        (subst (λ (l : List Left). AreOwed l done coming.bits) is stands.owed)
+        (passes_of coming.ended (replaced d coming.bits (none_taken d) (alike d (no_turns d (moving known) i t.v done)))))
+
+    -- a choice or a label is left behind its part
+    pub passes_by :
+        {top : Frame} {i : ℕ} {frames : List Frame} {after : S} {stack : List Left} {done : List ℕ}
+        (node : Node) → IsPassed top i → Known d → Stands d (state (top ∷ frames)) stack done
+        → slice_get d.nodes i ≡ Some node → takes before Leave node after
+        → GoesOn d takes (state (top ∷ frames)) (state frames) before after stack done
+    passes_by {frames = frames} {after} {stack} {done} node (passed_choice {k} same) known stands at told =
+        let t = taken_stand stands.shows in
+        let P : List Left → Type 0 = λ l. GoesOn d takes (state (frame.Choice k ∷ frames)) (state frames) before after l done in
+        subst P (sym t.is)
+        (leaves node known at told (ap (λ j. j ∷ around_of frames) same) stands.place (subst (λ (l : List Left). IsStack d pace.next (fresh_at pace (length done)) l done) t.is stands.stack_is)
+        (subst (λ j. Round d frames t.outer j) same t.round) (t.kept ∙ sym (t.plain done)) (stands.limit ∙ ap (λ (l : List Left). limit_in l) t.is)
+        (subst (λ (l : List Left). AreOwed l done coming.bits) t.is stands.owed)
+        (passes_of coming.ended (steps_none d (none_left ∷ t.outer) done coming.bits)))
+    passes_by {frames = frames} {after} {stack} {done} node (passed_label {k} same) known stands at told =
+        let t = labelled_stand stands.shows in
+        let P : List Left → Type 0 = λ l. GoesOn d takes (state (frame.Named k ∷ frames)) (state frames) before after l done in
+        subst P (sym t.is)
+        (leaves node known at told (ap (λ j. j ∷ around_of frames) same) stands.place (subst (λ (l : List Left). IsStack d pace.next (fresh_at pace (length done)) l done) t.is stands.stack_is)
+        (subst (λ j. Round d frames t.outer j) same t.round) (t.kept ∙ sym (t.plain done)) (stands.limit ∙ ap (λ (l : List Left). limit_in l) t.is)
+        (subst (λ (l : List Left). AreOwed l done coming.bits) t.is stands.owed)
+        (passes_of coming.ended (steps_none d (none_left ∷ t.outer) done coming.bits)))
+
+    -- a window is left behind its part
+    pub ends_window :
+        {k end limit : ℕ} {frames : List Frame} {after : S} {stack : List Left} {done : List ℕ} (later : Coming)
+        → later.bits ≡ coming.bits → later.ended ≡ coming.ended → later.place ≡ coming.place → later.limit ≡ limit
+        → (node : Node) → coming.place ≡ end → Known d → Stands d (state (frame.Window k end limit ∷ frames)) stack done
+        → slice_get d.nodes k ≡ Some node → takes before Leave node after
+        → GoesOn d takes (state (frame.Window k end limit ∷ frames)) (record { frames = frames; values = values; pace = pace; coming = later }) before after stack done
+    ends_window {k} {end} {limit} {frames} {after} {stack} {done} later bits ended place limited node full known stands at told =
+        let t = window_stands stands.shows in
+        let P : List Left → Type 0 = λ l. GoesOn d takes (state (frame.Window k end limit ∷ frames)) (record { frames = frames; values = values; pace = pace; coming = later }) before after l done in
+        let here : length done ≡ end = sym stands.place ∙ full in
+        let owed = subst (λ (l : List Left). AreOwed l done coming.bits) t.is stands.owed in
+        subst P (sym t.is)
+        (leaves_until later bits ended node known at told refl (place ∙ stands.place)
+        (window_done known here (subst (λ (l : List Left). IsStack d pace.next (fresh_at pace (length done)) l done) t.is stands.stack_is)) t.round
+        (t.kept ∙ sym (kept_unnamed done t.round (unnamed _ t.cuts.at refl)))
+        (limited ∙ t.cuts.limit_is)
+        (subst (λ (l : List ℕ). AreOwed t.outer done l) (sym bits) owed)
+        (passes_of coming.ended (window_alike d end t.outer done later.bits here)))
+
+    -- or stays as it is
+    pub window_stops :
+        (k end limit : ℕ) (frames : List Frame) (turn : Turn) → IsStopped coming turn → Known d → ¬ (coming.place ≡ end)
+        → Turns d takes (state (frame.Window k end limit ∷ frames)) (state (frame.Window k end limit ∷ frames)) before before turn
+    window_stops k end limit frames turn stopped known not =
+        stops (frame.Window k end limit ∷ frames) turn stopped known
+        (λ stack done stands bit rest g.
+        let t = window_stands stands.shows in
+        let P : List Left → Type 0 = λ l. Goes d l done (bit ∷ rest) in
+        window_stuck d end bit rest (λ here. not (stands.place ∙ here)) (subst P t.is g))
+        (λ stack done stands rest h.
+        let t = window_stands stands.shows in
+        let P : List Left → Type 0 = λ l. Rest d l done [] rest in
+        window_unended (λ here. not (stands.place ∙ here)) (subst P t.is h))
+      where
+        window_unended : {outer : List Left} {done b : List ℕ} {rest : List Move} → ¬ (length done ≡ end) → ¬ Rest d (window_left end ∷ outer) done b rest
+        window_unended not (rest_next b1 b2 first others cut made (completes_window none here leave) o) = not here

@@ -1,0 +1,66 @@
+use Rattle.std.proofs.Common.{◌≡◌, ℕ, ◌+◌, ◌<◌, ◌==◌, Bool, true, false, eqb-true, List, [], ◌∷◌, ◌++◌, length, reverse, None, Some, refl, sym, ap, subst, ◌∙◌, arith, length-append}
+use Rattle.std.proofs.lemmas.List.{length-reverse}
+use Rattle.csn_desc.specs.Nodes.{DescV}
+use Rattle.csn_judge.specs.declared.judge.Judge.TheInside.{Inside}
+use Rattle.csn_judge.specs.declared.frame.Frame.{Frame}
+use Rattle.csn_judge.specs.Coming.{Coming}
+use Rattle.csn_bits.specs.Numbers.{low_bits}
+use Rattle.csn_judge.specs.Turns.{StateV, state_of}
+use Rattle.csn_judge.specs.Told.{Tells}
+use Rattle.csn_judge.specs.Judging.{JudgeV, judge_of, opened, Ends}
+use Rattle.csn_judge.specs.declared.verdict.Judged.TheVariants.{Ok, Refused}
+use Rattle.csn_bits.proofs.NumberFacts.{length-low_bits}
+use Rattle.csn_judge.proofs.JudgingFacts.{IsOver, ends_refused, ends_held, ends_string, ends_none, ends_never}
+use Rattle.csn_judge.proofs.judge.Judge.finish_to.Goals as goal
+
+-- no bits are held
+over : (j : Inside) (coming : Coming) → j.refused ≡ None → j.held.count ≡ 0 → j.seen ≡ j.place + j.held.count → coming ≡ record { bits = []; held = 0; place = j.seen; limit = j.limit; ended = true } → IsOver (judge_of j) coming
+over j coming none held seen is =
+    record {
+      refused = none;
+      none = ap (λ n. low_bits n j.held.number) held;
+      bits = ap (λ c. c.bits) is;
+      place = ap (λ c. c.place) is ∙ omega (arith, held, seen);
+      limit = ap (λ c. c.limit) is;
+      ended = ap (λ c. c.ended) is;
+    }
+
+is_none : (frames : List Frame) → length frames ≡ 0 → reverse frames ≡ []
+is_none [] e = refl
+is_none (frame ∷ frames) e = absurd (omega (arith, e))
+
+pub returns-then-self-gt0-clause-ends : goal.returns-then-self-gt0-clause-ends
+returns-then-self-gt0-clause-ends g c =
+    let P : JudgeV → Type 0 = λ j. Ends (λ made. Tells j.desc g.T.Track.takes (opened j) made [] c.args.track.now c.args.track.now) j (Refused c.self.inside.seen) in
+    subst P c.self.view_is
+    (ends_held c.trees_have_moves.ensures.some (λ made. Tells c.self.inside.machine.plan.now g.T.Track.takes (opened (judge_of c.self.inside)) made [] c.args.track.now c.args.track.now)
+    (judge_of c.self.inside) c.in_default.is (omega (arith, c.if-self-gt0.true, length-low_bits c.self.inside.held.count c.self.inside.held.number)))
+
+pub returns-in-Going-clause-ends : goal.returns-in-Going-clause-ends
+returns-in-Going-clause-ends g c =
+    let after : StateV = state_of c.go.new.self c.go.new.source in
+    let P : JudgeV → Type 0 = λ j. Ends (λ made. Tells j.desc g.T.Track.takes (opened j) made [] c.args.track.now c.go.new.track) j Ok in
+    let is = over c.self.inside c.end-source.result c.in_default.is (omega (arith, c.if-self-gt0.false)) (c.self.invariant.seen_is c.in_default.is) c.end-source.ensures in
+    subst P c.self.view_is
+    (ends_string g.T.Track.takes (judge_of c.self.inside) c.end-source.result after c.args.track.now c.go.new.track is
+    (is_none c.go.new.self.frames.items (eqb-true (length c.go.new.self.frames.items) 0 (sym c.is_empty.ensures ∙ c.if-is_empty.true))) c.in-Going.ensures.turns)
+
+pub returns-in_default-go-clause-ends : goal.returns-in_default-go-clause-ends
+returns-in_default-go-clause-ends g c =
+    let after : StateV = state_of c.go.new.self c.go.new.source in
+    let P : JudgeV → Type 0 = λ j. Ends (λ made. Tells j.desc g.T.Track.takes (opened j) made [] c.args.track.now c.go.new.track) j (Refused c.self.inside.seen) in
+    let is = over c.self.inside c.end-source.result c.in_default.is (omega (arith, c.if-self-gt0.false)) (c.self.invariant.seen_is c.in_default.is) c.end-source.ensures in
+    subst P c.self.view_is
+    (ends_none g.T.Track.takes (judge_of c.self.inside) c.end-source.result after c.args.track.now c.go.new.track c.trees_have_moves.ensures.some is
+    (λ empty. let size : length c.go.new.self.frames.items ≡ 0 = sym (length-reverse c.go.new.self.frames.items) ∙ ap (λ l. length l) empty in
+    let one : true ≡ false = sym (ap (λ n. n == 0) size) ∙ sym c.is_empty.ensures ∙ c.if-is_empty.false in absurd (cc))
+    (λ made. Tells c.self.inside.machine.plan.now g.T.Track.takes (opened (judge_of c.self.inside)) made [] c.args.track.now c.go.new.track) c.in-Going.ensures.turns)
+
+pub returns-in_default-go-2-clause-ends : goal.returns-in_default-go-2-clause-ends
+returns-in_default-go-2-clause-ends g c =
+    let after : StateV = state_of c.go.new.self c.go.new.source in
+    let P : JudgeV → Type 0 = λ j. Ends (λ made. Tells j.desc g.T.Track.takes (opened j) made [] c.args.track.now c.go.new.track) j (Refused c.self.inside.seen) in
+    let is = over c.self.inside c.end-source.result c.in_default.is (omega (arith, c.if-self-gt0.false)) (c.self.invariant.seen_is c.in_default.is) c.end-source.ensures in
+    subst P c.self.view_is
+    (ends_never g.T.Track.takes (judge_of c.self.inside) c.end-source.result after c.args.track.now c.go.new.track is
+    (λ made. Tells c.self.inside.machine.plan.now g.T.Track.takes (opened (judge_of c.self.inside)) made [] c.args.track.now c.go.new.track) _ c.self.inside.seen c.in_default-go.ensures.turns)

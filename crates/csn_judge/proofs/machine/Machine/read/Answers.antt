@@ -1,0 +1,78 @@
+use Rattle.std.proofs.Common.{◌<◌, nat_lt, List, length, reverse, lit<, refl, sym, ap, ◌∙◌, subst, arith}
+use Rattle.std.proofs.lemmas.Bool.{ltb-false}
+use Rattle.std.proofs.lemmas.List.{length-reverse}
+use Rattle.std.proofs.lemmas.Option.{slice_get_within}
+use Rattle.csn_desc.specs.Nodes.{DescV}
+use Rattle.csn_judge.specs.declared.frame.Frame.{Frame}
+use Rattle.csn_judge.specs.declared.frame.Frame.TheVariants as frame
+use Rattle.csn_judge.specs.Left.{Left}
+use Rattle.csn_judge.specs.Inside.{IsStack}
+use Rattle.csn_judge.specs.Turns.{fresh_at}
+use Rattle.csn_judge.proofs.Turning.{room, round_length, pushed}
+use Rattle.csn_judge.proofs.TurningLeaves.{paced, leaf_stands, may_be_left, turns_all, turns_some, turns_stopped, turns_refused, not_less}
+use Rattle.csn_judge.proofs.PayingBits.{all_took, some_took, all_pays, some_pays}
+use Rattle.csn_judge.proofs.machine.Machine.read.Goals as goal
+
+pub read-read-requires : goal.read-read-requires
+read-read-requires g c =
+    let t = leaf_stands c.args.self.now.plan.now c.requires.stands.stands.shows in
+    record { may = may_be_left c.args.self.now.plan.now c.requires.node t.shows }
+
+pub push-requires : goal.push-requires
+push-requires g c =
+    let d : DescV = c.args.self.now.plan.now in
+    let t = leaf_stands d c.requires.stands.stands.shows in
+    let few = room d (subst (λ (l : List Left). IsStack d c.args.self.now.pace.next (fresh_at c.args.self.now.pace (length c.requires.stands.done)) l c.requires.stands.done) t.is c.requires.stands.stands.stack_is) in
+    (lit< tt, omega (arith, few, round_length d t.round, length-reverse c.args.self.now.frames.items))
+
+pub returns-in-All-clause-turns : goal.returns-in-All-clause-turns
+returns-in-All-clause-turns g c =
+    let d : DescV = c.args.self.now.plan.now in
+    turns_all d g.T.Track.takes c.args.track.now c.args.self.now.values.items c.args.self.now.pace c.args.source.now c.read-read.new.source c.args.i (reverse c.args.self.now.frames.items) c.args.node.now
+    c.read-read.new.track c.step.new.self (nat_lt c.place-before.result c.place.result) c.requires.node c.requires.stands.known c.bits.ensures
+    (λ e. omega (arith, ltb-false c.place-before.result c.place.result e, c.place-before.ensures.place, c.place.ensures.place))
+    (c.in-All.ensures d (sym c.reading.ensures)) c.step.ensures
+
+pub returns-then-took-clause-turns : goal.returns-then-took-clause-turns
+returns-then-took-clause-turns g c =
+    let d : DescV = c.args.self.now.plan.now in
+    turns_some d g.T.Track.takes c.args.track.now c.args.self.now.values.items c.args.self.now.pace c.args.source.now c.read-read.new.source c.args.i (reverse c.args.self.now.frames.items) c.args.node.now
+    c.read-read.new.track (nat_lt c.place-before.result c.place.result) c.requires.node c.requires.stands.known c.bits.ensures
+    (λ e. omega (arith, ltb-false c.place-before.result c.place.result e, c.place-before.ensures.place, c.place.ensures.place))
+    (ap (λ (l : List Frame). reverse l) c.push.ensures.items ∙ pushed c.args.self.now.frames.items (frame.Leaf c.args.i c.in-Some.leaf))
+    (c.in-Some.ensures d (sym c.reading.ensures))
+
+pub returns-else-took-clause-turns : goal.returns-else-took-clause-turns
+returns-else-took-clause-turns g c =
+    let d : DescV = c.args.self.now.plan.now in
+    turns_stopped d g.T.Track.takes c.args.track.now c.args.self.now.values.items c.args.self.now.pace c.args.source.now c.read-read.new.source c.args.i (reverse c.args.self.now.frames.items) c.args.node.now
+    c.read-read.new.track c.stopped.result (nat_lt c.place-before.result c.place.result) c.requires.node c.requires.stands.known c.bits.ensures (not_less c.place-before.result c.place.result c.if-took.false)
+    (omega (arith, c.if-took.false, c.place-before.ensures.place, c.place.ensures.place)) c.place.ensures.fits c.place.ensures.nothing c.stopped.ensures
+    (ap (λ (l : List Frame). reverse l) c.push.ensures.items ∙ pushed c.args.self.now.frames.items (frame.Leaf c.args.i c.in-Some.leaf))
+    (c.in-Some.ensures d (sym c.reading.ensures))
+
+pub returns-in-Refused-clause-turns : goal.returns-in-Refused-clause-turns
+returns-in-Refused-clause-turns g c =
+    let d : DescV = c.args.self.now.plan.now in
+    turns_refused d g.T.Track.takes c.args.track.now c.args.self.now.values.items c.args.self.now.pace c.args.source.now c.read-read.new.source c.args.i (reverse c.args.self.now.frames.items) c.args.node.now
+    c.read-read.new.track c.in-Refused.place c.requires.node c.requires.stands.known (c.in-Refused.ensures d (sym c.reading.ensures))
+
+pub returns-in-All-clause-pays : goal.returns-in-All-clause-pays
+returns-in-All-clause-pays g c =
+    let d : DescV = c.args.self.now.plan.now in
+    let k = all_took d g.T.Track.takes c.args.track.now c.read-read.new.track c.args.self.now.values.items c.args.self.now.pace c.args.source.now c.read-read.new.source c.args.i (reverse c.args.self.now.frames.items) c.args.node.now
+    c.requires.node c.requires.stands.known (c.in-All.ensures d (sym c.reading.ensures)) c.requires.stands.stands in
+    all_pays d g.T.Track.takes c.args.track.now c.read-read.new.track c.args.self.now.values.items c.args.self.now.pace c.args.source.now c.read-read.new.source c.args.i (reverse c.args.self.now.frames.items) c.args.node.now
+    (frame.Leaf c.args.i c.args.leaf) k (lit< tt)
+    (c.bits.ensures ∙ ap (λ b. paced b c.args.self.now.pace) (ap (λ p. nat_lt p c.place.result) c.place-before.ensures.place ∙ ap (λ p. nat_lt c.args.source.now.place p) c.place.ensures.place))
+
+pub returns-then-took-clause-pays : goal.returns-then-took-clause-pays
+returns-then-took-clause-pays g c =
+    let d : DescV = c.args.self.now.plan.now in
+    let k = some_took d g.T.Track.takes c.args.track.now c.read-read.new.track c.args.self.now.values.items c.args.self.now.pace c.args.source.now c.read-read.new.source c.args.i (reverse c.args.self.now.frames.items) c.args.node.now
+    c.requires.node c.requires.stands.known (c.in-Some.ensures d (sym c.reading.ensures)) c.requires.stands.stands in
+    some_pays d g.T.Track.takes c.args.track.now c.read-read.new.track c.args.self.now.values.items c.args.self.now.pace c.args.source.now c.read-read.new.source c.args.i (reverse c.args.self.now.frames.items) c.args.node.now
+    (frame.Leaf c.args.i c.args.leaf) k (slice_get_within _ _ _ c.requires.node) refl
+    (ap (λ (l : List Frame). reverse l) c.push.ensures.items ∙ pushed c.args.self.now.frames.items (frame.Leaf c.args.i c.in-Some.leaf))
+    (omega (arith, c.if-took.true, c.place-before.ensures.place, c.place.ensures.place))
+    (c.bits.ensures ∙ ap (λ b. paced b c.args.self.now.pace) (ap (λ p. nat_lt p c.place.result) c.place-before.ensures.place ∙ ap (λ p. nat_lt c.args.source.now.place p) c.place.ensures.place))

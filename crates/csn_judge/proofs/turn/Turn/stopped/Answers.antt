@@ -1,0 +1,8 @@
+use Rattle.std.proofs.Common.{refl}
+use Rattle.csn_judge.proofs.SourceFacts.{first_bit}
+use Rattle.csn_judge.proofs.turn.Turn.stopped.Goals as goal
+
+pub returns-else-is_empty : goal.returns-else-is_empty
+returns-else-is_empty c =
+    let some = first_bit c.args.source.now.bits (λ none. let yes = c.is_empty.ensures.1 none in let not = c.if-is_empty.false in absurd (cc)) in
+    (some.0, some.1, some.2, c.place-place.ensures.place, c.place-place.ensures.inside)

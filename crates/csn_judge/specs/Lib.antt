@@ -1,0 +1,12 @@
+pub mod Coming
+pub mod Told
+pub mod Known
+pub mod Left
+pub mod Remains
+pub mod Inside
+pub mod Shown
+pub mod Turns
+pub mod Credit
+pub mod Reads
+pub mod Judging
+pub mod Picked

@@ -1,0 +1,174 @@
+//! Nodes are entered.
+
+ghost use Rattle.std.specs.Prelude.{◌≡◌, ℕ, ◌+◌, ◌*◌, ◌<◌, ◌≤◌, List, ◌∷◌, length, min, reverse, slice_get, Some};
+ghost use Rattle.csn_desc.specs.declared.node.Node.TheVariants.{Named};
+ghost use Rattle.csn_judge.specs.declared.frame.Frame.TheVariants as frame;
+ghost use Rattle.csn_desc.specs.Values.{Values, count_of};
+ghost use Rattle.csn_judge.specs.Credit.{credit_of, Pays};
+ghost use Rattle.csn_judge.specs.Shown.{KeepsCount, kept_of};
+ghost use Rattle.csn_judge.specs.Turns.{begun_by, state_of, state_with, Entered, StandsSomewhere, Turns};
+
+use crate::frame::{Counted, Frame};
+use crate::leaf::Leaf;
+use crate::machine::Machine;
+use crate::source::Source;
+use crate::track::Track;
+use crate::turn::Turn;
+use crate::values::value_of;
+use csn_certify::Steps;
+use csn_desc::{Count, Move, Node};
+use std::sync::ledger::Ledger;
+
+impl Machine<'_> {
+    /// A node is entered, and goes on as far as it can in one turn.
+    pub fn enter<T: Track, L: Ledger>(
+        &mut self,
+        i: u16,
+        source: &mut Source<'_>,
+        track: &mut T,
+        steps: &mut Steps<L>,
+    ) -> Turn
+        requires { StandsSomewhere self.old.plan.now (state_with (frame.Begin i) self.old source.old) }
+        ensures turns { Turns self.old.plan.now T.takes (state_with (frame.Begin i) self.old source.old)
+            (state_of self.new source.new) track.old track.new result }
+        ensures pays { Pays
+            (credit_of (length self.old.plan.now.nodes) (frame.Begin i ∷ reverse self.old.frames.items) self.old.pace (length source.old.bits))
+            (credit_of (length self.old.plan.now.nodes) (reverse self.new.frames.items) self.new.pace (length source.new.bits))
+            steps.old steps.new result }
+        ensures plan { self.new.plan ≡ self.old.plan }
+    {
+        source.none_behind_end();
+        let node = self.plan.node(i, steps);
+        track.step(Move::Enter(i), node);
+        let values = self.values.len() as u8;
+        match node {
+            Node::Lits(_) => self.read(i, Leaf::Lits { at: 0 }, node, source, track),
+            Node::Spare(_) => self.read(i, Leaf::Spare, node, source, track),
+            Node::Pad => self.read(i, Leaf::Pad { begun: false }, node, source, track),
+            Node::Null => {
+                track.step(Move::Leave, node);
+                Turn::Moved
+            }
+            Node::Field { unit, count } => {
+                let left = *unit as u32 * self.number_of(count);
+                self.read(i, Leaf::Field { left }, node, source, track)
+            }
+            Node::Rest => self.read(i, Leaf::Rest, node, source, track),
+            Node::Seq(parts) => {
+                let behind = Frame::Seq {
+                    node: i,
+                    at: 1,
+                    values,
+                };
+                self.begin(parts.get(0), behind);
+                Turn::Moved
+            }
+            Node::Choice(_) => self.choose(i, node, source, steps),
+            Node::Times { count, part } => {
+                let left = self.number_of(count);
+                self.times(i, *part, left, source, track, steps)
+            }
+            Node::Many(part) => self.many(i, *part, source, track, steps),
+            Node::Trunc(_) => self.trunc(i, 0, values, source, track, steps),
+            Node::Window { unit, count, part } => {
+                let bits = *unit as u32 * self.number_of(count);
+                self.enter_window(i, bits, *part, source);
+                Turn::Moved
+            }
+            Node::Named { part, .. } => self.enter_named(i, *part, source, track, steps),
+        }
+    }
+
+    /// A window of so many bits was entered: its part begins.
+    fn enter_window(&mut self, i: u16, bits: u32, part: u16, source: &mut Source<'_>)
+        requires few { part < 65535 }
+        requires room { length self.old.frames.items < 63 }
+        ensures frames { reverse self.new.frames.items
+            ≡ frame.Begin part ∷ frame.Window i (source.old.place + bits) source.old.limit ∷ reverse self.old.frames.items }
+        ensures values { self.new.values ≡ self.old.values }
+        ensures pace { self.new.pace ≡ begun_by part self.old.pace }
+        ensures plan { self.new.plan ≡ self.old.plan }
+        ensures bits { source.new.bits ≡ source.old.bits }
+        ensures place { source.new.place ≡ source.old.place }
+        ensures limit { source.new.limit ≡ min source.old.limit (source.old.place + bits) }
+        ensures ended { source.new.ended ≡ source.old.ended }
+    {
+        let end = source.place() as u64 + bits as u64;
+        let outer = source.limit();
+        source.set_limit(end.min(outer as u64) as u32);
+        let behind = Frame::Window {
+            node: i,
+            end,
+            outer,
+        };
+        self.begin(part, behind);
+    }
+
+    /// A labelled part was entered: the part begins. Where counts stand on it, it is a field of constant width,
+    /// which is entered with it.
+    fn enter_named<T: Track, L: Ledger>(
+        &mut self,
+        i: u16,
+        part: u16,
+        source: &mut Source<'_>,
+        track: &mut T,
+        steps: &mut Steps<L>,
+    ) -> Turn
+        requires part { (label : List ℕ) × (slice_get self.old.plan.now.nodes i ≡ Some (Named label part)) }
+        requires stands { StandsSomewhere self.old.plan.now (state_with (frame.Begin i) self.old source.old) }
+        ensures turns { Entered self.old.plan.now T.takes i (state_with (frame.Begin i) self.old source.old)
+            (state_of self.new source.new) track.old track.new result }
+        ensures pays { Pays
+            (credit_of (length self.old.plan.now.nodes) (frame.Begin i ∷ reverse self.old.frames.items) self.old.pace (length source.old.bits))
+            (credit_of (length self.old.plan.now.nodes) (reverse self.new.frames.items) self.new.pace (length source.new.bits))
+            steps.old (steps.new + 1) result }
+        ensures plan { self.new.plan ≡ self.old.plan }
+    {
+        if !self.plan.counts(i) {
+            self.begin(part, Frame::Named { node: i });
+            return Turn::Moved;
+        }
+        let field = self.plan.node(part, steps);
+        let Node::Field { unit, count } = field else {
+            unreachable!();
+        };
+        let Count::Fixed(width) = count else {
+            unreachable!();
+        };
+        source.none_behind_end();
+        self.pace.begin(part);
+        track.step(Move::Enter(part), field);
+        let counted = Counted {
+            node: i,
+            part,
+            left: *unit as u32 * *width,
+            number: 0,
+        };
+        self.read_counted(counted, field, source, track, steps)
+    }
+
+    /// How many a count is.
+    fn number_of(&self, count: &Count) -> u32
+        requires { KeepsCount self.now.plan.now self.now.values.items count.now }
+        ensures count { (v : Values) → self.now.values.items ≡ kept_of self.now.plan.now v → count_of v count.now ≡ Some result }
+        ensures small { result < 16777216 }
+    {
+        match count {
+            Count::Fixed(n) => *n,
+            Count::Counted { m, field, c } => match value_of(&self.values, *field) {
+                Some(number) => times_and_more(*m, number, *c),
+                None => unreachable!(),
+            },
+        }
+    }
+}
+
+/// So many times a number of up to 16 bits, and `c` more.
+fn times_and_more(m: u8, number: u32, c: u32) -> u32
+    requires number { number < 65536 }
+    requires more { c ≤ 65535 }
+    ensures sum { result ≡ m * number + c }
+    ensures small { result < 16777216 }
+{
+    m as u32 * number + c
+}

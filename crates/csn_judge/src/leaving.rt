@@ -1,0 +1,155 @@
+//! Nodes with parts go on behind a part, and are left.
+
+ghost use Rattle.std.specs.Prelude.{◌≡◌, ◌+◌, ◌<◌, ◌≤◌, ◌∷◌, length, reverse, slice_get, Some};
+ghost use Rattle.csn_desc.specs.declared.moves.Move.TheVariants.{Leave};
+ghost use Rattle.csn_desc.specs.declared.node.Node.{Node as NodeV};
+ghost use Rattle.csn_judge.specs.declared.frame.Frame.TheVariants as frame;
+ghost use Rattle.csn_judge.specs.declared.turn.Turn.TheVariants as turn;
+ghost use Rattle.csn_judge.specs.declared.frame.Frame.{Frame as FrameV};
+ghost use Rattle.csn_judge.specs.Credit.{credit_of, Pays};
+ghost use Rattle.csn_judge.specs.Known.{Known};
+ghost use Rattle.csn_judge.specs.Turns.{IsPassed, state_of, state_with, StandsSomewhere, Turns};
+
+use crate::frame::Frame;
+use crate::machine::Machine;
+use crate::source::Source;
+use crate::track::Track;
+use crate::turn::Turn;
+use csn_certify::Steps;
+use csn_desc::{Move, Node};
+use std::sync::ledger::Ledger;
+
+impl Machine<'_> {
+    /// A node is left.
+    pub fn leave<T: Track, L: Ledger>(&self, i: u16, track: &mut T, steps: &mut Steps<L>)
+        requires { i < length self.now.plan.now.nodes }
+        ensures told { (node : NodeV) × (slice_get self.now.plan.now.nodes i ≡ Some node) × T.takes track.old Leave node track.new }
+        ensures step { steps.new ≡ steps.old + 1 }
+    {
+        let node = self.plan.node(i, steps);
+        track.step(Move::Leave, node);
+    }
+
+    /// A choice or a labelled part is left, behind the part of it.
+    pub fn pass<T: Track, L: Ledger>(
+        &self,
+        i: u16,
+        source: &Source<'_>,
+        track: &mut T,
+        steps: &mut Steps<L>,
+    ) -> Turn
+        requires known { Known self.now.plan.now }
+        requires node { i < length self.now.plan.now.nodes }
+        ensures turns { (top : FrameV) → IsPassed top i → Turns self.now.plan.now T.takes (state_with top self.now source.now)
+            (state_of self.now source.now) track.old track.new result }
+        ensures pays { (top : FrameV) → IsPassed top i → Pays
+            (credit_of (length self.now.plan.now.nodes) (top ∷ reverse self.now.frames.items) self.now.pace (length source.now.bits))
+            (credit_of (length self.now.plan.now.nodes) (reverse self.now.frames.items) self.now.pace (length source.now.bits))
+            steps.old steps.new result }
+    {
+        self.leave(i, track, steps);
+        Turn::Moved
+    }
+
+    /// The next part of a sequence begins, or it is left behind its last, and what it has shown of values with it.
+    pub fn seq<T: Track, L: Ledger>(
+        &mut self,
+        i: u16,
+        at: u16,
+        values: u8,
+        source: &Source<'_>,
+        track: &mut T,
+        steps: &mut Steps<L>,
+    ) -> Turn
+        requires { StandsSomewhere self.old.plan.now (state_with (frame.Seq i at values) self.old source.now) }
+        ensures turns { Turns self.old.plan.now T.takes (state_with (frame.Seq i at values) self.old source.now)
+            (state_of self.new source.now) track.old track.new result }
+        ensures pays { Pays
+            (credit_of (length self.old.plan.now.nodes) (frame.Seq i at values ∷ reverse self.old.frames.items) self.old.pace (length source.now.bits))
+            (credit_of (length self.old.plan.now.nodes) (reverse self.new.frames.items) self.new.pace (length source.now.bits))
+            steps.old steps.new result }
+        ensures plan { self.new.plan ≡ self.old.plan }
+    {
+        let node = self.plan.node(i, steps);
+        let Node::Seq(parts) = node else {
+            unreachable!();
+        };
+        if at == parts.len() {
+            self.values.truncate(values as usize);
+            track.step(Move::Leave, node);
+            return Turn::Moved;
+        }
+        let behind = Frame::Seq {
+            node: i,
+            at: at + 1,
+            values,
+        };
+        self.begin(parts.get(at), behind);
+        Turn::Moved
+    }
+
+    /// The part of a repetition begins again, or it is left.
+    pub fn times<T: Track, L: Ledger>(
+        &mut self,
+        i: u16,
+        part: u16,
+        left: u32,
+        source: &Source<'_>,
+        track: &mut T,
+        steps: &mut Steps<L>,
+    ) -> Turn
+        requires { StandsSomewhere self.old.plan.now (state_with (frame.Times i part left) self.old source.now) }
+        ensures turns { Turns self.old.plan.now T.takes (state_with (frame.Times i part left) self.old source.now)
+            (state_of self.new source.now) track.old track.new result }
+        ensures pays { Pays
+            (credit_of (length self.old.plan.now.nodes) (frame.Times i part left ∷ reverse self.old.frames.items) self.old.pace (length source.now.bits))
+            (credit_of (length self.old.plan.now.nodes) (reverse self.new.frames.items) self.new.pace (length source.now.bits))
+            steps.old steps.new result }
+        ensures waits { result ≡ turn.Waits → steps.new ≤ steps.old + 1 }
+        ensures plan { self.new.plan ≡ self.old.plan }
+    {
+        if left == 0 {
+            self.leave(i, track, steps);
+            return Turn::Moved;
+        }
+        let behind = Frame::Times {
+            node: i,
+            part,
+            left: left - 1,
+        };
+        self.begin(part, behind);
+        Turn::Moved
+    }
+
+    /// A window is left, where its part has ended where it does.
+    pub fn window<T: Track, L: Ledger>(
+        &mut self,
+        i: u16,
+        end: u64,
+        outer: u32,
+        source: &mut Source<'_>,
+        track: &mut T,
+        steps: &mut Steps<L>,
+    ) -> Turn
+        requires { StandsSomewhere self.old.plan.now (state_with (frame.Window i end outer) self.old source.old) }
+        ensures turns { Turns self.old.plan.now T.takes (state_with (frame.Window i end outer) self.old source.old)
+            (state_of self.new source.new) track.old track.new result }
+        ensures pays { Pays
+            (credit_of (length self.old.plan.now.nodes) (frame.Window i end outer ∷ reverse self.old.frames.items) self.old.pace (length source.old.bits))
+            (credit_of (length self.old.plan.now.nodes) (reverse self.new.frames.items) self.new.pace (length source.new.bits))
+            steps.old steps.new result }
+        ensures plan { self.new.plan ≡ self.old.plan }
+    {
+        if source.place() as u64 != end {
+            self.frames.push(Frame::Window {
+                node: i,
+                end,
+                outer,
+            });
+            return Turn::stopped(source);
+        }
+        source.set_limit(outer);
+        self.leave(i, track, steps);
+        Turn::Moved
+    }
+}

@@ -1,0 +1,26 @@
+//! The judge of blocks: bits in, moves out, or the exact bit of a refusal. It never goes back, and takes no
+//! memory.
+#![tactic(auto)]
+
+mod entry;
+mod frame;
+mod going;
+mod judge;
+mod laws;
+mod leaf;
+mod leaving;
+mod machine;
+mod pace;
+mod picking;
+mod reading;
+mod source;
+mod spelling;
+mod track;
+mod turn;
+mod values;
+mod verdict;
+
+pub use csn_desc::Move;
+pub use judge::Judge;
+pub use track::{NoTrack, Track};
+pub use verdict::{Judged, Verdict};

@@ -1,0 +1,55 @@
+ghost use Rattle.std.specs.Prelude.{◌≡◌, ◌<◌, false, [], ◌∷◌, length, reverse};
+ghost use Rattle.csn_judge.specs.declared.frame.Frame.TheVariants as frame;
+ghost use Rattle.csn_judge.specs.Turns.{begun_by};
+
+use crate::frame::Frame;
+use crate::pace::Pace;
+use crate::values::{MOST_VALUES, Value};
+use arrayvec::ArrayVec;
+use csn_certify::Plan;
+use csn_desc::MOST_DEPTH;
+
+/// Goes through the nodes of a description along the bits of a block, one frame's turn after another.
+#[derive(Drop)]
+pub(crate) struct Machine<'a> {
+    pub plan: &'a Plan,
+    /// The nodes that have begun and not ended, each inside the one before it; and one that begins next.
+    pub frames: ArrayVec<Frame, MOST_DEPTH>,
+    /// The numbers of the labelled fields that the innermost node sees and that counts stand on.
+    pub values: ArrayVec<Value, MOST_VALUES>,
+    pub pace: Pace,
+}
+
+impl<'a> Machine<'a> {
+    /// The root begins next.
+    pub fn new(plan: &'a Plan) -> Machine<'a>
+        ensures frames { result.frames.items ≡ frame.Begin 0 ∷ [] }
+        ensures values { result.values.items ≡ [] }
+        ensures pace { result.pace ≡ record { next = 1; again = false } }
+        ensures plan { result.plan.now ≡ plan.now }
+    {
+        let mut machine = Machine {
+            plan,
+            frames: ArrayVec::new(),
+            values: ArrayVec::new(),
+            pace: Pace::new(),
+        };
+        machine.pace.begin(0);
+        machine.frames.push(Frame::Begin { node: 0 });
+        machine
+    }
+
+    /// A part begins next, and behind it the node that it is in goes on as this frame says.
+    pub fn begin(&mut self, part: u16, behind: Frame)
+        requires few { part < 65535 }
+        requires room { length self.old.frames.items < 63 }
+        ensures frames { reverse self.new.frames.items ≡ frame.Begin part ∷ behind ∷ reverse self.old.frames.items }
+        ensures values { self.new.values ≡ self.old.values }
+        ensures pace { self.new.pace ≡ begun_by part self.old.pace }
+        ensures plan { self.new.plan ≡ self.old.plan }
+    {
+        self.pace.begin(part);
+        self.frames.push(behind);
+        self.frames.push(Frame::Begin { node: part });
+    }
+}

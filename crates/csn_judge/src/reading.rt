@@ -1,0 +1,150 @@
+//! Bits are taken by leaves.
+
+ghost use Rattle.std.specs.Prelude.{◌≡◌, ◌+◌, ◌∷◌, length, reverse, slice_get, Some};
+ghost use Rattle.csn_judge.specs.declared.frame.Frame.TheVariants as frame;
+ghost use Rattle.csn_judge.specs.declared.turn.Turn.TheVariants.{Waits};
+ghost use Rattle.csn_judge.specs.Credit.{credit_of, Pays};
+ghost use Rattle.csn_judge.specs.Turns.{state_of, state_with, StandsSomewhere, Turns};
+
+use crate::frame::{Counted, Frame};
+use crate::leaf::{Leaf, Read, take};
+use crate::machine::Machine;
+use crate::source::Source;
+use crate::track::Track;
+use crate::turn::Turn;
+use crate::values::Value;
+use csn_certify::Steps;
+use csn_desc::{Move, Node};
+use std::sync::ledger::Ledger;
+
+impl Machine<'_> {
+    /// A leaf that was waiting takes bits.
+    pub fn read_on<T: Track, L: Ledger>(
+        &mut self,
+        i: u16,
+        leaf: Leaf,
+        source: &mut Source<'_>,
+        track: &mut T,
+        steps: &mut Steps<L>,
+    ) -> Turn
+        requires { StandsSomewhere self.old.plan.now (state_with (frame.Leaf i leaf) self.old source.old) }
+        ensures turns { Turns self.old.plan.now T.takes (state_with (frame.Leaf i leaf) self.old source.old)
+            (state_of self.new source.new) track.old track.new result }
+        ensures plan { self.new.plan ≡ self.old.plan }
+        ensures pays { Pays
+            (credit_of (length self.old.plan.now.nodes) (frame.Leaf i leaf ∷ reverse self.old.frames.items) self.old.pace (length source.old.bits))
+            (credit_of (length self.old.plan.now.nodes) (reverse self.new.frames.items) self.new.pace (length source.new.bits))
+            steps.old steps.new result }
+    {
+        let node = self.plan.node(i, steps);
+        self.read(i, leaf, node, source, track)
+    }
+
+    /// A leaf takes bits, and is left where it has ended. One step is paid for with it.
+    pub fn read<T: Track>(
+        &mut self,
+        i: u16,
+        leaf: Leaf,
+        node: &Node,
+        source: &mut Source<'_>,
+        track: &mut T,
+    ) -> Turn
+        requires stands { StandsSomewhere self.old.plan.now (state_with (frame.Leaf i leaf) self.old source.old) }
+        requires node { slice_get self.old.plan.now.nodes i ≡ Some node.now }
+        ensures turns { Turns self.old.plan.now T.takes (state_with (frame.Leaf i leaf) self.old source.old)
+            (state_of self.new source.new) track.old track.new result }
+        ensures plan { self.new.plan ≡ self.old.plan }
+        ensures pays { Pays
+            (credit_of (length self.old.plan.now.nodes) (frame.Leaf i leaf ∷ reverse self.old.frames.items) self.old.pace (length source.old.bits))
+            (credit_of (length self.old.plan.now.nodes) (reverse self.new.frames.items) self.new.pace (length source.new.bits))
+            0 1 result }
+    {
+        let before = source.place();
+        let read = leaf.read(node, self.plan.reading(), source, track);
+        let took = source.place() > before;
+        self.pace.bits(took);
+        match read {
+            Read::All => {
+                track.step(Move::Leave, node);
+                Turn::Moved
+            }
+            Read::Some(leaf) => {
+                self.frames.push(Frame::Leaf { node: i, leaf });
+                if took {
+                    Turn::Moved
+                } else {
+                    Turn::stopped(source)
+                }
+            }
+            Read::Refused { place } => Turn::Refused { place },
+        }
+    }
+
+    /// A labelled field that counts stand on was waiting and takes bits.
+    pub fn count<T: Track, L: Ledger>(
+        &mut self,
+        counted: Counted,
+        source: &mut Source<'_>,
+        track: &mut T,
+        steps: &mut Steps<L>,
+    ) -> Turn
+        requires { StandsSomewhere self.old.plan.now (state_with (frame.Counted counted) self.old source.old) }
+        ensures turns { Turns self.old.plan.now T.takes (state_with (frame.Counted counted) self.old source.old)
+            (state_of self.new source.new) track.old track.new result }
+        ensures plan { self.new.plan ≡ self.old.plan }
+        ensures pays { Pays
+            (credit_of (length self.old.plan.now.nodes) (frame.Counted counted ∷ reverse self.old.frames.items) self.old.pace (length source.old.bits))
+            (credit_of (length self.old.plan.now.nodes) (reverse self.new.frames.items) self.new.pace (length source.new.bits))
+            steps.old steps.new result }
+    {
+        let field = self.plan.node(counted.part, steps);
+        self.read_counted(counted, field, source, track, steps)
+    }
+
+    /// A labelled field that counts stand on takes bits. Where it has ended, it and its label are left, and its
+    /// number is kept. One step more is paid for than are taken.
+    pub fn read_counted<T: Track, L: Ledger>(
+        &mut self,
+        counted: Counted,
+        field: &Node,
+        source: &mut Source<'_>,
+        track: &mut T,
+        steps: &mut Steps<L>,
+    ) -> Turn
+        requires stands { StandsSomewhere self.old.plan.now (state_with (frame.Counted counted) self.old source.old) }
+        requires field { slice_get self.old.plan.now.nodes counted.part ≡ Some field.now }
+        ensures turns { Turns self.old.plan.now T.takes (state_with (frame.Counted counted) self.old source.old)
+            (state_of self.new source.new) track.old track.new result }
+        ensures plan { self.new.plan ≡ self.old.plan }
+        ensures pays { Pays
+            (credit_of (length self.old.plan.now.nodes) (frame.Counted counted ∷ reverse self.old.frames.items) self.old.pace (length source.old.bits))
+            (credit_of (length self.old.plan.now.nodes) (reverse self.new.frames.items) self.new.pace (length source.new.bits))
+            steps.old (steps.new + 1) result }
+        ensures waits { result ≡ Waits → steps.new ≡ steps.old }
+    {
+        let ready = source.ready(counted.left);
+        if ready == 0 {
+            self.frames.push(Frame::Counted(counted));
+            return Turn::stopped(source);
+        }
+        let bits = take(ready, field, source, track);
+        self.pace.bits(true);
+        let number = counted.number << ready | bits as u32;
+        if ready < counted.left {
+            self.frames.push(Frame::Counted(Counted {
+                node: counted.node,
+                part: counted.part,
+                left: counted.left - ready,
+                number,
+            }));
+            return Turn::Moved;
+        }
+        track.step(Move::Leave, field);
+        self.values.push(Value {
+            field: counted.node,
+            number,
+        });
+        self.leave(counted.node, track, steps);
+        Turn::Moved
+    }
+}

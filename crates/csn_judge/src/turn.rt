@@ -1,0 +1,28 @@
+use crate::source::Source;
+
+/// What comes of one turn of the machine.
+#[derive(Clone, Copy, Debug, PartialEq, Eq)]
+pub(crate) enum Turn {
+    /// It has gone on.
+    Moved,
+    /// It cannot go on without a further bit.
+    Waits,
+    /// The bits before this place can be followed, and no further one.
+    Refused { place: u32 },
+}
+
+impl Turn {
+    ghost use Rattle.csn_judge.specs.Turns.{IsStopped};
+
+    /// Nothing takes a bit: one that is there is refused.
+    pub fn stopped(source: &Source<'_>) -> Turn
+        ensures { IsStopped source.now result }
+    {
+        let place = source.place();
+        if source.is_empty() {
+            Turn::Waits
+        } else {
+            Turn::Refused { place }
+        }
+    }
+}
