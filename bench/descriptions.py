@@ -74,18 +74,26 @@ fn main(rt: HostRuntime) -> ExitCode {
 """
 
 
-def built(folder, file):
-    """The program, built in a copy of the repository."""
+def program_of(folder, crate, files, words):
+    """A small program over the crates, built in a copy of the repository and run on the words: its line in
+    crates.txt, and its files."""
     root = Path(__file__).resolve().parent.parent
     shutil.copytree(root / "crates", folder / "crates", ignore=shutil.ignore_patterns("out"))
     shutil.copy(root / "HANDLES", folder)
-    crate = "bench_rules: csn_desc csn_grammar csn_resolve csn_look csn_certify\n"
-    (folder / "crates.txt").write_text((root / "crates.txt").read_text() + crate)
-    home = folder / "crates" / "bench_rules"
-    (home / "src").mkdir(parents=True)
-    (home / "src" / "main.rt").write_text(MAIN)
-    subprocess.run(["rt", "run", "--", "resolve", file, "D0"], cwd=home, check=True, stdout=subprocess.DEVNULL)
-    return home / "out" / "bench_rules"
+    (folder / "crates.txt").write_text((root / "crates.txt").read_text() + crate + "\n")
+    name = crate.split(":")[0]
+    home = folder / "crates" / name
+    for file, text in files.items():
+        (home / file).parent.mkdir(parents=True, exist_ok=True)
+        (home / file).write_text(text)
+    subprocess.run(["rt", "run", "--"] + words, cwd=home, check=True, stdin=subprocess.DEVNULL, stdout=subprocess.DEVNULL)
+    return home / "out" / name
+
+
+def built(folder, file):
+    """The program, built in a copy of the repository."""
+    crate = "bench_rules: csn_desc csn_grammar csn_resolve csn_look csn_certify"
+    return program_of(folder, crate, {"src/main.rt": MAIN}, ["resolve", file, "D0"])
 
 
 def run(program, job, file, name):
