@@ -142,47 +142,35 @@ fault-whole digits tail octet used w =
     ) refl)
 
 -- the unused bits of an octet are all 0 exactly where it is a multiple
-unused_zero : (octet used : ℕ) → 1 ≤ used → used ≤ 8 → octet % 2 ^ (8 - used) ≡ 0 → sum (unused_bits octet used) ≡ 0
-unused_zero octet zero some few h = absurd (omega arith)
-unused_zero octet (suc zero) some few h = omega arith
-unused_zero octet (suc (suc zero)) some few h = omega arith
-unused_zero octet (suc (suc (suc zero))) some few h = omega arith
-unused_zero octet (suc (suc (suc (suc zero)))) some few h = omega arith
-unused_zero octet (suc (suc (suc (suc (suc zero))))) some few h = omega arith
-unused_zero octet (suc (suc (suc (suc (suc (suc zero)))))) some few h = omega arith
-unused_zero octet (suc (suc (suc (suc (suc (suc (suc zero))))))) some few h = omega arith
-unused_zero octet (suc (suc (suc (suc (suc (suc (suc (suc zero)))))))) some few h = refl
-unused_zero octet (suc (suc (suc (suc (suc (suc (suc (suc (suc n))))))))) some few h = absurd (omega arith)
-
-unused_some : (octet used : ℕ) → 1 ≤ used → used ≤ 8 → 0 < octet % 2 ^ (8 - used) → 0 < sum (unused_bits octet used)
-unused_some octet zero some few h = absurd (omega arith)
-unused_some octet (suc zero) some few h = omega arith
-unused_some octet (suc (suc zero)) some few h = omega arith
-unused_some octet (suc (suc (suc zero))) some few h = omega arith
-unused_some octet (suc (suc (suc (suc zero)))) some few h = omega arith
-unused_some octet (suc (suc (suc (suc (suc zero))))) some few h = omega arith
-unused_some octet (suc (suc (suc (suc (suc (suc zero)))))) some few h = omega arith
-unused_some octet (suc (suc (suc (suc (suc (suc (suc zero))))))) some few h = omega arith
-unused_some octet (suc (suc (suc (suc (suc (suc (suc (suc zero)))))))) some few h = absurd (omega arith)
-unused_some octet (suc (suc (suc (suc (suc (suc (suc (suc (suc n))))))))) some few h = absurd (omega arith)
+unused_sum : (octet used : ℕ) → 1 ≤ used → used ≤ 8 → (octet % 2 ^ (8 - used) ≡ 0 → sum (unused_bits octet used) ≡ 0) × (0 < octet % 2 ^ (8 - used) → 0 < sum (unused_bits octet used))
+unused_sum octet zero some few = absurd (omega arith)
+unused_sum octet (suc zero) some few = (λ h. omega arith, λ h. omega arith)
+unused_sum octet (suc (suc zero)) some few = (λ h. omega arith, λ h. omega arith)
+unused_sum octet (suc (suc (suc zero))) some few = (λ h. omega arith, λ h. omega arith)
+unused_sum octet (suc (suc (suc (suc zero)))) some few = (λ h. omega arith, λ h. omega arith)
+unused_sum octet (suc (suc (suc (suc (suc zero))))) some few = (λ h. omega arith, λ h. omega arith)
+unused_sum octet (suc (suc (suc (suc (suc (suc zero)))))) some few = (λ h. omega arith, λ h. omega arith)
+unused_sum octet (suc (suc (suc (suc (suc (suc (suc zero))))))) some few = (λ h. omega arith, λ h. omega arith)
+unused_sum octet (suc (suc (suc (suc (suc (suc (suc (suc zero)))))))) some few = (λ h. refl, λ h. absurd (omega arith))
+unused_sum octet (suc (suc (suc (suc (suc (suc (suc (suc (suc n))))))))) some few = absurd (omega arith)
 
 pub fault-fill : (digits : List ℕ) (tail : Option (List ℕ)) (octet used : ℕ) → IsWhole digits tail octet used
     → 0 < octet % 2 ^ (8 - used) → fault_of (digits ++ tail_text tail) ≡ Some BadFill
 fault-fill digits tail octet used w h =
     let filled : nat_lt 0 (sum (unused_bits octet used)) ≡ true =
-    lt-ltb 0 (sum (unused_bits octet used)) (unused_some octet used w.some w.few h) in
+    lt-ltb 0 (sum (unused_bits octet used)) ((unused_sum octet used w.some w.few).1 h) in
     fault-whole digits tail octet used w ∙ (rw (w.last, filled) refl)
 
 pub fault-many : (digits : List ℕ) (tail : Option (List ℕ)) (octet used : ℕ) → IsWhole digits tail octet used
     → octet % 2 ^ (8 - used) ≡ 0 → 131072 < length digits → fault_of (digits ++ tail_text tail) ≡ Some TooManyBits
 fault-many digits tail octet used w h many =
-    let zeros = unused_zero octet used w.some w.few h in
+    let zeros = (unused_sum octet used w.some w.few).0 h in
     let past : nat_lt 131072 (length digits) ≡ true = lt-ltb _ _ many in
     fault-whole digits tail octet used w ∙ (rw (w.last, zeros, past) refl)
 
 pub fault-none : (digits : List ℕ) (tail : Option (List ℕ)) (octet used : ℕ) → IsWhole digits tail octet used
     → octet % 2 ^ (8 - used) ≡ 0 → length digits ≤ 131072 → fault_of (digits ++ tail_text tail) ≡ None
 fault-none digits tail octet used w h fits =
-    let zeros = unused_zero octet used w.some w.few h in
+    let zeros = (unused_sum octet used w.some w.few).0 h in
     let within : nat_lt 131072 (length digits) ≡ false = le-ltb _ _ fits in
     fault-whole digits tail octet used w ∙ (rw (w.last, zeros, within) refl)

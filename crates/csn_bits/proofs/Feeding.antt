@@ -1,5 +1,5 @@
 -- What a feed keeps of a line, one byte on.
-use Rattle.std.proofs.Common.{◌≡◌, ℕ, ◌+◌, ◌*◌, ◌<◌, ◌≤◌, ◌==◌, true, false, ◌&&◌, List, [], ◌∷◌, ◌++◌, length, take, Option, Some, None, is_some, unwrap_or, refl, sym, ap, ◌∙◌, arith, append_assoc, append-nil, eqb-true, inl, inr}
+use Rattle.std.proofs.Common.{◌≡◌, ℕ, ◌+◌, ◌*◌, ◌<◌, ◌≤◌, ◌==◌, Bool, true, false, ◌&&◌, List, [], ◌∷◌, ◌++◌, length, take, Option, Some, None, is_some, unwrap_or, refl, sym, ap, ◌∙◌, arith, append_assoc, append-nil, eqb-true, inl, inr}
 use Rattle.std.proofs.lemmas.Bool.{cases_Bool, and_parts}
 use Rattle.std.proofs.lemmas.List.{nil_from_length}
 use Rattle.hex.specs.Hex.{hex_digit_value, is_hex_digit}
@@ -188,21 +188,21 @@ fault-stage_bad line at waiting last column (read digits (Some []) l s w o e) is
 fault-stage_bad line at waiting last column (read digits (Some (a ∷ [])) l s w o e) is = absurd (cc)
 fault-stage_bad line at waiting last column (read digits (Some (a ∷ b ∷ tail)) l s w o e) is = absurd (cc)
 
-pub fault-stage_slash : (line : List ℕ) (at : Stage) (waiting last : Option ℕ) (count : ℕ) → Holds at waiting last line → at ≡ stage.Slash count
-    → fault_of line ≡ Some BadLength
-fault-stage_slash line at waiting last count (dot e l) is = absurd (cc)
-fault-stage_slash line at waiting last count (bad front byte back l s f other dotless e) is = absurd (cc)
-fault-stage_slash line at waiting last count (read digits None l s w o e) is = absurd (cc)
-fault-stage_slash line at waiting last count (read digits (Some []) l s w o e) is = rw l (fault-tail digits (Some []) s refl)
-fault-stage_slash line at waiting last count (read digits (Some (a ∷ [])) l s w o e) is = absurd (cc)
-fault-stage_slash line at waiting last count (read digits (Some (a ∷ b ∷ tail)) l s w o e) is = absurd (cc)
+-- a tail that is not one byte
+abbrev pub no_tail : Stage → Bool
+no_tail stage.Digits = false
+no_tail stage.Dot = false
+no_tail (stage.BadDigit column) = false
+no_tail (stage.Slash digits) = true
+no_tail (stage.Tail digits byte) = false
+no_tail stage.LongTail = true
 
-pub fault-stage_long : (line : List ℕ) (at : Stage) (waiting last : Option ℕ) → Holds at waiting last line → at ≡ stage.LongTail
+pub fault-stage_tail : (line : List ℕ) (at : Stage) (waiting last : Option ℕ) → Holds at waiting last line → no_tail at ≡ true
     → fault_of line ≡ Some BadLength
-fault-stage_long line at waiting last (dot e l) is = absurd (cc)
-fault-stage_long line at waiting last (bad front byte back l s f other dotless e) is = absurd (cc)
-fault-stage_long line at waiting last (read digits None l s w o e) is = absurd (cc)
-fault-stage_long line at waiting last (read digits (Some []) l s w o e) is = absurd (cc)
-fault-stage_long line at waiting last (read digits (Some (a ∷ [])) l s w o e) is = absurd (cc)
-fault-stage_long line at waiting last (read digits (Some (a ∷ b ∷ tail)) l s w o e) is =
+fault-stage_tail line at waiting last (dot e l) is = absurd (cc)
+fault-stage_tail line at waiting last (bad front byte back l s f other dotless e) is = absurd (cc)
+fault-stage_tail line at waiting last (read digits None l s w o e) is = absurd (cc)
+fault-stage_tail line at waiting last (read digits (Some []) l s w o e) is = rw l (fault-tail digits (Some []) s refl)
+fault-stage_tail line at waiting last (read digits (Some (a ∷ [])) l s w o e) is = absurd (cc)
+fault-stage_tail line at waiting last (read digits (Some (a ∷ b ∷ tail)) l s w o e) is =
     rw l (fault-tail digits (Some (a ∷ b ∷ tail)) s refl)

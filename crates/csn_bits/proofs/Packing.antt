@@ -1,6 +1,7 @@
 -- Bits into octets and back. Other crates cite this.
 use Rattle.std.proofs.Common.{◌≡◌, ℕ, zero, suc, ◌+◌, ◌-◌, ◌*◌, ◌/◌, ◌%◌, ◌^◌, ◌<◌, ◌≤◌, List, [], ◌∷◌, ◌++◌, length, take, drop, set, get_or, slice_index, refl, sym, ap, ◌∙◌, arith, length-append, append_assoc}
 use Rattle.std.specs.Prelude.{replicate}
+use Rattle.std.proofs.Math.Nat.{div-mul-le_self, pow-le-pow_right}
 use Rattle.std.proofs.lemmas.List.{length-take-le, get_or-take, get_or_read, get_or-set_same, set_split, take-take, drop_all}
 use Rattle.std.proofs.Math.Seq.{drop-append-add}
 use Rattle.csn_bits.specs.Octets.{IsBits, IsPacked, bits_of_octet, bits_of_octets, octet_of, octets_of}
@@ -297,15 +298,7 @@ packs_first octets len bit p room small whole =
     (IsBits-append old (bit ∷ []) p.bits (small, tt)) (omega arith)
 
 pub power_small : (k : ℕ) → k ≤ 7 → 2 ^ k ≤ 128
-power_small zero h = omega arith
-power_small (suc zero) h = omega arith
-power_small (suc (suc zero)) h = omega arith
-power_small (suc (suc (suc zero))) h = omega arith
-power_small (suc (suc (suc (suc zero)))) h = omega arith
-power_small (suc (suc (suc (suc (suc zero))))) h = omega arith
-power_small (suc (suc (suc (suc (suc (suc zero)))))) h = omega arith
-power_small (suc (suc (suc (suc (suc (suc (suc zero))))))) h = omega arith
-power_small (suc (suc (suc (suc (suc (suc (suc (suc k)))))))) h = absurd (omega arith)
+power_small k h = pow-le-pow_right (omega arith) h
 
 -- a bit in its place fits an octet
 weighed : (bit used : ℕ) → bit ≤ 1 → bit * 2 ^ (7 - used) % 256 ≡ bit * 2 ^ (7 - used)
@@ -363,17 +356,13 @@ packs_whole octets n bytes within few whole =
     (IsBits-take n (bits_of_octets octets) (IsBits-bits_of_octets octets bytes)) few
 
 -- an octet without its last bits is an octet
-cleared_small : (octet used : ℕ) → octet < 256 → 0 < used → used < 8
+cleared_small : (octet used : ℕ) → octet < 256
     → octet / 2 ^ (8 - used) * 2 ^ (8 - used) % 256 ≡ octet / 2 ^ (8 - used) * 2 ^ (8 - used)
-cleared_small octet zero small some few = absurd (omega arith)
-cleared_small octet (suc zero) small some few = omega arith
-cleared_small octet (suc (suc zero)) small some few = omega arith
-cleared_small octet (suc (suc (suc zero))) small some few = omega arith
-cleared_small octet (suc (suc (suc (suc zero)))) small some few = omega arith
-cleared_small octet (suc (suc (suc (suc (suc zero))))) small some few = omega arith
-cleared_small octet (suc (suc (suc (suc (suc (suc zero)))))) small some few = omega arith
-cleared_small octet (suc (suc (suc (suc (suc (suc (suc zero))))))) small some few = omega arith
-cleared_small octet (suc (suc (suc (suc (suc (suc (suc (suc used)))))))) small some few = absurd (omega arith)
+cleared_small octet used small =
+    mod_small (octet / 2 ^ (8 - used) * 2 ^ (8 - used)) (omega (arith, div-mul-le_self octet (2 ^ (8 - used))))
+  where
+    mod_small : (n : ℕ) → n < 256 → n % 256 ≡ n
+    mod_small n few = omega arith
 
 -- the octets where the last of them is not whole
 octets_part : (octets : List ℕ) (n octet : ℕ) → AreOctets octets → n ≤ 8 * length octets → 0 < n % 8
@@ -388,7 +377,7 @@ octets_part octets n octet bytes within part read =
     get_or_read front q octet (omega (arith, long)) read 0 ∙ get_or-take (q + 1) octets q 0 (omega arith) in
     let small : octet < 256 = rw is (bytes q) in
     let new : ℕ = octet / 2 ^ (8 - n % 8) * 2 ^ (8 - n % 8) in
-    let mended = cleared_small octet (n % 8) small part (omega arith) in
+    let mended = cleared_small octet (n % 8) small in
     let split : set front q new ≡ take q front ++ new ∷ drop (suc q) front = set_split front q new (omega (arith, long)) in
     let before : take q front ≡ take q octets = take-take q (q + 1) octets (omega arith) in
     let after : drop (suc q) front ≡ [] = drop_all (suc q) front (omega (arith, long)) in

@@ -2,7 +2,7 @@
 use Rattle.std.proofs.Common.{◌≡◌, ℕ, suc, ◌≤◌, List, [], ◌∷◌, ◌++◌, length, refl, sym, ap, arith, subst, lit<}
 use Rattle.std.specs.Prelude.{replicate}
 use Rattle.csn_bits.specs.Octets.{IsBits, bits_of_octet, pattern, octet_position}
-use Rattle.csn_bits.proofs.Packing.{IsBits-at, IsBits-bits_of_octet}
+use Rattle.csn_bits.proofs.Packing.{IsBits-append, IsBits-at, IsBits-bits_of_octet}
 use Rattle.csn_desc.specs.declared.reading.Reading.{Reading}
 use Rattle.csn_desc.specs.declared.reading.Reading.TheVariants.{Received, Sent}
 use Rattle.csn_desc.specs.declared.symbol.Symbol.{Symbol}
@@ -15,6 +15,14 @@ IsBits-front (x ∷ a) b p = (p.0, IsBits-front a b p.1)
 
 pub IsBits-along : {a b : List ℕ} → a ≡ b → IsBits b → IsBits a
 IsBits-along {a} {b} e p = let P : List ℕ → Type 0 = λ l. IsBits l in subst P (sym e) p
+
+-- a whole of two pieces
+pub IsBits-split : {w : List ℕ} (b1 b2 : List ℕ) → w ≡ b1 ++ b2 → IsBits b1 → IsBits b2 → IsBits w
+IsBits-split b1 b2 e p q = IsBits-along e (IsBits-append b1 b2 p q)
+
+-- the first few of some bits
+pub IsBits-cut : {w : List ℕ} (b rest : List ℕ) → w ≡ b ++ rest → IsBits w → IsBits b
+IsBits-cut b rest e p = IsBits-front b rest (IsBits-along (sym e) p)
 
 pub pattern-le-one : (position : ℕ) → pattern position ≤ 1
 pattern-le-one position = IsBits-at (bits_of_octet 0x2B) position (IsBits-bits_of_octet 0x2B (lit< tt))

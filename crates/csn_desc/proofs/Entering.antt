@@ -67,28 +67,13 @@ TakesOne n have = (parts : ℕ) × (have < parts) × HasParts (head_of n) parts
 
 -- a node whose parts were begun, and that takes one more
 more_added : (n : Node) (p : ℕ) → TakesOne n (length (parts_of n)) → parts_of (with_part p n) ≡ parts_of n ++ p ∷ []
-more_added (Lits run) p h = absurd (omega (arith, h.1, h.2))
-more_added (Spare symbol) p h = absurd (omega (arith, h.1, h.2))
-more_added Pad p h = absurd (omega (arith, h.1, h.2))
-more_added Null p h = absurd (omega (arith, h.1, h.2))
-more_added (Field unit count) p h = absurd (omega (arith, h.1, h.2))
-more_added Rest p h = absurd (omega (arith, h.1, h.2))
 more_added (Seq parts) p h = refl
 more_added (Choice parts) p h = refl
-more_added (Times count part) p h = absurd (omega (arith, h.1, h.2))
-more_added (Many part) p h = absurd (omega (arith, h.1, h.2))
 more_added (Trunc parts) p h = refl
-more_added (Window unit count part) p h = absurd (omega (arith, h.1, h.2))
-more_added (Named label part) p h = absurd (omega (arith, h.1, h.2))
+more_added _ p h = absurd (omega (arith, h.1, h.2))
 
 -- one whose parts were not begun
 first_head : (h : Head) (p : ℕ) → TakesOne (node_of h p) 0 → parts_of (with_part p (node_of h p)) ≡ p ∷ []
-first_head (head.Lits run) p h = absurd (omega (arith, h.1, h.2))
-first_head (head.Spare symbol) p h = absurd (omega (arith, h.1, h.2))
-first_head head.Pad p h = absurd (omega (arith, h.1, h.2))
-first_head head.Null p h = absurd (omega (arith, h.1, h.2))
-first_head (head.Field unit count) p h = absurd (omega (arith, h.1, h.2))
-first_head head.Rest p h = absurd (omega (arith, h.1, h.2))
 first_head head.Seq p h = refl
 first_head head.Choice p h = refl
 first_head (head.Times count) p h = refl
@@ -96,6 +81,7 @@ first_head head.Many p h = refl
 first_head head.Trunc p h = refl
 first_head (head.Window unit count) p h = refl
 first_head (head.Named label) p h = refl
+first_head _ p h = absurd (omega (arith, h.1, h.2))
 
 first_added : (n : Node) (p : ℕ) → n ≡ node_of (head_of n) p → TakesOne n 0 → parts_of (with_part p n) ≡ p ∷ []
 first_added n p e h =

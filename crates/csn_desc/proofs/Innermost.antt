@@ -1,5 +1,5 @@
 -- The innermost node of a builder is the last of its list.
-use Rattle.std.proofs.Common.{◌≡◌, ℕ, zero, suc, ◌-◌, ◌+◌, ◌<◌, ◌≤◌, Bool, true, false, List, [], ◌∷◌, ◌++◌, length, reverse, take, refl, sym, ◌∙◌, ap, subst, arith, Option, Some, None, option_to_list, nat_lt, ltb-true, ltb-false, append-nil, length-append, set, get_or, ◌↔◌, IsTrue, if◌then◌else◌, IsSomeAnd, Result, Ok, Err, is_err, OnOk, ◌==◌, ◌⊎◌, inl, inr, eq-eqb, eq-or-lt_of_le}
+use Rattle.std.proofs.Common.{◌≡◌, ℕ, zero, suc, ◌-◌, ◌+◌, ◌<◌, ◌≤◌, Bool, true, false, List, [], ◌∷◌, ◌++◌, length, reverse, take, refl, sym, ◌∙◌, ap, subst, arith, Option, Some, None, option_to_list, nat_lt, ltb-true, ltb-false, append-nil, length-append, set, get_or, Result, Ok, Err, is_err, OnOk, ◌==◌, ◌⊎◌, inl, inr, eq-eqb, eq-or-lt_of_le}
 use Rattle.std.specs.Prelude.{slice_get, ◌&&◌, ◌||◌}
 use Rattle.std.specs.List.{list_any}
 use Rattle.std.proofs.lemmas.List.{reverse-append, set-append_left, length-reverse}
@@ -8,7 +8,7 @@ use Rattle.csn_desc.specs.declared.node.Head.{Head}
 use Rattle.csn_desc.specs.declared.node.Head.TheVariants as head
 use Rattle.csn_desc.specs.declared.reading.Reading.{Reading}
 use Rattle.csn_desc.specs.Nodes.{head_of, parts_of}
-use Rattle.csn_desc.specs.Building.{node_of, with_part, set_part, part_begun, begun_parts, Takes, HasItsParts}
+use Rattle.csn_desc.specs.Building.{node_of, with_part, set_part, part_begun, Takes, HasItsParts}
 use Rattle.csn_desc.specs.Laid.{PartsLaid, laid_end, laid_next}
 use Rattle.csn_desc.specs.Standing.{Chain, chain_in, Stands}
 use Rattle.csn_desc.proofs.WellFormed.{laid_behind}
@@ -55,18 +55,9 @@ node_at_index [] i n within is = absurd (omega (arith, within))
 node_at_index (m ∷ nodes) zero n within is = ap Some (sym is)
 node_at_index (m ∷ nodes) (suc i) n within is = node_at_index nodes i n (omega (arith, within)) is
 
--- what is answered of the innermost node and those of its parts that were begun
-pub answered_top :
-    (F : Node → List ℕ → Type 0) (answer : Bool) (nodes : List Node) (items : List ℕ) (i next count : ℕ) (n : Node)
-    → Stands nodes (reverse items) → slice_get items (length items - 1) ≡ Some i → n ≡ get_or nodes i n → next ≡ suc i → count ≡ length nodes
-    → (IsTrue answer ↔ F n (if nat_lt next count then parts_of n else []))
-    → IsTrue answer ↔ IsSomeAnd (slice_get nodes i) (λ m. F m (begun_parts nodes i m))
-answered_top F answer nodes items i next count n s at read is long h =
-    let node = node_at_index nodes i n (top_within nodes items i at s) read in
-    let M : ℕ → Type 0 = λ j. IsTrue answer ↔ F n (if nat_lt j count then parts_of n else []) in
-    let N : ℕ → Type 0 = λ k. IsTrue answer ↔ F n (if nat_lt (suc i) k then parts_of n else []) in
-    let P : Option Node → Type 0 = λ o. IsTrue answer ↔ IsSomeAnd o (λ m. F m (begun_parts nodes i m)) in
-    subst P (sym node) (subst N long (subst M is h))
+-- the last number of a list that was read
+pub last_read : {seen items : List ℕ} {i : ℕ} → seen ≡ items → Some i ≡ slice_get seen (length seen - 1) → slice_get items (length items - 1) ≡ Some i
+last_read same at = sym (ap (λ l. slice_get l (length l - 1)) same) ∙ sym at
 
 -- ---- a node is left
 

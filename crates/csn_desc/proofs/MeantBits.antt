@@ -1,7 +1,6 @@
 -- Bits that have a tree are zeros and ones, and so are bits that are followed.
-use Rattle.std.proofs.Common.{◌≡◌, ℕ, List, ◌++◌, sym}
+use Rattle.std.proofs.Common.{ℕ, List}
 use Rattle.csn_bits.specs.Octets.{IsBits}
-use Rattle.csn_bits.proofs.Packing.{IsBits-append}
 use Rattle.csn_desc.specs.declared.symbol.Symbol.TheVariants.{Low}
 use Rattle.csn_desc.specs.declared.node.Node.{Node}
 use Rattle.csn_desc.specs.TreeV.{TreeV, Trees}
@@ -9,14 +8,7 @@ use Rattle.csn_desc.specs.Nodes.{DescV}
 use Rattle.csn_desc.specs.Values.{Values}
 use Rattle.csn_desc.specs.Means.{NMeans, NodeMeans, PartsMean, TimesMean, ManyMean, LeadMean, means_at, means_lits, means_spare, means_pad, means_null, means_field, means_rest, means_seq, means_choice, means_times, means_many, means_cut, means_trunc, means_window, means_named, parts_end, parts_next, times_end, times_next, many_end, many_next, lead_last, lead_next}
 use Rattle.csn_desc.specs.Follows.{NFollow, NodeFollows, PartsFollow, TimesFollow, ManyFollow, follows_at, follows_whole, follows_lits, follows_spare, follows_pad, follows_field, follows_seq, follows_choice, follows_times, follows_many, follows_trunc, follows_window, follows_named, parts_here, parts_later, times_here, times_later, many_here, many_later}
-use Rattle.csn_desc.proofs.BitFacts.{IsBits-front, IsBits-along, IsBits-spelled, IsBits-spare}
-
-IsBits-split : {w : List ℕ} (b1 b2 : List ℕ) → w ≡ b1 ++ b2 → IsBits b1 → IsBits b2 → IsBits w
-IsBits-split b1 b2 e p q = IsBits-along e (IsBits-append b1 b2 p q)
-
--- the first few of some bits
-IsBits-cut : {w : List ℕ} (b rest : List ℕ) → w ≡ b ++ rest → IsBits w → IsBits b
-IsBits-cut b rest e p = IsBits-front b rest (IsBits-along (sym e) p)
+use Rattle.csn_desc.proofs.BitFacts.{IsBits-along, IsBits-split, IsBits-cut, IsBits-spelled, IsBits-spare}
 
 module _ (d : DescV) where
   mutual

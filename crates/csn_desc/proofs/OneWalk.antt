@@ -49,16 +49,14 @@ module _ (d : DescV) where
 
     repeats_list : {i o : ℕ} {ts us : Trees} {a c : List Move} → RepeatsWalk d i o ts a → RepeatsWalk d i o us c → ts ≡ us → a ≡ c
     repeats_list (repeats_end left) (repeats_end right) same = left ∙ sym right
-    repeats_list (repeats_end left) (repeats_next f r right w ws) same = cc
-    repeats_list (repeats_next f r left w ws) (repeats_end right) same = cc
     repeats_list (repeats_next {i = i} {o = o} f1 r1 left w1 ws1) (repeats_next {ts = us} f2 r2 right w2 ws2) same =
         let first = one_list w1 w2 (cc) in
         both_pieces f1 r1 f2 r2 left right first (repeats_list ws1 (walk_moved d (λ k ms. RepeatsWalk d i k us ms) o first ws2) (cc))
+    repeats_list _ _ same = cc
 
     lead_list : {parts : List ℕ} {o : ℕ} {ts us : Trees} {a c : List Move} → LeadWalk d parts o ts a → LeadWalk d parts o us c → ts ≡ us → a ≡ c
     lead_list (lead_end left) (lead_end right) same = left ∙ sym right
-    lead_list (lead_end left) (lead_next f r right w ws) same = cc
-    lead_list (lead_next f r left w ws) (lead_end right) same = cc
     lead_list (lead_next {parts = parts} {o = o} f1 r1 left w1 ws1) (lead_next {ts = us} f2 r2 right w2 ws2) same =
         let first = one_list w1 w2 (cc) in
         both_pieces f1 r1 f2 r2 left right first (lead_list ws1 (walk_moved d (λ k ms. LeadWalk d parts k us ms) o first ws2) (cc))
+    lead_list _ _ same = cc

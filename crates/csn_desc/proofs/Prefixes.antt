@@ -1,21 +1,13 @@
 -- Every prefix of bits that are followed is followed.
-use Rattle.std.proofs.Common.{◌≡◌, ℕ, List, [], ◌∷◌, ◌++◌, ◌⊎◌, inl, inr, length, refl, sym, ◌∙◌, ap, arith, append_assoc, length-append}
+use Rattle.std.proofs.Common.{◌≡◌, ℕ, List, ◌++◌, ◌⊎◌, inl, inr, length, sym, ◌∙◌, ap, arith, length-append}
 use Rattle.csn_desc.specs.declared.node.Node.{Node}
 use Rattle.csn_desc.specs.TreeV.{TreeV, empty, bits, row, Trees, none, more}
 use Rattle.csn_desc.specs.Nodes.{DescV}
 use Rattle.csn_desc.specs.Values.{Values}
 use Rattle.csn_desc.specs.Means.{NMeans, NodeMeans, PartsMean, TimesMean, ManyMean, LeadMean, means_at, means_lits, means_spare, means_pad, means_null, means_field, means_rest, means_seq, means_choice, means_times, means_many, means_cut, means_trunc, means_window, means_named, parts_end, parts_next, times_end, times_next, many_end, many_next, lead_last, lead_next}
 use Rattle.csn_desc.specs.Follows.{NFollow, NodeFollows, PartsFollow, TimesFollow, ManyFollow, follows_at, follows_whole, follows_lits, follows_spare, follows_pad, follows_field, follows_seq, follows_choice, follows_times, follows_many, follows_trunc, follows_window, follows_named, parts_here, parts_later, times_here, times_later, many_here, many_later}
-use Rattle.csn_desc.proofs.Splits.{inside, behind, splits}
+use Rattle.csn_desc.proofs.Splits.{inside, behind, splits, front_empty, cut_again}
 use Rattle.csn_desc.proofs.BitFacts.{IsBits-front, IsBits-along}
-
-none_before : {A : Type 0} (b c : List A) → [] ≡ b ++ c → b ≡ []
-none_before [] c e = refl
-none_before (x ∷ b) c e = cc
-
--- bits cut from a whole, cut once more
-again : {A : Type 0} {w : List A} (l b c r : List A) → w ≡ l ++ r → l ≡ b ++ c → w ≡ b ++ (c ++ r)
-again l b c r p q = p ∙ ap (λ m. m ++ r) q ∙ append_assoc b c r
 
 module _ (d : DescV) where
   -- bits are followed by some parts, or have trees for all of them
@@ -38,7 +30,7 @@ module _ (d : DescV) where
     node_begins {w = w} (means_lits h) b c e = follows_lits w c e (means_lits h)
     node_begins {w = w} (means_spare one h) b c e = follows_spare w c e (means_spare one h)
     node_begins {w = w} (means_pad some h) b c e = follows_pad w c e (means_pad some h)
-    node_begins (means_null h) b c e = follows_whole empty (means_null (none_before b c (sym h ∙ e)))
+    node_begins (means_null h) b c e = follows_whole empty (means_null (front_empty b c (sym e ∙ h)))
     node_begins {w = w} (means_field k count wide h) b c e = follows_field w c e (means_field k count wide h)
     node_begins (means_rest h) b c e = follows_whole (bits b) (means_rest (IsBits-front b c (IsBits-along (sym e) h)))
     node_begins (means_seq h) b c e =
@@ -48,13 +40,13 @@ module _ (d : DescV) where
         elim (times_begin h b c e) [ inl f ↦ follows_times k count f | inr whole ↦ follows_whole (row whole.0) (means_times k count whole.1) ]
     node_begins (means_many h) b c e =
         elim (many_begin h b c e) [ inl f ↦ follows_many f | inr whole ↦ follows_whole (row whole.0) (means_many whole.1) ]
-    node_begins (means_cut h) b c e = follows_whole (row none) (means_cut (none_before b c (sym h ∙ e)))
+    node_begins (means_cut h) b c e = follows_whole (row none) (means_cut (front_empty b c (sym e ∙ h)))
     node_begins (means_trunc h) b c e = follows_trunc (lead_begins h b c e)
     node_begins {w = w} (means_window k count wide h) b c e = follows_window k count (omega (arith, ap length e, length-append b c)) (begins h b c e)
     node_begins (means_named h) b c e = follows_named (begins h b c e)
 
     parts_begin : {parts : List ℕ} {o : ℕ} {v : Values} {w : List ℕ} {ts : Trees} → PartsMean d parts o v w ts → (b c : List ℕ) → w ≡ b ++ c → PartsBegun parts o v b
-    parts_begin (parts_end h) b c e = inr (none, parts_end (none_before b c (sym h ∙ e)))
+    parts_begin (parts_end h) b c e = inr (none, parts_end (front_empty b c (sym e ∙ h)))
     parts_begin (parts_next {t = t} b1 b2 cut h more_parts) b c e =
         elim (splits b1 b2 b c (sym cut ∙ e)) [
           | inside m p q ↦ inl (parts_here (begins h b m p))
@@ -65,7 +57,7 @@ module _ (d : DescV) where
         ]
 
     times_begin : {n i o : ℕ} {v : Values} {w : List ℕ} {ts : Trees} → TimesMean d n i o v w ts → (b c : List ℕ) → w ≡ b ++ c → TimesBegun n i o v b
-    times_begin (times_end zero h) b c e = inr (none, times_end zero (none_before b c (sym h ∙ e)))
+    times_begin (times_end zero h) b c e = inr (none, times_end zero (front_empty b c (sym e ∙ h)))
     times_begin (times_next {t = t} m is b1 b2 cut h others) b c e =
         elim (splits b1 b2 b c (sym cut ∙ e)) [
           | inside r p q ↦ inl (times_here (omega arith) (begins h b r p))
@@ -76,7 +68,7 @@ module _ (d : DescV) where
         ]
 
     many_begin : {i o : ℕ} {v : Values} {w : List ℕ} {ts : Trees} → ManyMean d i o v w ts → (b c : List ℕ) → w ≡ b ++ c → ManyBegun i o v b
-    many_begin (many_end h) b c e = inr (none, many_end (none_before b c (sym h ∙ e)))
+    many_begin (many_end h) b c e = inr (none, many_end (front_empty b c (sym e ∙ h)))
     many_begin (many_next {t = t} b1 b2 cut some h others) b c e =
         elim (splits b1 b2 b c (sym cut ∙ e)) [
           | inside r p q ↦ inl (many_here (begins h b r p))
@@ -102,10 +94,10 @@ module _ (d : DescV) where
 
     node_prefix : {n : Node} {o : ℕ} {v : Values} {w : List ℕ} → NodeFollows d n o v w → (b c : List ℕ) → w ≡ b ++ c → NodeFollows d n o v b
     node_prefix (follows_whole t h) b c e = node_begins h b c e
-    node_prefix {w = w} (follows_lits whole rest cut h) b c e = follows_lits whole (c ++ rest) (again w b c rest cut e) h
-    node_prefix {w = w} (follows_spare whole rest cut h) b c e = follows_spare whole (c ++ rest) (again w b c rest cut e) h
-    node_prefix {w = w} (follows_pad whole rest cut h) b c e = follows_pad whole (c ++ rest) (again w b c rest cut e) h
-    node_prefix {w = w} (follows_field whole rest cut h) b c e = follows_field whole (c ++ rest) (again w b c rest cut e) h
+    node_prefix {w = w} (follows_lits whole rest cut h) b c e = follows_lits whole (c ++ rest) (cut_again w b c rest cut e) h
+    node_prefix {w = w} (follows_spare whole rest cut h) b c e = follows_spare whole (c ++ rest) (cut_again w b c rest cut e) h
+    node_prefix {w = w} (follows_pad whole rest cut h) b c e = follows_pad whole (c ++ rest) (cut_again w b c rest cut e) h
+    node_prefix {w = w} (follows_field whole rest cut h) b c e = follows_field whole (c ++ rest) (cut_again w b c rest cut e) h
     node_prefix (follows_seq h) b c e = follows_seq (parts_prefix h b c e)
     node_prefix (follows_choice j at h) b c e = follows_choice j at (prefix_followed h b c e)
     node_prefix (follows_times k count h) b c e = follows_times k count (times_prefix h b c e)

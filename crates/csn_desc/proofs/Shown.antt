@@ -132,19 +132,9 @@ module _ (nodes : List Node) (field : ℕ) where
       (or_either (has_shown field (slice_get nodes i)) (list_any (λ k. has_shown field (slice_get nodes k)) rest) any)
 
   none_entered : (h : Head) (next : ℕ) → shows_earlier (node_of h next) ≡ true → parts_of (node_of h next) ≡ []
-  none_entered (head.Lits run) next h = cc
-  none_entered (head.Spare symbol) next h = cc
-  none_entered head.Pad next h = cc
-  none_entered head.Null next h = cc
-  none_entered (head.Field unit count) next h = cc
-  none_entered head.Rest next h = cc
   none_entered head.Seq next h = refl
-  none_entered head.Choice next h = cc
-  none_entered (head.Times count) next h = cc
-  none_entered head.Many next h = cc
   none_entered head.Trunc next h = refl
-  none_entered (head.Window unit count) next h = cc
-  none_entered (head.Named label) next h = cc
+  none_entered _ next h = cc
 
   top_of : (around parts : List ℕ) (end : ℕ) → length nodes ≡ end → AreParts nodes around parts end → TopHas around parts
   top_of [] parts end long are = tt

@@ -1,5 +1,5 @@
 -- Two splits of one list. Other crates cite this.
-use Rattle.std.proofs.Common.{◌≡◌, List, [], ◌∷◌, ◌++◌, refl, sym, ap, subst}
+use Rattle.std.proofs.Common.{◌≡◌, List, [], ◌∷◌, ◌++◌, refl, sym, ◌∙◌, ap, subst, append_assoc}
 
 -- where the first piece of one split ends: inside the first piece of the other, or behind it
 pub data Splits {A : Type 0} (a b c e : List A) : Type 0 where
@@ -18,6 +18,10 @@ splits {A} (x ∷ a) b (y ∷ c) e p =
     let rest : a ++ b ≡ c ++ e = cc in
     let P : A → Type 0 = λ z. Splits (x ∷ a) b (z ∷ c) e in
     subst P same (longer x (splits a b c e rest))
+
+-- the first piece of a list, cut once more
+pub cut_again : {A : Type 0} {w : List A} (l b c r : List A) → w ≡ l ++ r → l ≡ b ++ c → w ≡ b ++ (c ++ r)
+cut_again l b c r p q = p ∙ ap (λ m. m ++ r) q ∙ append_assoc b c r
 
 -- both pieces of the empty list are empty
 pub front_empty : {A : Type 0} (a b : List A) → a ++ b ≡ [] → a ≡ []

@@ -1,4 +1,4 @@
-ghost use Rattle.std.specs.Prelude.{◌≡◌, ◌<◌, ◌≤◌, ◌↔◌, IsTrue, ℕ, [], length, IfOk, OnOk, OnErr};
+ghost use Rattle.std.specs.Prelude.{◌≡◌, ◌<◌, ◌≤◌, ◌↔◌, IsTrue, ℕ, suc, nat_lt, List, [], ◌∷◌, length, slice_get, Some, MatchOption, IfOk, OnOk, OnErr};
 ghost use Rattle.csn_desc.specs.Heads.{IsNextCount};
 ghost use Rattle.csn_desc.specs.Building.{entered, left, is_shown, TakesPart, IsNextHead, Takes, MayLeave, IsWhole};
 ghost use Rattle.csn_desc.specs.Overfull.{IsOverfull, IsFirstOverfull};
@@ -112,12 +112,9 @@ impl DescBuilder {
     pub fn may_leave(&self) -> bool
         ensures { IsTrue result ↔ MayLeave self.now }
     {
-        match self.around.last() {
+        match self.innermost() {
             None => false,
-            Some(innermost) => {
-                let at = *innermost as usize;
-                has_its_parts(&self.nodes[at], at + 1 < self.nodes.len())
-            }
+            Some((node, begun)) => has_its_parts(node, begun),
         }
     }
 
@@ -152,13 +149,18 @@ impl DescBuilder {
     fn takes_part(&self) -> bool
         ensures { IsTrue result ↔ TakesPart self.now.nodes self.now.around }
     {
-        match self.around.last() {
+        match self.innermost() {
             None => self.nodes.is_empty(),
-            Some(innermost) => {
-                let at = *innermost as usize;
-                takes_another(&self.nodes[at], at + 1 < self.nodes.len())
-            }
+            Some((node, begun)) => takes_another(node, begun),
         }
+    }
+
+    /// The innermost node, and whether a part of it was entered.
+    fn innermost(&self) -> Option<(&Node, bool)>
+        ensures { MatchOption result (self.now.around ≡ []) (λ found. (i : ℕ) × (rest : List ℕ) × (self.now.around ≡ i ∷ rest) × (slice_get self.now.nodes i ≡ Some found.0.now) × (found.1 ≡ nat_lt (suc i) (length self.now.nodes))) }
+    {
+        let at = *self.around.last()? as usize;
+        Some((&self.nodes[at], at + 1 < self.nodes.len()))
     }
 
     /// Whether the head is well formed where the next node begins.

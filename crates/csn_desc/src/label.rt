@@ -62,10 +62,8 @@ impl Label {
     pub fn copy(&self, alloc: Global) -> Result<Label, NoMemory>
         ensures { IfOk result (λ label. label ≡ self.now) }
     {
-        match Vec::from_slice(alloc, self.bytes.as_slice()) {
-            Ok(bytes) => Ok(Label { bytes }),
-            Err(_) => Err(NoMemory),
-        }
+        let bytes = Vec::from_slice(alloc, self.bytes.as_slice())?;
+        Ok(Label { bytes })
     }
 }
 

@@ -39,10 +39,7 @@ impl Parts {
         ensures ok { OnOk result (self.new ≡ self.old ++ part ∷ []) }
         ensures err { OnErr result (self.new ≡ self.old) }
     {
-        match self.numbers.push(part) {
-            Ok(()) => Ok(()),
-            Err(_) => Err(NoMemory),
-        }
+        Ok(self.numbers.push(part)?)
     }
 
     /// How many parts there are.

@@ -42,10 +42,7 @@ impl Run {
         ensures ok { OnOk result (self.new ≡ self.old ++ symbol ∷ []) }
         ensures err { OnErr result (self.new ≡ self.old) }
     {
-        match self.symbols.push(symbol) {
-            Ok(()) => Ok(()),
-            Err(_) => Err(NoMemory),
-        }
+        Ok(self.symbols.push(symbol)?)
     }
 
     /// How many symbols there are.

@@ -1,12 +1,11 @@
 -- What a state stands for begins the text of some tree.
-use Rattle.std.specs.Prelude.{nat_le, slice_index, replicate}
-use Rattle.std.proofs.Common.{◌≡◌, ℕ, zero, suc, ◌+◌, ◌-◌, ◌*◌, ◌/◌, ◌%◌, ◌<◌, ◌≤◌, Bool, true, false, ◌&&◌, List, [], ◌∷◌, ◌++◌, length, Option, Some, None, refl, sym, ap, ◌∙◌, subst, arith, append_assoc, append-nil, length-append}
+use Rattle.std.specs.Prelude.{slice_index, replicate}
+use Rattle.std.proofs.Common.{◌≡◌, ℕ, zero, suc, ◌+◌, ◌-◌, ◌*◌, ◌/◌, ◌%◌, ◌<◌, ◌≤◌, List, [], ◌∷◌, ◌++◌, length, Option, Some, None, refl, sym, ap, ◌∙◌, subst, arith, append_assoc, append-nil, length-append}
 use Rattle.std.proofs.lemmas.List.{length-replicate}
 use Rattle.std.specs.Fmt.{decimal}
-use Rattle.std.proofs.lemmas.Bool.{lt-leb}
 use Rattle.std.proofs.lemmas.List.{map-append, length_push}
 use Rattle.csn_treetext.specs.declared.stack.TheConstants.{MOST_ROUND}
-use Rattle.csn_treetext.specs.declared.bounds.TheConstants.{MOST_LEVELS, MOST_SHORT, MOST_OCTETS}
+use Rattle.csn_treetext.specs.declared.bounds.TheConstants.{MOST_LEVELS, MOST_OCTETS}
 use Rattle.csn_bits.specs.declared.bits.TheConstants.{MOST_BITS}
 use Rattle.hex.specs.Hex.{encode_upper, encode_with, upper_digits}
 use Rattle.csn_bits.specs.Octets.{IsBits}
@@ -19,13 +18,13 @@ use Rattle.csn_treetext.specs.declared.stack.Frame.{Frame}
 use Rattle.csn_treetext.specs.declared.stack.Frame.TheVariants.{Row, Alt, Named}
 use Rattle.csn_treetext.specs.declared.mode.Mode.{Mode}
 use Rattle.csn_treetext.specs.declared.mode.Mode.TheVariants.{Start, Opened, Behind, Done, Width, Quote, Value, Hash, Number, Name, NameEnd, Octets, Slash, Bare}
-use Rattle.csn_treetext.specs.Text.{text_of, row_text, bit_digits, is_short}
+use Rattle.csn_treetext.specs.Text.{text_of, row_text, bit_digits}
 use Rattle.csn_treetext.specs.Place.{BeginsText}
 use Rattle.csn_bits.specs.Numbers.{low_bits}
 use Rattle.csn_treetext.specs.reader.Numeral.{greatest_of}
 use Rattle.csn_treetext.specs.reader.Machine.{state, AreOctets, AreDigits, cut_octets}
 use Rattle.csn_treetext.proofs.Names.{closed_label}
-use Rattle.csn_treetext.proofs.OctetLeaves.{encode_upper-push, cut_text}
+use Rattle.csn_treetext.proofs.OctetLeaves.{encode_upper-push, long_is_other, cut_text}
 use Rattle.csn_treetext.proofs.Spelled.{spaced, before, behind, high_text, IsTree, AreTrees-push, IsStack, HasTree, StandsFor, level_low, row_is_tree, spaced-push}
 use Rattle.csn_treetext.proofs.WholeTrees.{number_text, number_is_tree, cut_is_tree}
 use Rattle.csn_treetext.proofs.LeafSteps.{AreOctets-push}
@@ -126,21 +125,12 @@ digits_begin stack octets (Some high) h are m =
 
 -- ---- bits that have begun
 
-not_short : (b : List ℕ) → 65 ≤ length b → is_short b ≡ false
-not_short b long =
-    let high : nat_le (length b) MOST_SHORT ≡ false = lt-leb (length b) MOST_SHORT (omega arith) in
-    rw high (and_false (nat_le 1 (length b)))
-  where
-    and_false : (a : Bool) → a && false ≡ false
-    and_false true = refl
-    and_false false = refl
-
 bits_begin : (stack : List Frame) (b : List ℕ) → IsStack stack → IsBits b → length b ≤ MOST_BITS → BeginsText First (before First stack ++ 98 ∷ bit_digits b)
 bits_begin stack b h are few =
     let zeros : List ℕ = replicate (65 - length b) 0 in
     let count : length zeros ≡ 65 - length b = length-replicate (65 - length b) 0 in
     let long = length-append b zeros in
-    let other = not_short (b ++ zeros) (omega arith) in
+    let other = long_is_other (b ++ zeros) (omega arith) in
     ends First stack (bits (b ++ zeros)) (98 ∷ bit_digits b) (bit_digits zeros) h
     (record { fits = level_low stack h; parts = (IsBits-append b zeros are (IsBits-zeros (65 - length b)), omega arith) })
     (rw other (ap (λ l. 98 ∷ l) (map-append (λ bit. 48 + bit) b zeros)))

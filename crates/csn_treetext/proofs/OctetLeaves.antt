@@ -129,7 +129,7 @@ other_text-some : (b : List ℕ) → 1 ≤ length b → other_text Second b ≡ 
 other_text-some [] some = absurd (omega arith)
 other_text-some (x ∷ b) some = refl
 
-long_is_other : (b : List ℕ) → 65 ≤ length b → is_short b ≡ false
+pub long_is_other : (b : List ℕ) → 65 ≤ length b → is_short b ≡ false
 long_is_other b long =
     let high : nat_le (length b) MOST_SHORT ≡ false = lt-leb (length b) MOST_SHORT (omega arith) in
     rw high (and_false (nat_le 1 (length b)))

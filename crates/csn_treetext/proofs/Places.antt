@@ -2,7 +2,7 @@
 use Rattle.std.proofs.Common.{◌≡◌, ℕ, zero, suc, ◌+◌, ◌-◌, ◌*◌, ◌<◌, ◌≤◌, List, [], ◌∷◌, ◌++◌, length, take, drop, get_or, Option, Some, None, refl, sym, ap, ◌∙◌, subst, arith, inl, inr, append_assoc, append-nil, length-append}
 use Rattle.std.proofs.Math.Seq.{take-suc}
 use Rattle.std.proofs.lemmas.Bool.{cases_lt, cases_Bool}
-use Rattle.std.proofs.lemmas.List.{take_all}
+use Rattle.std.proofs.lemmas.List.{take_all, length-take-le}
 use Rattle.std.specs.Fmt.{decimal}
 use Rattle.csn_bits.specs.declared.feed.TheConstants.{MOST_LINE}
 use Rattle.csn_bits.specs.Numbers.{number_of}
@@ -74,7 +74,7 @@ room_behind version (Row (t ∷ ts) ∷ stack) text has is few =
     let space = ap length (spaced-row version t ts) ∙ length-append (row_text version (trees_of (t ∷ ts))) (32 ∷ []) in
     (omega arith, room_before version stack (omega arith))
 
-pub room_in : (version : Version) (mode : Mode) (stack : List Frame) (text : List ℕ) → StandsFor version text (state mode stack) → length text ≤ MOST_LINE → HasRoom stack
+room_in : (version : Version) (mode : Mode) (stack : List Frame) (text : List ℕ) → StandsFor version text (state mode stack) → length text ≤ MOST_LINE → HasRoom stack
 room_in version Start stack text is few = room_front version stack [] text (append-nil (before version stack) ∙ is.bytes) few
 room_in version Opened stack text is few = room_front version stack _ text is.bytes few
 room_in version Behind stack text is few = room_behind version stack text is.placed is.bytes few
@@ -97,6 +97,11 @@ start = Some (state Start [])
 
 pub reached : (version : Version) (front : List ℕ) (s : State) → steps version start front ≡ Some s → StandsFor version front s
 reached version front s e = steps_stand version [] front (state Start []) s (start_stands version) e
+
+-- a state that was reached in a line has room
+pub room_reached : (version : Version) (text : List ℕ) (at : ℕ) (mode : Mode) (stack : List Frame) → at ≤ length text → length text ≤ MOST_LINE → steps version start (take at text) ≡ Some (state mode stack) → HasRoom stack
+room_reached version text at mode stack within few e =
+    room_in version mode stack (take at text) (reached version (take at text) (state mode stack) e) (omega (arith, length-take-le at text within))
 
 pub step_more : (version : Version) (text : List ℕ) (at : ℕ) (s : State) → at < length text → steps version start (take at text) ≡ Some s → steps version start (take (at + 1) text) ≡ step version s.mode s.stack (get_or text at 0)
 step_more version text at s low e =

@@ -1,5 +1,5 @@
 -- What bytes a state of the reader stands for, and that a step adds its byte to them.
-use Rattle.std.proofs.Common.{◌≡◌, ℕ, suc, ◌<◌, List, [], ◌∷◌, ◌++◌, length, Option, Some, None, refl, sym, ap, ◌∙◌, arith, append_assoc}
+use Rattle.std.proofs.Common.{◌≡◌, ℕ, suc, ◌<◌, List, [], ◌∷◌, ◌++◌, length, Option, Some, None, refl, sym, ap, ◌∙◌, subst, arith, append_assoc}
 use Rattle.std.specs.Fmt.{decimal}
 use Rattle.hex.specs.Hex.{encode_upper, upper_digits}
 use Rattle.std.specs.Prelude.{slice_index}
@@ -158,6 +158,13 @@ spaced-push version (u ∷ ts) t =
 
 -- ---- a whole tree
 
+-- what stands before a tree and the tree, taken apart
+stands_behind : (version : Version) (front head mark text : List ℕ) {s : State} → StandsFor version (front ++ (head ++ (mark ++ text))) s → StandsFor version ((front ++ (head ++ mark)) ++ text) s
+stands_behind version front head mark text {s} h =
+    subst (λ l. StandsFor version l s)
+    (ap (λ l. front ++ l) (sym (append_assoc head mark text)) ∙ sym (append_assoc front (head ++ mark) text))
+    h
+
 pub tree_stands : (version : Version) (stack : List Frame) (t : TreeV) → IsStack stack → IsTree (length stack) t → StandsFor version (before version stack ++ text_of version t) (with_tree stack t)
 tree_stands version [] t h is = record { stack = tt; mode = tt; placed = (refl, is); bytes = refl }
 tree_stands version (Row ts ∷ stack) t h is = record {
@@ -169,24 +176,8 @@ tree_stands version (Row ts ∷ stack) t h is = record {
       ∙ sym (append_assoc (before version stack) (91 ∷ spaced version ts) (text_of version t));
 }
 tree_stands version (Alt j ∷ stack) t h is =
-    let inner = tree_stands version stack (alt j t) h.2 (record { fits = (h.1, is.fits); parts = is.parts }) in
-    record {
-      stack = inner.stack;
-      mode = inner.mode;
-      placed = inner.placed;
-      bytes =
-          inner.bytes
-          ∙ ap (λ l. before version stack ++ 35 ∷ l) (sym (append_assoc (decimal j) (58 ∷ []) (text_of version t)))
-          ∙ sym (append_assoc (before version stack) (35 ∷ (decimal j ++ 58 ∷ [])) (text_of version t));
-    }
+    stands_behind version (before version stack) (35 ∷ decimal j) (58 ∷ []) (text_of version t)
+    (tree_stands version stack (alt j t) h.2 (record { fits = (h.1, is.fits); parts = is.parts }))
 tree_stands version (Named l ∷ stack) t h is =
-    let inner = tree_stands version stack (named l t) h.2 (record { fits = is.fits; parts = (h.1, is.parts) }) in
-    record {
-      stack = inner.stack;
-      mode = inner.mode;
-      placed = inner.placed;
-      bytes =
-          inner.bytes
-          ∙ ap (λ k. before version stack ++ 60 ∷ k) (sym (append_assoc l (62 ∷ 61 ∷ []) (text_of version t)))
-          ∙ sym (append_assoc (before version stack) (60 ∷ (l ++ 62 ∷ 61 ∷ [])) (text_of version t));
-    }
+    stands_behind version (before version stack) (60 ∷ l) (62 ∷ 61 ∷ []) (text_of version t)
+    (tree_stands version stack (named l t) h.2 (record { fits = is.fits; parts = (h.1, is.parts) }))

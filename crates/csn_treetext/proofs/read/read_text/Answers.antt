@@ -1,14 +1,12 @@
 use Rattle.std.proofs.Common.{◌∙◌, sym, ap, arith, take}
-use Rattle.std.proofs.lemmas.List.{take_all, length-take-le}
+use Rattle.std.proofs.lemmas.List.{take_all}
 use Rattle.csn_treetext.specs.reader.Machine.{state, with_stack, steps}
-use Rattle.csn_treetext.proofs.Places.{start, reached, room_in, step_more, refused_place, ended_place, ended_tree}
+use Rattle.csn_treetext.proofs.Places.{start, reached, room_reached, step_more, refused_place, ended_place, ended_tree}
 use Rattle.csn_treetext.proofs.read.read_text.Goals as goal
 
 pub step-requires-clause-room : goal.step-requires-clause-room
 step-requires-clause-room c =
-    room_in c.args.version c.loop-at.mode c.loop-at.stack (take c.loop-at.at c.args.text.now)
-    (reached c.args.version (take c.loop-at.at c.args.text.now) (state c.loop-at.mode c.loop-at.stack) c.loop-at.invariant)
-    (omega (arith, length-take-le c.loop-at.at c.args.text.now (omega arith)))
+    room_reached c.args.version c.args.text.now c.loop-at.at c.loop-at.mode c.loop-at.stack (omega arith) (omega arith) c.loop-at.invariant
 
 pub step-requires-clause-mode : goal.step-requires-clause-mode
 step-requires-clause-mode c =
@@ -26,9 +24,7 @@ loop-at-preserved c =
 
 pub finish-requires-clause-room : goal.finish-requires-clause-room
 finish-requires-clause-room c =
-    room_in c.args.version c.loop-at.mode c.loop-at.stack (take c.loop-at.at c.args.text.now)
-    (reached c.args.version (take c.loop-at.at c.args.text.now) (state c.loop-at.mode c.loop-at.stack) c.loop-at.invariant)
-    (omega (arith, length-take-le c.loop-at.at c.args.text.now (omega arith)))
+    room_reached c.args.version c.args.text.now c.loop-at.at c.loop-at.mode c.loop-at.stack (omega arith) (omega arith) c.loop-at.invariant
 
 pub finish-requires-clause-mode : goal.finish-requires-clause-mode
 finish-requires-clause-mode c =

@@ -1,5 +1,5 @@
-use Rattle.std.proofs.Common.{inl, inr}
-use Rattle.csn_bits.proofs.Feeding.{fault-stage_bad, fault-stage_long, fault-stage_slash}
+use Rattle.std.proofs.Common.{ap, inl, inr}
+use Rattle.csn_bits.proofs.Feeding.{fault-stage_bad, fault-stage_tail, no_tail}
 use Rattle.csn_bits.proofs.feed.HexFeed.finish.Goals as goal
 
 pub returns-in-BadDigit-clause-ends : goal.returns-in-BadDigit-clause-ends
@@ -11,8 +11,8 @@ returns-in-BadDigit-clause-fault c = λ line fed. fault-stage_bad line _ _ _ _ f
 pub returns-in-Slash-clause-ends : goal.returns-in-Slash-clause-ends
 returns-in-Slash-clause-ends c =
     λ line fed. elim c.in-Slash.is [
-      | inl slash ↦ fault-stage_slash line _ _ _ slash.0 fed.keeps slash.1
-      | inr long ↦ fault-stage_long line _ _ _ fed.keeps long
+      | inl slash ↦ fault-stage_tail line _ _ _ fed.keeps (ap no_tail slash.1)
+      | inr long ↦ fault-stage_tail line _ _ _ fed.keeps (ap no_tail long)
     ]
 
 pub returns-in-Slash-clause-fault : goal.returns-in-Slash-clause-fault
