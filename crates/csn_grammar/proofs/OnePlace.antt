@@ -95,6 +95,21 @@ module _ (one_next : OneIsNext) where
       let empty = none_behind (Ok None) next end_no_token behind.0 behind.2 in
       none rules (subst (λ ts. AreRules (tokens_in text ts) rules) (behind.1 ∙ ap (λ b. front ++ b) empty ∙ append-nil front) h.are)
 
+  -- where no token is next, none can follow
+  no_more : {text : List ℕ} {to place : ℕ} {front : List Token} (next : Result (Option Token) LexFault)
+      → ((t : Token) → next ≡ Ok (Some t) → ⊥) → AreTokens text 0 front to → BeginRules (tokens_in text front)
+      → IsNext text to next → place ≡ place_of text next → Stopped text place
+  no_more {to = to} {front = front} next other tokens begin stands is = record {
+    to = to;
+    front = front;
+    next = next;
+    tokens = tokens;
+    begin = begin;
+    stands = stands;
+    place_is = is;
+    last = λ back end are begins. none_behind next stands other back are;
+  }
+
   stopped : {text : List ℕ} {place : ℕ} → IsSyntaxPlace text place → Stopped text place
   stopped {text} (refused_token {to = to} {front = front} t tokens begin next none) = record {
     to = to;
@@ -113,26 +128,8 @@ module _ (one_next : OneIsNext) where
           let same = one_next text to (Ok (Some t)) (Ok (Some u)) next first in
           let is : u ≡ t = cc in
           absurd (none (subst (λ x. BeginRules (tokens_in text (front ++ x ∷ []))) is (begins_front text front u us begins)))
-  stopped {text} (refused_byte {to = to} {front = front} fault tokens begin next) = record {
-    to = to;
-    front = front;
-    next = Err fault;
-    tokens = tokens;
-    begin = begin;
-    stands = next;
-    place_is = refl;
-    last = λ back end are begins. none_behind (Err fault) next (byte_no_token fault) back are;
-  }
-  stopped {text} (refused_end {to = to} {front = front} tokens begin next none e) = record {
-    to = to;
-    front = front;
-    next = Ok None;
-    tokens = tokens;
-    begin = begin;
-    stands = next;
-    place_is = e;
-    last = λ back end are begins. none_behind (Ok None) next end_no_token back are;
-  }
+  stopped (refused_byte fault tokens begin next) = no_more (Err fault) (byte_no_token fault) tokens begin next refl
+  stopped (refused_end tokens begin next none e) = no_more (Ok None) end_no_token tokens begin next e
 
   one_stop : {text : List ℕ} {place other : ℕ} (a : Stopped text place) (b : Stopped text other) (back : List Token) → b.front ≡ a.front ++ back → AreTokens text a.to back b.to → place ≡ other
   one_stop {text} a b back is are =

@@ -255,23 +255,13 @@ module _ (rules : RulesV) (begin : ℕ) (title : List ℕ) where
   unfolding after_side
   done_back frames level x k s n w h = joint_back frames level level.joint x k s n w h
 
-  bracket_back : {frames : List Frame} {level : Level} {x : ExprV} {ts : List TokenV} {out : RulesV} (s n : ℕ) (w : List ℕ)
-      → Powers frames level x Bracket ts out → AfterBase rules begin title frames level x (token kind.ParenLeft s n w ∷ ts) out
-  bracket_back {frames} {level} {x} s n w h = raised h.is h.behind
-    where
-      raised : {ts rest : List TokenV} {out : RulesV} {e : Exponent} {n1 : ℕ} → Completes Bracket ts e n1 rest
-          → AfterSide rules begin title frames level.branches level.error level.items level.joint (power_of x n1 e) rest out
-          → AfterBase rules begin title frames level x (token kind.ParenLeft s n w ∷ ts) out
-      raised {rest = rest} {e = e} {n1 = n1} (at_bracket is) b = base_power e n1 rest (is s n w) b
+  bracket_opens : {ts rest : List TokenV} {e : Exponent} {n1 : ℕ} (s n : ℕ) (w : List ℕ) → Completes Bracket ts e n1 rest
+      → IsExponent (token kind.ParenLeft s n w ∷ ts) e n1 rest
+  bracket_opens s n w (at_bracket is) = is s n w
 
-  star_back : {frames : List Frame} {level : Level} {x : ExprV} {ts : List TokenV} {out : RulesV} (s n : ℕ) (w : List ℕ)
-      → Powers frames level x Star ts out → AfterBase rules begin title frames level x (token kind.Star s n w ∷ ts) out
-  star_back {frames} {level} {x} s n w h = raised h.is h.behind
-    where
-      raised : {ts rest : List TokenV} {out : RulesV} {e : Exponent} {n1 : ℕ} → Completes Star ts e n1 rest
-          → AfterSide rules begin title frames level.branches level.error level.items level.joint (power_of x n1 e) rest out
-          → AfterBase rules begin title frames level x (token kind.Star s n w ∷ ts) out
-      raised {rest = rest} {e = e} {n1 = n1} (at_star is) b = base_power e n1 rest (is s n w) b
+  star_opens : {ts rest : List TokenV} {e : Exponent} {n1 : ℕ} (s n : ℕ) (w : List ℕ) → Completes Star ts e n1 rest
+      → IsExponent (token kind.Star s n w ∷ ts) e n1 rest
+  star_opens s n w (at_star is) = is s n w
 
   slashes_back : {ts : List TokenV} {out : RulesV} (frames : List Frame) (level : Level) (x : ExprV) (o : Option ExprV) (s n : ℕ) (w : List ℕ) → cut_group x n ≡ o
       → Leaves n (after_slashes frames level o x s n w) ts out → AfterBase rules begin title frames level x (token kind.SlashSlash s n w ∷ ts) out
@@ -287,8 +277,8 @@ module _ (rules : RulesV) (begin : ℕ) (title : List ℕ) where
   base_step_back : {ts : List TokenV} {out : RulesV} (frames : List Frame) (level : Level) (x : ExprV) (k : TokenKind) (s n : ℕ) (w : List ℕ)
       → Leaves n (after_base frames level x k s n w) ts out → AfterBase rules begin title frames level x (token k s n w ∷ ts) out
   unfolding after_base
-  base_step_back frames level x kind.ParenLeft s n w h = bracket_back s n w h
-  base_step_back frames level x kind.Star s n w h = star_back s n w h
+  base_step_back frames level x kind.ParenLeft s n w h = base_power h.one h.end h.rest (bracket_opens s n w h.is) h.behind
+  base_step_back frames level x kind.Star s n w h = base_power h.one h.end h.rest (star_opens s n w h.is) h.behind
   base_step_back {ts} frames level x kind.StarStar s n w h = base_power exponent.Any n ts (any refl) h
   base_step_back frames level x kind.SlashSlash s n w h = slashes_back frames level x (cut_group x n) s n w refl h
   base_step_back {ts} frames level x k s n w h = plain_back frames level x k s n w (may_follow x k s n w ts refl) h

@@ -10,7 +10,7 @@ ghost use Rattle.csn_grammar.specs.Shaped.{AreShaped};
 ghost use Rattle.csn_grammar.specs.reader.RuleSteps.{finished, reader_step};
 
 use crate::fault::GrammarFault;
-use crate::reader::{Reader, State, Stop, reader_step};
+use crate::reader::{Piece, Reader, State, Stop, reader_step};
 use crate::rules::Rules;
 use csn_lexer::{Lexer, Token};
 use std::alloc::Global;
@@ -23,8 +23,11 @@ fn take(alloc: Global, reader: Reader, token: Token, text: &[u8]) -> Result<Read
         (reader_step reader.rules reader.state token.kind token.start token.end
         (slice_range text.now token.start token.end)) }
 {
-    let word = &text[token.start as usize..token.end as usize];
-    match reader_step(alloc, reader, token, word) {
+    let piece = Piece {
+        token,
+        text: &text[token.start as usize..token.end as usize],
+    };
+    match reader_step(alloc, reader, piece) {
         Ok(next) => Ok(next),
         Err(Stop::Refused) => Err(GrammarFault::Syntax { place: token.start }),
         Err(Stop::NoMemory) => Err(GrammarFault::NoMemory),

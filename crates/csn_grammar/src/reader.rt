@@ -3,6 +3,7 @@
 mod body;
 mod build;
 mod exponents;
+mod piece;
 mod progress;
 mod spellings;
 mod state;
@@ -10,5 +11,6 @@ mod steps;
 mod stop;
 mod words;
 
+pub use piece::Piece;
 pub use state::{Reader, State, reader_step};
 pub use stop::Stop;

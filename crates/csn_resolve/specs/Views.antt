@@ -6,10 +6,11 @@ use Rattle.csn_desc.specs.declared.reading.Reading.{Reading}
 use Rattle.csn_grammar.specs.declared.exponent.Exponent.{Exponent}
 use Rattle.csn_grammar.specs.declared.exponent.Exponent.TheVariants.{Number}
 use Rattle.csn_grammar.specs.ExprV.{ExprV, expr, name, exprs_of}
-use Rattle.csn_grammar.specs.Forms.{WidthV}
+use Rattle.csn_grammar.specs.Forms.{WidthV, WindowV}
 use Rattle.csn_grammar.specs.Environment.{label_of}
 use Rattle.csn_grammar.specs.TailForm.{WordV, EndV, TailV}
 use Rattle.csn_resolve.specs.declared.form.Width.{Width}
+use Rattle.csn_resolve.specs.declared.form.Window.{Window}
 use Rattle.csn_resolve.specs.declared.tail.Word.{Word}
 use Rattle.csn_resolve.specs.declared.tail.End.{End}
 use Rattle.csn_resolve.specs.declared.tail.Tail.{Tail}
@@ -29,6 +30,9 @@ count_view (Some k) = k.now
 
 abbrev pub width_view : Width → WidthV
 width_view w = record { unit = w.unit; count = count_view w.count }
+
+abbrev pub window_view : Window → WindowV
+window_view w = record { width = width_view w.width; part = w.part.now }
 
 abbrev pub word_view : Word → WordV
 word_view w = record { at = w.at; run = w.run.now }

@@ -8,7 +8,7 @@ ghost use Rattle.csn_resolve.specs.declared.marks.Test.TheVariants.{Void};
 ghost use Rattle.csn_resolve.specs.Views.{tail_view};
 ghost use Rattle.csn_resolve.specs.Made.{shown_view, only, QuietAt, AllQuiet, BranchesQuiet, RuleQuiet, IsKept, GivesFew, ItemsGiveFew, KeptGiveFew, RuleGivesFew, TailGivesFew, TurnGivesFew, Adds, AddsItems, AddsKept, AddsRule, AddsTail, AddsTurn};
 
-use crate::form::{unit_of, width_of};
+use crate::form::{unit_of, window_of};
 use crate::leaf::{copy_run, spare_node};
 use crate::made::Made;
 use crate::marks::Marks;
@@ -206,34 +206,14 @@ impl<'a> Builder<'a> {
         requires gives { (end : ℕ) × GivesFew self.now.names.now self.now.reading (expr place end (both left.now right.now)) (length made.old) (shown_view self.now.reading round.shown.now) }
         ensures { OnOk result ((end : ℕ) → Adds self.now.names.now self.now.reading (expr place end (both left.now right.now)) (shown_view self.now.reading round.entry.shown.now) made.old made.new) }
     {
-        let inner = made.len() + 1;
-        if let Some(width) = width_of(left) {
-            let count = round.shown.width(self.reading, width.count);
-            let unit = width.unit;
-            made.push(
-                Node::Window {
-                    unit,
-                    count,
-                    part: inner,
-                },
-                place,
-            )?;
-            return self.build(round, right, made);
-        }
-        if let Some(width) = width_of(right) {
-            let count = round.shown.width(self.reading, width.count);
-            let unit = width.unit;
-            made.push(
-                Node::Window {
-                    unit,
-                    count,
-                    part: inner,
-                },
-                place,
-            )?;
-            return self.build(round, left, made);
-        }
-        unreachable!()
+        let Some(window) = window_of(left, right) else {
+            unreachable!()
+        };
+        let unit = window.width.unit;
+        let count = round.shown.width(self.reading, window.width.count);
+        let part = made.len() + 1;
+        made.push(Node::Window { unit, count, part }, place)?;
+        self.build(round, window.part, made)
     }
 
     /// Adds the nodes of the rule of a name, or of a spare part.

@@ -1,7 +1,7 @@
 ghost use Rattle.std.specs.Prelude.{◌≡◌};
 ghost use Rattle.std.specs.Option.{option_map};
-ghost use Rattle.csn_grammar.specs.Forms.{unit_of, width_of};
-ghost use Rattle.csn_resolve.specs.Views.{width_view};
+ghost use Rattle.csn_grammar.specs.Forms.{unit_of, width_of, window_of};
+ghost use Rattle.csn_resolve.specs.Views.{width_view, window_view};
 
 use csn_grammar::{Exponent, Expr, Form};
 
@@ -46,4 +46,22 @@ pub(crate) fn width_of<'a>(x: &'a Expr) -> Option<Width<'a>>
         }
         _ => None,
     }
+}
+
+/// A window: so many bits, which its part has.
+#[derive(Clone, Copy)]
+pub(crate) struct Window<'a> {
+    pub width: Width<'a>,
+    pub part: &'a Expr,
+}
+
+/// The window that two sides of `&` are: one says the width, the left one where both could.
+pub(crate) fn window_of<'a>(left: &'a Expr, right: &'a Expr) -> Option<Window<'a>>
+    ensures { option_map window_view result ≡ window_of left.now right.now }
+{
+    if let Some(width) = width_of(left) {
+        return Some(Window { width, part: right });
+    }
+    let width = width_of(right)?;
+    Some(Window { width, part: left })
 }

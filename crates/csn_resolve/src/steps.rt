@@ -2,10 +2,11 @@ ghost use Rattle.std.specs.Prelude.{◌≡◌, ◌<◌, ◌+◌, ◌++◌, ◌==
 ghost use Rattle.csn_desc.specs.declared.reading.Reading.{Reading as ReadingV};
 ghost use Rattle.csn_resolve.specs.declared.why.Why.TheVariants.{TooDeep};
 ghost use Rattle.csn_resolve.specs.Steps.{refused_if, begins};
-ghost use Rattle.csn_resolve.specs.Walk.{in_turn, turn_begun};
+ghost use Rattle.csn_resolve.specs.Walk.{inside, in_turn, turn_begun};
 ghost use Rattle.csn_resolve.specs.Going.{Goes, Checks, Stops, way, gone};
-ghost use Rattle.csn_resolve.specs.Views.{around_view, end_view};
+ghost use Rattle.csn_resolve.specs.Views.{around_view, end_view, entered_view, seen_view};
 
+use crate::around::Seen;
 use crate::begun::{Around, Begun, Turn};
 use crate::fault::ResolveFault;
 use crate::tail::End;
@@ -51,13 +52,24 @@ pub(crate) fn begin(around: Around<'_>, place: u32, begun: Begun) -> Result<Begu
 pub(crate) fn inside<'a>(around: Around<'a>) -> Around<'a>
     requires { around.depth < 64 }
     ensures depth { result.depth ≡ around.entry.depth + 1 }
-    ensures names { result.names ≡ around.entry.names }
-    ensures seen { result.seen ≡ around.entry.seen }
+    ensures around { (r : ReadingV) → around_view r result ≡ inside (around_view r around.entry) }
 {
     Around {
         depth: around.depth + 1,
         names: around.names,
         seen: around.seen,
+    }
+}
+
+/// Behind items of a sequence or truncation, which are seen.
+pub(crate) fn behind<'a>(around: Around<'a>, seen: &'a Seen<'a>) -> Around<'a>
+    ensures depth { result.depth ≡ around.entry.depth }
+    ensures around { (r : ReadingV) → around_view r result ≡ record { depth = around.entry.depth; names = entered_view around.entry.names.now; seen = seen_view r seen.now } }
+{
+    Around {
+        depth: around.depth,
+        names: around.names,
+        seen,
     }
 }
 

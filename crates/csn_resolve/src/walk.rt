@@ -15,7 +15,7 @@ use crate::begun::{Around, Begun};
 use crate::fault::ResolveFault;
 use crate::form::width_of;
 use crate::names::is_built_in;
-use crate::steps::{begin, begin_turn, enter, inside, refusal};
+use crate::steps::{begin, begin_turn, behind, enter, inside, refusal};
 use crate::tail::{Tail, tail_of};
 use crate::walker::Walker;
 use crate::why::Why;
@@ -89,12 +89,7 @@ impl<'a> Walker<'a> {
         let mut begun = begun;
         for at in 0..count {
             let seen = Seen::Behind(items, at, around.seen);
-            let inner = Around {
-                depth: around.depth,
-                names: around.names,
-                seen: &seen,
-            };
-            begun = self.walk(inner, items.get(at), begun)?;
+            begun = self.walk(behind(around, &seen), items.get(at), begun)?;
         }
         Ok(begun)
     }
@@ -116,12 +111,7 @@ impl<'a> Walker<'a> {
         for at in 0..items.len() {
             let item = items.get(at);
             let seen = Seen::Behind(items, at, around.seen);
-            let inner = Around {
-                depth: around.depth,
-                names: around.names,
-                seen: &seen,
-            };
-            begun = self.walk(inner, item, begun)?;
+            begun = self.walk(behind(around, &seen), item, begun)?;
             self.leave_part(item)?;
         }
         Ok(begun)

@@ -71,6 +71,13 @@ pub enum Mode {
     Exponent { base: Expr, progress: Progress },
 }
 
+/// What is open, and the expression inside it as far as it is read.
+#[derive(Drop)]
+pub struct Within {
+    pub frames: Frames,
+    pub level: Level,
+}
+
 /// The body of a rule as far as it is read.
 #[derive(Drop)]
 pub struct Body {

@@ -9,14 +9,21 @@ use crate::expr::{Branch, Branches, Expr, Exprs, Form, Span};
 use csn_bits::NoMemory;
 use std::alloc::Global;
 
+// From the start of a piece of the text to the end of a later one.
+fn across(first: Span, last: Span) -> Span
+    ensures { result ≡ record { start = first.start; end = last.end } }
+{
+    Span {
+        start: first.start,
+        end: last.end,
+    }
+}
+
 /// `x & y`
 pub fn both_of(alloc: Global, x: Expr, y: Expr) -> Result<Expr, NoMemory>
     ensures { IfOk result (λ whole. whole ≡ both_of x y) }
 {
-    let span = Span {
-        start: x.span.start,
-        end: y.span.end,
-    };
+    let span = across(x.span, y.span);
     let form = Form::Both(Box::new(alloc, x)?, Box::new(alloc, y)?);
     Ok(Expr { span, form })
 }
@@ -25,10 +32,7 @@ pub fn both_of(alloc: Global, x: Expr, y: Expr) -> Result<Expr, NoMemory>
 pub fn sends_of(alloc: Global, x: Expr, y: Expr) -> Result<Expr, NoMemory>
     ensures { IfOk result (λ whole. whole ≡ sends_of x y) }
 {
-    let span = Span {
-        start: x.span.start,
-        end: y.span.end,
-    };
+    let span = across(x.span, y.span);
     let form = Form::Sends(Box::new(alloc, x)?, Box::new(alloc, y)?);
     Ok(Expr { span, form })
 }
@@ -52,10 +56,7 @@ pub fn seq_with(mut items: Exprs, last: Expr) -> Result<Expr, NoMemory>
     if items.len() == 0 {
         return Ok(last);
     }
-    let span = Span {
-        start: items.get(0).span.start,
-        end: last.span.end,
-    };
+    let span = across(items.get(0).span, last.span);
     items.push(last)?;
     Ok(Expr {
         span,
@@ -86,10 +87,7 @@ pub fn choice_with(mut branches: Branches, error: bool, last: Expr) -> Result<Ex
     if branches.len() == 0 {
         return Ok(last);
     }
-    let span = Span {
-        start: branches.get(0).body.span.start,
-        end: last.span.end,
-    };
+    let span = across(branches.get(0).body.span, last.span);
     branches.push(Branch { error, body: last })?;
     Ok(Expr {
         span,

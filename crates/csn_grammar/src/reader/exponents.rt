@@ -1,12 +1,12 @@
 //! The steps through an exponent, one token each.
 
 ghost use Rattle.std.specs.Prelude.{◌≡◌, ◌∷◌, ◌++◌};
-ghost use Rattle.csn_lexer.specs.Word.{IsWord};
 ghost use Rattle.csn_lexer.specs.declared.token.TokenKind.{TokenKind};
-ghost use Rattle.csn_grammar.specs.reader.Gives.{Gives, IsWordToken};
+ghost use Rattle.csn_grammar.specs.reader.Gives.{Gives};
 ghost use Rattle.csn_grammar.specs.reader.ExponentSteps.{linear, number_at, before_step, count_step, bracket_step, star_step, number_step, summand_step, factor_step, first_word_step, words_step, product_step, factor_behind_step, summand_behind_step, exponent_step};
 
 use crate::exponent::Exponent;
+use crate::reader::piece::Piece;
 use crate::reader::progress::{ExponentNext, Progress, Terms};
 use crate::reader::spellings::{is_val, number_of};
 use crate::reader::stop::Stop;
@@ -27,52 +27,52 @@ fn no_terms(bracket: bool) -> Terms
 }
 
 // The number that the token is.
-fn number_at(kind: TokenKind, word: &[u8]) -> Option<u32>
-    ensures { result ≡ number_at kind word.now }
+fn number_at(piece: Piece<'_>) -> Option<u32>
+    ensures { result ≡ number_at piece.entry.token.kind piece.entry.text.now }
 {
-    match kind {
-        TokenKind::Word => number_of(word),
+    match piece.token.kind {
+        TokenKind::Word => number_of(piece.text),
         _ => None,
     }
 }
 
-fn before_step(terms: Terms, kind: TokenKind, word: &[u8]) -> Result<ExponentNext, Stop>
-    ensures { Gives result (before_step terms kind word.now) }
+fn before_step(terms: Terms, piece: Piece<'_>) -> Result<ExponentNext, Stop>
+    ensures { Gives result (before_step terms piece.entry.token.kind piece.entry.text.now) }
 {
-    match kind {
-        TokenKind::Word if is_val(word) => Ok(ExponentNext::Goes(Progress::Val(terms))),
+    match piece.token.kind {
+        TokenKind::Word if is_val(piece.text) => Ok(ExponentNext::Goes(Progress::Val(terms))),
         _ => Err(Stop::Refused),
     }
 }
 
-fn count_step(kind: TokenKind, word: &[u8]) -> Result<ExponentNext, Stop>
-    ensures { Gives result (count_step kind word.now) }
+fn count_step(piece: Piece<'_>) -> Result<ExponentNext, Stop>
+    ensures { Gives result (count_step piece.entry.token.kind piece.entry.text.now) }
 {
-    match number_at(kind, word) {
+    match number_at(piece) {
         Some(number) => Ok(ExponentNext::Goes(Progress::Number(number))),
-        None => before_step(no_terms(true), kind, word),
+        None => before_step(no_terms(true), piece),
     }
 }
 
-fn bracket_step(kind: TokenKind, word: &[u8]) -> Result<ExponentNext, Stop>
-    ensures { Gives result (bracket_step kind word.now) }
+fn bracket_step(piece: Piece<'_>) -> Result<ExponentNext, Stop>
+    ensures { Gives result (bracket_step piece.entry.token.kind piece.entry.text.now) }
 {
-    match kind {
+    match piece.token.kind {
         TokenKind::Star | TokenKind::StarStar => Ok(ExponentNext::Goes(Progress::Whole(
             Exponent::Any,
         ))),
-        _ => count_step(kind, word),
+        _ => count_step(piece),
     }
 }
 
-fn star_step(kind: TokenKind, word: &[u8]) -> Result<ExponentNext, Stop>
-    ensures { Gives result (star_step kind word.now) }
+fn star_step(piece: Piece<'_>) -> Result<ExponentNext, Stop>
+    ensures { Gives result (star_step piece.entry.token.kind piece.entry.text.now) }
 {
-    match kind {
+    match piece.token.kind {
         TokenKind::ParenLeft => Ok(ExponentNext::Goes(Progress::StarBracket)),
-        _ => match number_at(kind, word) {
+        _ => match number_at(piece) {
             Some(number) => Ok(ExponentNext::Ends(Exponent::Number(number))),
-            None => before_step(no_terms(false), kind, word),
+            None => before_step(no_terms(false), piece),
         },
     }
 }
@@ -92,10 +92,10 @@ fn number_step(number: u32, kind: TokenKind) -> Result<ExponentNext, Stop>
     }
 }
 
-fn summand_step(summand: u32, kind: TokenKind, word: &[u8]) -> Result<ExponentNext, Stop>
-    ensures { Gives result (summand_step summand kind word.now) }
+fn summand_step(summand: u32, piece: Piece<'_>) -> Result<ExponentNext, Stop>
+    ensures { Gives result (summand_step summand piece.entry.token.kind piece.entry.text.now) }
 {
-    match number_at(kind, word) {
+    match number_at(piece) {
         Some(factor) => Ok(ExponentNext::Goes(Progress::Factor { summand, factor })),
         None => {
             let terms = Terms {
@@ -103,7 +103,7 @@ fn summand_step(summand: u32, kind: TokenKind, word: &[u8]) -> Result<ExponentNe
                 summand: Some(summand),
                 bracket: true,
             };
-            before_step(terms, kind, word)
+            before_step(terms, piece)
         }
     }
 }
@@ -121,18 +121,12 @@ fn factor_step(summand: u32, factor: u32, kind: TokenKind) -> Result<ExponentNex
     }
 }
 
-fn first_word_step(
-    alloc: Global,
-    terms: Terms,
-    kind: TokenKind,
-    word: &[u8],
-) -> Result<ExponentNext, Stop>
-    requires { IsWordToken kind word.now }
-    ensures { Gives result (first_word_step terms kind word.now) }
+fn first_word_step(alloc: Global, terms: Terms, piece: Piece<'_>) -> Result<ExponentNext, Stop>
+    ensures { Gives result (first_word_step terms piece.entry.token.kind piece.entry.text.now) }
 {
-    match kind {
+    match piece.token.kind {
         TokenKind::Word => {
-            let words = Words::new(alloc, word)?;
+            let words = Words::new(alloc, piece.text)?;
             Ok(ExponentNext::Goes(Progress::ValWords { terms, words }))
         }
         _ => Err(Stop::Refused),
@@ -154,15 +148,13 @@ fn words_step(
     alloc: Global,
     terms: Terms,
     words: Words,
-    kind: TokenKind,
-    word: &[u8],
+    piece: Piece<'_>,
 ) -> Result<ExponentNext, Stop>
-    requires { IsWordToken kind word.now }
-    ensures { Gives result (words_step terms words kind word.now) }
+    ensures { Gives result (words_step terms words piece.entry.token.kind piece.entry.text.now) }
 {
-    match kind {
+    match piece.token.kind {
         TokenKind::Word => {
-            let words = words.and(word)?;
+            let words = words.and(piece.text)?;
             Ok(ExponentNext::Goes(Progress::ValWords { terms, words }))
         }
         TokenKind::ParenRight => {
@@ -201,12 +193,11 @@ fn product_step(terms: Terms, label: Label, kind: TokenKind) -> Result<ExponentN
 fn factor_behind_step(
     summand: Option<u32>,
     label: Label,
-    kind: TokenKind,
-    word: &[u8],
+    piece: Piece<'_>,
 ) -> Result<ExponentNext, Stop>
-    ensures { Gives result (factor_behind_step summand label kind word.now) }
+    ensures { Gives result (factor_behind_step summand label piece.entry.token.kind piece.entry.text.now) }
 {
-    match number_at(kind, word) {
+    match number_at(piece) {
         Some(factor) => {
             let terms = Terms {
                 factor: Some(factor),
@@ -219,15 +210,10 @@ fn factor_behind_step(
     }
 }
 
-fn summand_behind_step(
-    factor: u32,
-    label: Label,
-    kind: TokenKind,
-    word: &[u8],
-) -> Result<ExponentNext, Stop>
-    ensures { Gives result (summand_behind_step factor label kind word.now) }
+fn summand_behind_step(factor: u32, label: Label, piece: Piece<'_>) -> Result<ExponentNext, Stop>
+    ensures { Gives result (summand_behind_step factor label piece.entry.token.kind piece.entry.text.now) }
 {
-    match number_at(kind, word) {
+    match number_at(piece) {
         Some(summand) => Ok(ExponentNext::Goes(Progress::Whole(Exponent::Linear {
             m: factor,
             label,
@@ -241,30 +227,28 @@ fn summand_behind_step(
 pub fn exponent_step(
     alloc: Global,
     progress: Progress,
-    kind: TokenKind,
-    word: &[u8],
+    piece: Piece<'_>,
 ) -> Result<ExponentNext, Stop>
-    requires { IsWordToken kind word.now }
-    ensures { Gives result (exponent_step progress kind word.now) }
+    ensures { Gives result (exponent_step progress piece.entry.token.kind piece.entry.text.now) }
 {
     match progress {
-        Progress::Bracket => bracket_step(kind, word),
-        Progress::Star => star_step(kind, word),
-        Progress::StarBracket => count_step(kind, word),
-        Progress::Number(number) => number_step(number, kind),
-        Progress::Summand(summand) => summand_step(summand, kind, word),
-        Progress::Factor { summand, factor } => factor_step(summand, factor, kind),
-        Progress::Before(terms) => before_step(terms, kind, word),
-        Progress::Val(terms) => match kind {
+        Progress::Bracket => bracket_step(piece),
+        Progress::Star => star_step(piece),
+        Progress::StarBracket => count_step(piece),
+        Progress::Number(number) => number_step(number, piece.token.kind),
+        Progress::Summand(summand) => summand_step(summand, piece),
+        Progress::Factor { summand, factor } => factor_step(summand, factor, piece.token.kind),
+        Progress::Before(terms) => before_step(terms, piece),
+        Progress::Val(terms) => match piece.token.kind {
             TokenKind::ParenLeft => Ok(ExponentNext::Goes(Progress::ValBracket(terms))),
             _ => Err(Stop::Refused),
         },
-        Progress::ValBracket(terms) => first_word_step(alloc, terms, kind, word),
-        Progress::ValWords { terms, words } => words_step(alloc, terms, words, kind, word),
-        Progress::Product { terms, label } => product_step(terms, label, kind),
-        Progress::FactorBehind { summand, label } => factor_behind_step(summand, label, kind, word),
-        Progress::SummandBehind { factor, label } => summand_behind_step(factor, label, kind, word),
-        Progress::Whole(exponent) => match kind {
+        Progress::ValBracket(terms) => first_word_step(alloc, terms, piece),
+        Progress::ValWords { terms, words } => words_step(alloc, terms, words, piece),
+        Progress::Product { terms, label } => product_step(terms, label, piece.token.kind),
+        Progress::FactorBehind { summand, label } => factor_behind_step(summand, label, piece),
+        Progress::SummandBehind { factor, label } => summand_behind_step(factor, label, piece),
+        Progress::Whole(exponent) => match piece.token.kind {
             TokenKind::ParenRight => Ok(ExponentNext::Ends(exponent)),
             _ => Err(Stop::Refused),
         },

@@ -1,19 +1,19 @@
 //! Where the reader stands in a text.
 
-ghost use Rattle.std.specs.Prelude.{◌≡◌, ◌≤◌, [], length};
-ghost use Rattle.csn_lexer.specs.declared.token.TheConstants.{MOST_TEXT};
-ghost use Rattle.csn_grammar.specs.reader.Gives.{Gives, IsWordToken};
+ghost use Rattle.std.specs.Prelude.{◌≡◌, []};
+ghost use Rattle.csn_grammar.specs.reader.Gives.{Gives};
 ghost use Rattle.csn_grammar.specs.reader.BodySteps.{body_step};
 ghost use Rattle.csn_grammar.specs.reader.RuleSteps.{after_body, name_step, named_step, reader_step};
 
 use crate::expr::Span;
 use crate::reader::body::{Body, Mode, Next};
+use crate::reader::piece::Piece;
 use crate::reader::steps::{body_of, body_step};
 use crate::reader::stop::Stop;
 use crate::reader::words::Words;
 use crate::rules::{Rule, RulesRead};
 use csn_desc::Label;
-use csn_lexer::{Token, TokenKind};
+use csn_lexer::TokenKind;
 use std::alloc::Global;
 
 /// Where the reader stands.
@@ -55,16 +55,14 @@ fn name_step(
     rules: RulesRead,
     start: u32,
     words: Words,
-    kind: TokenKind,
-    text: &[u8],
+    piece: Piece<'_>,
 ) -> Result<Reader, Stop>
-    requires { IsWordToken kind text.now }
-    ensures { Gives result (name_step rules start words kind text.now) }
+    ensures { Gives result (name_step rules start words piece.entry.token.kind piece.entry.text.now) }
 {
-    let state = match kind {
+    let state = match piece.token.kind {
         TokenKind::Word => State::Name {
             start,
-            words: words.and(text)?,
+            words: words.and(piece.text)?,
         },
         TokenKind::Greater => State::Named {
             start,
@@ -81,16 +79,13 @@ fn in_body(
     start: u32,
     name: Label,
     body: Body,
-    token: Token,
-    text: &[u8],
+    piece: Piece<'_>,
 ) -> Result<Reader, Stop>
-    requires word { IsWordToken token.kind text.now }
-    requires short { length text.now ≤ MOST_TEXT }
     ensures { Gives result
-        (after_body rules start name token.end
-        (body_step body.frames body.level body.mode token.kind token.start token.end text.now)) }
+        (after_body rules start name piece.entry.token.end
+        (body_step body.frames body.level body.mode piece.entry.token.kind piece.entry.token.start piece.entry.token.end piece.entry.text.now)) }
 {
-    match body_step(alloc, body, token, text)? {
+    match body_step(alloc, body, piece)? {
         Next::Goes(body) => Ok(Reader {
             rules,
             state: State::Body { start, name, body },
@@ -98,7 +93,7 @@ fn in_body(
         Next::Ends(body) => {
             let span = Span {
                 start,
-                end: token.end,
+                end: piece.token.end,
             };
             rules.push(Rule { name, span, body })?;
             Ok(Reader {
@@ -110,21 +105,19 @@ fn in_body(
 }
 
 /// Takes one token.
-pub fn reader_step(alloc: Global, reader: Reader, token: Token, text: &[u8]) -> Result<Reader, Stop>
-    requires word { IsWordToken token.kind text.now }
-    requires short { length text.now ≤ MOST_TEXT }
+pub fn reader_step(alloc: Global, reader: Reader, piece: Piece<'_>) -> Result<Reader, Stop>
     ensures { Gives result
-        (reader_step reader.rules reader.state token.kind token.start token.end text.now) }
+        (reader_step reader.rules reader.state piece.entry.token.kind piece.entry.token.start piece.entry.token.end piece.entry.text.now) }
 {
     let rules = reader.rules;
-    let state = match (reader.state, token.kind) {
-        (State::Between, TokenKind::Less) => State::Less(token.start),
+    let state = match (reader.state, piece.token.kind) {
+        (State::Between, TokenKind::Less) => State::Less(piece.token.start),
         (State::Less(start), TokenKind::Word) => State::Name {
             start,
-            words: Words::new(alloc, text)?,
+            words: Words::new(alloc, piece.text)?,
         },
-        (State::Name { start, words }, kind) => {
-            return name_step(alloc, rules, start, words, kind, text);
+        (State::Name { start, words }, _) => {
+            return name_step(alloc, rules, start, words, piece);
         }
         (State::Named { start, name }, TokenKind::Define) => State::Body {
             start,
@@ -132,7 +125,7 @@ pub fn reader_step(alloc: Global, reader: Reader, token: Token, text: &[u8]) -> 
             body: body_of(alloc),
         },
         (State::Body { start, name, body }, _) => {
-            return in_body(alloc, rules, start, name, body, token, text);
+            return in_body(alloc, rules, start, name, body, piece);
         }
         _ => return Err(Stop::Refused),
     };

@@ -15,7 +15,7 @@ use Rattle.csn_grammar.specs.declared.rules.Rule.{Rule}
 use Rattle.csn_grammar.specs.ExprV.{ExprV, expr, FormV, lits, null, bit, octet, name, labelled, group, seq, choice, power, cut, both, sends, ExprsV, BranchV, exprs_of, branches_of}
 use Rattle.csn_grammar.specs.RulesV.{RulesV}
 use Rattle.csn_grammar.specs.Names.{is_built_in, rule_of, name_of}
-use Rattle.csn_grammar.specs.Forms.{unit_of, is_bit, width_of, WindowV, window_of}
+use Rattle.csn_grammar.specs.Forms.{unit_of, is_bit, WindowV, window_of}
 use Rattle.csn_grammar.specs.TailForm.{tail_of}
 use Rattle.csn_grammar.specs.Void.{Kept}
 use Rattle.csn_grammar.proofs.VoidFacts.{no_rule, same_rule, same_window}
@@ -374,11 +374,8 @@ module _ (rules : RulesV) (r : Reading) where
 
   pub some-window :
       {s e : ℕ} {x y : ExprV} {at : ℕ} {seen : Seen ℕ} {nodes : List Placed}
-      → Gives rules r (expr s e (both x y)) at seen nodes → width_of x ≡ None → width_of y ≡ None → ⊥
-  some-window {x = x} {y = y} (gives_window v count is c g p) none none' = no_none is (no-window x y none none')
-    where
-      no-window : (x y : ExprV) → width_of x ≡ None → width_of y ≡ None → window_of x y ≡ None
-      no-window x y p q = cc
+      → Gives rules r (expr s e (both x y)) at seen nodes → window_of x y ≡ None → ⊥
+  some-window (gives_window v count is c g p) none = no_none is none
 
   -- ---- a node, its parts, and the node again with their numbers
 

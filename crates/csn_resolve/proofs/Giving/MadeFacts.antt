@@ -1,5 +1,5 @@
 -- Facts about what contracts see of nodes that are made, and of labelled items that are seen with their nodes.
-use Rattle.std.proofs.Common.{◌≡◌, ℕ, zero, suc, ◌+◌, true, false, List, [], ◌∷◌, ◌++◌, length, min, take, slice_get, set, Some, None, refl, sym, ◌∙◌, ap, rules, arith}
+use Rattle.std.proofs.Common.{◌≡◌, ℕ, zero, suc, true, false, List, [], ◌∷◌, ◌++◌, length, min, take, slice_get, set, Some, None, refl, sym, ◌∙◌, ap, rules, arith}
 use Rattle.std.specs.Prelude.{if◌then◌else◌}
 use Rattle.std.specs.Borrow.{Bor}
 use Rattle.csn_desc.specs.declared.node.Node.{Node}

@@ -31,7 +31,7 @@ use Rattle.csn_resolve.proofs.Emptiness.Full.{gives_full}
 use Rattle.csn_resolve.proofs.Laying.Holding.{Holds, holds_along, holds_from, holds_first, holds_rest, holds_behind, node_from}
 use Rattle.csn_resolve.proofs.Meaning.Agreement.{Agree, counts_agree, agree_later, agree_item}
 use Rattle.csn_resolve.proofs.Laying.NodeFacts.{gives_some, items_behind, label_named}
-use Rattle.csn_resolve.proofs.Meaning.SameLeaves.{Same, lits_same, null_same, bit_same, octet_same, field_same, rest_same, padding_same, spare_same, spare_zero, spare_one_low}
+use Rattle.csn_resolve.proofs.Meaning.SameLeaves.{Same, lits_same, null_same, is_one_bit, is_one_octet, unit_same, field_same, rest_same, padding_same, spare_same, spare_zero, spare_one_low}
 use Rattle.csn_resolve.proofs.Meaning.SameParts.{SameItems, same_end, same_next, seq_same, cut_same, times_same, many_same}
 use Rattle.csn_resolve.proofs.Meaning.SameForms.{SameEach, SameRule, choice_same, only_same, window_same, label_same, group_same, received_same, sent_same, name_same}
 use Rattle.csn_resolve.proofs.Meaning.SameForms as forms
@@ -69,8 +69,8 @@ module _ (rules : RulesV) (r : Reading) where
             → (env : Env) (v : Values) → Agree at v env seen → Same rules r d x at env v
         gives_same {at = at} (gives_lits p) h env v a = let here = holds_along d.nodes at p h in lits_same rules r d here.0
         gives_same {at = at} (gives_null p) h env v a = let here = holds_along d.nodes at p h in null_same rules r d here.0
-        gives_same {at = at} (gives_bit p) h env v a = let here = holds_along d.nodes at p h in bit_same rules r d here.0
-        gives_same {at = at} (gives_octet p) h env v a = let here = holds_along d.nodes at p h in octet_same rules r d here.0
+        gives_same {at = at} (gives_bit p) h env v a = let here = holds_along d.nodes at p h in unit_same rules r d is_one_bit here.0
+        gives_same {at = at} (gives_octet p) h env v a = let here = holds_along d.nodes at p h in unit_same rules r d is_one_octet here.0
         gives_same {at = at} {seen = seen} (gives_field {k = k} unit count is counted p) h env v a =
             let here = holds_along d.nodes at p h in
             field_same rules r d unit count seen is counted (counts_agree at v env seen k count a counted) here.0

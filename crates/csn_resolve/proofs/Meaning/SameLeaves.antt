@@ -20,7 +20,7 @@ use Rattle.csn_desc.specs.Follows.{NFollow, NodeFollows, follows_at}
 use Rattle.csn_desc.specs.Follows as after
 use Rattle.csn_grammar.specs.declared.exponent.Exponent.{Exponent}
 use Rattle.csn_grammar.specs.declared.exponent.Exponent.TheVariants.{Any, Number, Linear}
-use Rattle.csn_grammar.specs.ExprV.{ExprV, expr, lits, null, bit, octet, name, power}
+use Rattle.csn_grammar.specs.ExprV.{ExprV, expr, FormV, lits, null, bit, octet, name, power}
 use Rattle.csn_grammar.specs.RulesV.{RulesV}
 use Rattle.csn_grammar.specs.Names.{same_name, is_built_in}
 use Rattle.csn_grammar.specs.Forms.{unit_of, is_bit, is_spare_name, is_leaf}
@@ -169,31 +169,32 @@ module _ (rules : RulesV) (r : Reading) (d : DescV) where
 
   -- ---- fields
 
-  bit_to :
-      {s e o : ℕ} {env : Env} {v : Values} {b : List ℕ} {t : TreeV}
-      → Means rules r (expr s e bit) o env b t → NodeMeans d (Field 1 (Fixed 1)) o v b t
-  bit_to (means_bit one h) = node.means_field 1 refl one h
+  -- one bit or one octet, and how wide it is
+  pub data IsUnit : FormV → ℕ → Type 0 where
+    is_one_bit : IsUnit bit 1
+    is_one_octet : IsUnit octet 8
 
-  bit_from :
-      {s e o : ℕ} {env : Env} {v : Values} {b : List ℕ} {t : TreeV}
-      → NodeMeans d (Field 1 (Fixed 1)) o v b t → Means rules r (expr s e bit) o env b t
-  bit_from (node.means_field n is wide h) = let one : 1 ≡ n = cc in means_bit (omega (arith, wide, one)) h
+  unit_leaf : (s e : ℕ) {unit : ℕ} {x : FormV} → IsUnit x unit → is_leaf (expr s e x) ≡ true
+  unit_leaf s e is_one_bit = refl
+  unit_leaf s e is_one_octet = refl
 
-  pub bit_same : {s e i : ℕ} {env : Env} {v : Values} → slice_get d.nodes i ≡ Some (Field 1 (Fixed 1)) → Same (expr s e bit) i env v
-  bit_same {v = v} at = leaf_same (Field 1 (Fixed 1)) at refl (λ o b t. (bit_to, bit_from)) (field_begun 1 (Fixed 1) v)
+  unit_to :
+      {s e o unit : ℕ} {x : FormV} {env : Env} {v : Values} {b : List ℕ} {t : TreeV}
+      → IsUnit x unit → Means rules r (expr s e x) o env b t → NodeMeans d (Field unit (Fixed 1)) o v b t
+  unit_to is_one_bit (means_bit one h) = node.means_field 1 refl one h
+  unit_to is_one_octet (means_octet eight h) = node.means_field 1 refl eight h
 
-  octet_to :
-      {s e o : ℕ} {env : Env} {v : Values} {b : List ℕ} {t : TreeV}
-      → Means rules r (expr s e octet) o env b t → NodeMeans d (Field 8 (Fixed 1)) o v b t
-  octet_to (means_octet eight h) = node.means_field 1 refl eight h
+  unit_from :
+      {s e o unit : ℕ} {x : FormV} {env : Env} {v : Values} {b : List ℕ} {t : TreeV}
+      → IsUnit x unit → NodeMeans d (Field unit (Fixed 1)) o v b t → Means rules r (expr s e x) o env b t
+  unit_from is_one_bit (node.means_field n is wide h) = let one : 1 ≡ n = cc in means_bit (omega (arith, wide, one)) h
+  unit_from is_one_octet (node.means_field n is wide h) = let one : 1 ≡ n = cc in means_octet (omega (arith, wide, one)) h
 
-  octet_from :
-      {s e o : ℕ} {env : Env} {v : Values} {b : List ℕ} {t : TreeV}
-      → NodeMeans d (Field 8 (Fixed 1)) o v b t → Means rules r (expr s e octet) o env b t
-  octet_from (node.means_field n is wide h) = let one : 1 ≡ n = cc in means_octet (omega (arith, wide, one)) h
-
-  pub octet_same : {s e i : ℕ} {env : Env} {v : Values} → slice_get d.nodes i ≡ Some (Field 8 (Fixed 1)) → Same (expr s e octet) i env v
-  octet_same {v = v} at = leaf_same (Field 8 (Fixed 1)) at refl (λ o b t. (octet_to, octet_from)) (field_begun 8 (Fixed 1) v)
+  pub unit_same :
+      {s e i unit : ℕ} {x : FormV} {env : Env} {v : Values}
+      → IsUnit x unit → slice_get d.nodes i ≡ Some (Field unit (Fixed 1)) → Same (expr s e x) i env v
+  unit_same {s = s} {e = e} {unit = unit} {v = v} is at =
+      leaf_same (Field unit (Fixed 1)) at (unit_leaf s e is) (λ o b t. (unit_to is, unit_from is)) (field_begun unit (Fixed 1) v)
 
   field_to :
       {s e o : ℕ} {x : ExprV} {k : Exponent} {env : Env} {v : Values} {b : List ℕ} {t : TreeV} (unit : ℕ) (count : Count) (seen : Seen ℕ)

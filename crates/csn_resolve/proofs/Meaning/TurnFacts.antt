@@ -1,6 +1,6 @@
 -- A rule in tail form goes round as a repetition does: its items, then any number of turns, each its word and
 -- then the items, then the word that stops it.
-use Rattle.std.proofs.Common.{◌≡◌, ℕ, suc, ◌+◌, ◌≤◌, List, [], ◌∷◌, ◌++◌, length, refl, sym, ◌∙◌, ap, subst, arith, append_assoc, append-nil, length-append}
+use Rattle.std.proofs.Common.{◌≡◌, ℕ, ◌+◌, ◌≤◌, List, [], ◌++◌, length, refl, sym, ◌∙◌, ap, subst, arith, append_assoc, append-nil, length-append}
 use Rattle.csn_desc.specs.declared.reading.Reading.{Reading}
 use Rattle.csn_desc.specs.declared.symbol.Symbol.{Symbol}
 use Rattle.csn_desc.specs.TreeV.{empty, row, Trees, more}
@@ -62,18 +62,31 @@ module _ (rules : RulesV) (r : Reading) where
           → ManyMean rules r (turn_of tail) (o + length b1) env b2 turns
           → b3 ≡ spelled tail.end.stop.run (o + length b1 + length b2) → Turns o env b ts turns
 
+    -- a turn in front of others
+    turn_before :
+        {env : Env} {b b3 : List ℕ} {next turns : Trees} (o : ℕ) (b1 b2 c1 c2 c3 : List ℕ) → 1 ≤ length tail.end.again.run
+        → b ≡ b1 ++ (b2 ++ b3) → b2 ≡ spelled tail.end.again.run (o + length b1) → b3 ≡ c1 ++ (c2 ++ c3)
+        → ItemsMean rules r tail.items (o + length b1 + length b2) [] env c1 next
+        → ManyMean rules r (turn_of tail) (o + length b1 + length b2 + length c1) env c2 turns
+        → (b ≡ b1 ++ (((b2 ++ c1) ++ c2) ++ c3))
+        × ManyMean rules r (turn_of tail) (o + length b1) env ((b2 ++ c1) ++ c2) (more (row (more empty next)) turns)
+        × (o + length b1 + length b2 + length c1 + length c2 ≡ o + length b1 + length ((b2 ++ c1) ++ c2))
+    turn_before o b1 b2 c1 c2 c3 some joins p joins' h m =
+        let long = ap length p ∙ length-spelled tail.end.again.run (o + length b1) in
+        let both = length-append b2 c1 in (
+          joins ∙ ap (λ z. b1 ++ z) (ap (λ z. b2 ++ z) joins' ∙ regroup b2 c1 c2 c3),
+          many_next (b2 ++ c1) c2 refl (omega (arith, long, both, some)) (turn_is b2 c1 refl p h) (many_from (omega (arith, both)) m),
+          omega (arith, both, length-append (b2 ++ c1) c2),
+        )
+
     turn_more :
         {o : ℕ} {env : Env} {b b3 : List ℕ} {ts next turns : Trees} (b1 b2 : List ℕ) → 1 ≤ length tail.end.again.run
         → b ≡ b1 ++ (b2 ++ b3) → ItemsMean rules r tail.items o [] env b1 ts
         → b2 ≡ spelled tail.end.again.run (o + length b1)
         → Turns (o + length b1 + length b2) env b3 next turns → Turns o env b ts (more (row (more empty next)) turns)
     turn_more {o = o} b1 b2 some joins h p (turns_are c1 c2 c3 joins' h' m stop) =
-        let long = ap length p ∙ length-spelled tail.end.again.run (o + length b1) in
-        let both = length-append b2 c1 in
-        turns_are b1 ((b2 ++ c1) ++ c2) c3
-        (joins ∙ ap (λ z. b1 ++ z) (ap (λ z. b2 ++ z) joins' ∙ regroup b2 c1 c2 c3)) h
-        (many_next (b2 ++ c1) c2 refl (omega (arith, long, both, some)) (turn_is b2 c1 refl p h') (many_from (omega (arith, both)) m))
-        (stop ∙ ap (spelled tail.end.stop.run) (omega (arith, both, length-append (b2 ++ c1) c2)))
+        let before = turn_before o b1 b2 c1 c2 c3 some joins p joins' h' m in
+        turns_are b1 ((b2 ++ c1) ++ c2) c3 before.0 h before.1 (stop ∙ ap (spelled tail.end.stop.run) before.2)
 
     pub tail_turned :
         {o : ℕ} {env : Env} {b : List ℕ} {ts turns : Trees} → 1 ≤ length tail.end.again.run
@@ -134,12 +147,9 @@ module _ (rules : RulesV) (r : Reading) where
           in_turns b1 ((b2 ++ c1) ++ c2) (joins ∙ ap (λ z. b1 ++ z) (ap (λ z. b2 ++ z) joins' ∙ sym (append_assoc b2 c1 c2))) h
           (many_later (b2 ++ c1) c2 refl (omega (arith, long, both, some)) (turn_is b2 c1 refl p h') (more_from (omega (arith, both)) m))
       begun_more {o = o} b1 b2 some joins h p (in_stop c1 c2 c3 joins' h' m begins) =
-          let long = ap length p ∙ length-spelled tail.end.again.run (o + length b1) in
-          let both = length-append b2 c1 in
-          in_stop b1 ((b2 ++ c1) ++ c2) c3
-          (joins ∙ ap (λ z. b1 ++ z) (ap (λ z. b2 ++ z) joins' ∙ regroup b2 c1 c2 c3)) h
-          (many_next (b2 ++ c1) c2 refl (omega (arith, long, both, some)) (turn_is b2 c1 refl p h') (many_from (omega (arith, both)) m))
-          (begins.0, ap (spelled tail.end.stop.run) (omega (arith, both, length-append (b2 ++ c1) c2)) ∙ begins.1)
+          let before = turn_before o b1 b2 c1 c2 c3 some joins p joins' h' m in
+          in_stop b1 ((b2 ++ c1) ++ c2) c3 before.0 h before.1
+          (begins.0, ap (spelled tail.end.stop.run) (sym before.2) ∙ begins.1)
 
       pub tail_begun :
           {o : ℕ} {env : Env} {b : List ℕ} → 1 ≤ length tail.end.again.run → TailFollows rules r tail o env b → TailBegun o env b

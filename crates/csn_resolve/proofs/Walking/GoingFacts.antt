@@ -1,6 +1,7 @@
 -- Facts about how far a walk comes over steps.
 use Rattle.std.proofs.Common.{◌≡◌, ℕ, suc, Bool, true, false, ◌==◌, List, [], ◌∷◌, ◌++◌, Result, Ok, Err, refl, sym, ◌∙◌, ap, subst}
-use Rattle.std.specs.Prelude.{if◌then◌else◌}
+use Rattle.std.proofs.lemmas.Result.{err_from_is_err_and}
+use Rattle.std.specs.Prelude.{if◌then◌else◌, IsErrAnd}
 use Rattle.csn_resolve.specs.declared.why.Why.{Why}
 use Rattle.csn_resolve.specs.declared.why.Why.TheVariants.{TooManyNodes}
 use Rattle.csn_resolve.specs.declared.fault.ResolveFault.{ResolveFault}
@@ -48,6 +49,12 @@ goes-on begun after xs ys (Err fault) p h = stops-later begun after xs ys fault 
 
 pub stops-same : {w v : Way} (fault : ResolveFault) → w ≡ v → Stops v fault → Stops w fault
 stops-same fault p h = let Q : Way → Type 0 = λ z. Stops z fault in subst Q (sym p) h
+
+-- what the exit of a `?` returns
+pub exit-stops :
+    (begun : ℕ) (steps : List Step) (fault : ResolveFault) (answer : Result Begun ResolveFault)
+    → IsErrAnd answer (λ e. e ≡ fault) → Stops (way begun steps) fault → Goes begun steps answer
+exit-stops begun steps fault answer same h = let p = err_from_is_err_and answer same in rw (p.1, p.2) h
 
 pub stops-in :
     (begun : ℕ) (first rest steps : List Step) (fault : ResolveFault)

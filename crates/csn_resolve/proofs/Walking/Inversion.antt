@@ -204,11 +204,16 @@ module _ (rules : RulesV) (r : Reading) where
   plain-steps none (rule_plain is h) = h
   plain-steps none (rule_tail tail is i t left p) = absurd (no_none is none)
 
+  -- the steps through a rule in tail form, from its node at `place` on, where `inner` stands inside it
+  abbrev pub TailSteps : Around → ℕ → Around → TailV → List Step → Type 0
+  TailSteps a place inner tail steps =
+      (items : List Step) × (turn : List Step) × (left : List Step) × ItemsWalk rules r inner [] tail.items items
+      × ItemsWalk rules r (in_turn inner) [] tail.items turn × TurnLeft rules r tail left
+      × (steps ≡ node_at a place ++ (items ++ (turn_begun inner tail.end ++ (turn ++ (left ++ node_at inner tail.end.stop.at)))))
+
   pub tail-steps :
       {a : Around} {rule : Rule} (tail : TailV) {steps : List Step} → tail_of rule ≡ Some tail → RuleWalk rules r a rule steps
-      → (items : List Step) × (turn : List Step) × (left : List Step) × ItemsWalk rules r (inside a) [] tail.items items
-      × ItemsWalk rules r (in_turn (inside a)) [] tail.items turn × TurnLeft rules r tail left
-      × (steps ≡ node_at a (start_of rule.body) ++ (items ++ (turn_begun (inside a) tail.end ++ (turn ++ (left ++ node_at (inside a) tail.end.stop.at)))))
+      → TailSteps a (start_of rule.body) (inside a) tail steps
   tail-steps tail at (rule_plain none h) = absurd (no_none at none)
   tail-steps {a} {rule} tail at (rule_tail {items = items} {turn = turn} {left = lefts} other is i t left p) =
       let same : other ≡ tail = same_tail rule is at in
@@ -270,17 +275,10 @@ module _ (rules : RulesV) (r : Reading) where
 
   pub tail-steps-at :
       {a : Around} {rule : Rule} (tail : TailV) (inner : Around) (place : ℕ) {steps : List Step} → tail_of rule ≡ Some tail
-      → start_of rule.body ≡ place → inner ≡ inside a → RuleWalk rules r a rule steps
-      → (items : List Step) × (turn : List Step) × (left : List Step) × ItemsWalk rules r inner [] tail.items items
-      × ItemsWalk rules r (in_turn inner) [] tail.items turn × TurnLeft rules r tail left
-      × (steps ≡ node_at a place ++ (items ++ (turn_begun inner tail.end ++ (turn ++ (left ++ node_at inner tail.end.stop.at)))))
-  tail-steps-at {a} {rule} tail inner place {steps} at start is h =
-      let Q : Around → Type 0 = λ z. (items : List Step) × (turn : List Step) × (left : List Step) × ItemsWalk rules r z [] tail.items items
-      × ItemsWalk rules r (in_turn z) [] tail.items turn × TurnLeft rules r tail left
-      × (steps ≡ node_at a place ++ (items ++ (turn_begun z tail.end ++ (turn ++ (left ++ node_at z tail.end.stop.at))))) in
-      let P : ℕ → Type 0 = λ y. (items : List Step) × (turn : List Step) × (left : List Step) × ItemsWalk rules r (inside a) [] tail.items items
-      × ItemsWalk rules r (in_turn (inside a)) [] tail.items turn × TurnLeft rules r tail left
-      × (steps ≡ node_at a y ++ (items ++ (turn_begun (inside a) tail.end ++ (turn ++ (left ++ node_at (inside a) tail.end.stop.at))))) in
+      → start_of rule.body ≡ place → inner ≡ inside a → RuleWalk rules r a rule steps → TailSteps a place inner tail steps
+  tail-steps-at {a} tail inner place {steps} at start is h =
+      let P : ℕ → Type 0 = λ z. TailSteps a z (inside a) tail steps in
+      let Q : Around → Type 0 = λ z. TailSteps a place z tail steps in
       subst Q (sym is) (subst P start (tail-steps tail at h))
 
   -- ---- a part with an exponent, where the exponent was checked

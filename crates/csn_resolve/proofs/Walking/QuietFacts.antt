@@ -8,7 +8,7 @@ use Rattle.csn_grammar.specs.declared.rules.Rule.{Rule}
 use Rattle.csn_grammar.specs.ExprV.{ExprV, expr, name, labelled, group, seq, choice, power, cut, both, sends, ExprsV, BranchV, exprs_of, branches_of}
 use Rattle.csn_grammar.specs.RulesV.{RulesV}
 use Rattle.csn_grammar.specs.Names.{rule_of}
-use Rattle.csn_grammar.specs.Forms.{unit_of, is_bit, WidthV, width_of}
+use Rattle.csn_grammar.specs.Forms.{unit_of, is_bit, WidthV, width_of, WindowV}
 use Rattle.csn_grammar.specs.TailForm.{TailV, tail_of}
 use Rattle.csn_grammar.proofs.VoidFacts.{no_rule, same_rule}
 use Rattle.csn_resolve.specs.declared.why.Why.TheVariants.{TooDeep, ZeroCount, CountTooLarge, Recursive}
@@ -22,6 +22,7 @@ use Rattle.csn_resolve.proofs.Walking.Quiet.{first_of, rest_of, quiet_along}
 use Rattle.csn_resolve.proofs.Walking.Inversion.{labelled-steps, group-steps, seq-steps, choice-steps, cut-steps, sends-steps, window-steps, window-behind-steps, items-next-steps, components-next-steps, branches-next-steps, plain-steps, tail-steps}
 use Rattle.csn_resolve.proofs.Basics.Bools.{no_both}
 use Rattle.csn_resolve.proofs.Basics.Options.{no_none}
+use Rattle.csn_resolve.proofs.Basics.Windows.{Sides, left_wide, right_wide}
 
 not-refused : (b : Bool) (place : ℕ) → Quiet (refused_if b CountTooLarge place) → b ≡ false
 not-refused true place q = absurd q
@@ -202,25 +203,35 @@ module _ (rules : RulesV) (r : Reading) where
 
   -- ---- windows
 
-  pub quiet-window :
+  quiet-left-wide :
       {names s e : ℕ} {x y : ExprV} {w : WidthV} → width_of x ≡ Some w → QuietAt rules r names (expr s e (both x y))
       → QuietAt rules r names y × (is_too_large w.count ≡ false)
-  quiet-window {s = s} {w = w} is h =
+  quiet-left-wide {s = s} {w = w} is h =
       let parts = window-steps rules r w is h.walk in
       let after = rest_of (node_at h.around s) (parts.0 ++ parts.1) parts.4 h.quiet in (
         within-node s h.around parts.1 (parts.0 ++ parts.1) h.below h.shallow parts.4 h.quiet parts.3 (rest_of parts.0 parts.1 refl after),
         count-small parts.2 (first_of parts.0 parts.1 refl after),
       )
 
-  pub quiet-behind :
+  quiet-right-wide :
       {names s e : ℕ} {x y : ExprV} {w : WidthV} → width_of x ≡ None → width_of y ≡ Some w → QuietAt rules r names (expr s e (both x y))
       → QuietAt rules r names x × (is_too_large w.count ≡ false)
-  quiet-behind {s = s} {w = w} none is h =
+  quiet-right-wide {s = s} {w = w} none is h =
       let parts = window-behind-steps rules r w none is h.walk in
       let after = rest_of (node_at h.around s) (parts.0 ++ parts.1) parts.4 h.quiet in (
         within-node s h.around parts.0 (parts.0 ++ parts.1) h.below h.shallow parts.4 h.quiet parts.2 (first_of parts.0 parts.1 refl after),
         count-small parts.3 (rest_of parts.0 parts.1 refl after),
       )
+
+  pub quiet-window :
+      {names s e : ℕ} {x y : ExprV} {w : WindowV} → Sides x y w → QuietAt rules r names (expr s e (both x y))
+      → QuietAt rules r names w.part × (is_too_large w.width.count ≡ false)
+  quiet-window {names} {w = w} (left_wide wide part) h =
+      let P : ExprV → Type 0 = λ z. QuietAt rules r names z in
+      let quiet = quiet-left-wide wide h in (subst P part quiet.0, quiet.1)
+  quiet-window {names} {w = w} (right_wide none wide part) h =
+      let P : ExprV → Type 0 = λ z. QuietAt rules r names z in
+      let quiet = quiet-right-wide none wide h in (subst P part quiet.0, quiet.1)
 
   -- ---- names and rules
 

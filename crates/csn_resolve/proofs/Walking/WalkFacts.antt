@@ -12,24 +12,11 @@ use Rattle.csn_resolve.specs.declared.begun.Around as b
 use Rattle.csn_resolve.specs.Seen as seen
 use Rattle.csn_resolve.specs.Seen.{Frame}
 use Rattle.csn_resolve.specs.Steps.{Step}
-use Rattle.csn_resolve.specs.Walk.{Around, inside, putting_in, behind, outermost, Walk, ItemsWalk, ComponentsWalk, BranchesWalk, BranchLeft, RuleWalk}
+use Rattle.csn_resolve.specs.Walk.{Around, putting_in, behind, outermost, Walk, ItemsWalk, ComponentsWalk, BranchesWalk, BranchLeft, RuleWalk}
 use Rattle.csn_resolve.specs.Views.{entered_view, frame_after, seen_view, around_view}
 use Rattle.csn_resolve.proofs.Basics.Parts.{drop_at}
 use Rattle.csn_resolve.proofs.Naming.ViewFacts.{entered-Rule, entered-Nothing, seen-Behind, seen-Nothing}
 use Rattle.csn_resolve.proofs.Walking.Inversion.{items-as, components-as, branches-as}
-
-pub inside-view :
-    (r : Reading) (a c : b.Around) → c.depth ≡ a.depth + 1 → c.names ≡ a.names → c.seen ≡ a.seen
-    → around_view r c ≡ inside (around_view r a)
-inside-view r a c depth names sees =
-    let deep : c.depth ≡ suc a.depth = omega (arith, depth) in
-    let one : around_view r c ≡ record { depth = suc a.depth; names = entered_view c.names.now; seen = seen_view r c.seen.now } =
-    ap (λ (z : ℕ). record { depth = z; names = entered_view c.names.now; seen = seen_view r c.seen.now }) deep in
-    let two : record { depth = suc a.depth; names = entered_view c.names.now; seen = seen_view r c.seen.now } ≡ record { depth = suc a.depth; names = entered_view a.names.now; seen = seen_view r c.seen.now } =
-    ap (λ (z : Bor e.Entered). record { depth = suc a.depth; names = entered_view z.now; seen = seen_view r c.seen.now }) names in
-    let three : record { depth = suc a.depth; names = entered_view a.names.now; seen = seen_view r c.seen.now } ≡ inside (around_view r a) =
-    ap (λ (z : Bor s.Seen). record { depth = suc a.depth; names = entered_view a.names.now; seen = seen_view r z.now }) sees in
-    one ∙ (two ∙ three)
 
 module _ (rules : RulesV) (r : Reading) where
   pub behind-in :

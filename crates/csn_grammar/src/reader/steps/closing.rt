@@ -4,30 +4,24 @@ ghost use Rattle.csn_grammar.specs.reader.Gives.{Gives};
 ghost use Rattle.csn_grammar.specs.reader.BodySteps.{close};
 
 use crate::expr::{Expr, Form, Span};
-use crate::reader::body::{Frames, Mode, Next, Opening};
+use crate::reader::body::{Frames, Mode, Next, Opening, Within};
 use crate::reader::steps::level::goes;
 use crate::reader::stop::Stop;
-use csn_lexer::TokenKind;
+use csn_lexer::{Token, TokenKind};
 use std::alloc::Global;
 
 /// Leaves what is open, where the token closes it.
 #[tactic(auto, unfolding(crate::specs::reader::BodySteps::close, crate::specs::reader::BodySteps::close_in))]
-pub fn close(
-    alloc: Global,
-    mut frames: Frames,
-    body: Expr,
-    kind: TokenKind,
-    end: u32,
-) -> Result<Next, Stop>
-    ensures { Gives result (close frames body kind end) }
+pub fn close(alloc: Global, mut frames: Frames, body: Expr, token: Token) -> Result<Next, Stop>
+    ensures { Gives result (close frames body token.kind token.end) }
 {
     let Some(frame) = frames.pop() else {
-        return match kind {
+        return match token.kind {
             TokenKind::Semicolon => Ok(Next::Ends(body)),
             _ => Err(Stop::Refused),
         };
     };
-    let form = match (frame.opening, kind) {
+    let form = match (frame.opening, token.kind) {
         (Opening::Brace, TokenKind::BraceRight) => Form::Group(Box::new(alloc, body)?),
         (Opening::Label(label), TokenKind::Greater) => {
             Form::Labelled(label, Box::new(alloc, body)?)
@@ -36,7 +30,11 @@ pub fn close(
     };
     let span = Span {
         start: frame.start,
-        end,
+        end: token.end,
     };
-    Ok(goes(frames, frame.level, Mode::Base(Expr { span, form })))
+    let within = Within {
+        frames,
+        level: frame.level,
+    };
+    Ok(goes(within, Mode::Base(Expr { span, form })))
 }

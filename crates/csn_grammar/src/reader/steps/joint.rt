@@ -1,86 +1,73 @@
 //! Behind a side, where `&` or `=` may come.
 
-ghost use Rattle.std.specs.Prelude.{◌≤◌, length};
-ghost use Rattle.csn_lexer.specs.declared.token.TheConstants.{MOST_TEXT};
 ghost use Rattle.csn_grammar.specs.reader.Gives.{Gives};
 ghost use Rattle.csn_grammar.specs.reader.BodySteps.{after_window, after_side};
 
 use crate::expr::Expr;
-use crate::reader::body::{Frames, Joint, Level, Mode, Next};
+use crate::reader::body::{Joint, Level, Mode, Next, Within};
 use crate::reader::build::{both_of, sends_of};
+use crate::reader::piece::Piece;
 use crate::reader::steps::level::goes;
 use crate::reader::steps::sequence::after_item;
 use crate::reader::stop::Stop;
-use csn_lexer::{Token, TokenKind};
+use csn_lexer::TokenKind;
 use std::alloc::Global;
 
 // Behind a side, or two with `&` between.
 #[tactic(auto, unfolding(crate::specs::reader::BodySteps::after_window))]
 fn after_window(
     alloc: Global,
-    frames: Frames,
-    mut level: Level,
+    mut within: Within,
     window: Expr,
-    token: Token,
-    text: &[u8],
+    piece: Piece<'_>,
 ) -> Result<Next, Stop>
-    requires { length text.now ≤ MOST_TEXT }
-    ensures { Gives result (after_window frames level window token.kind token.start token.end text.now) }
+    ensures { Gives result (after_window within.frames within.level window piece.entry.token.kind piece.entry.token.start piece.entry.token.end piece.entry.text.now) }
 {
-    match token.kind {
+    match piece.token.kind {
         TokenKind::Equal => {
-            level.joint = Joint::Sends(window);
-            Ok(goes(frames, level, Mode::Side))
+            within.level.joint = Joint::Sends(window);
+            Ok(goes(within, Mode::Side))
         }
-        _ => after_item(alloc, frames, level, window, token, text),
+        _ => after_item(alloc, within, window, piece),
     }
 }
 
 /// Takes the token behind a side that has no exponent any more.
 #[tactic(auto, unfolding(crate::specs::reader::BodySteps::after_side, crate::specs::reader::BodySteps::after_joint))]
-pub fn after_side(
-    alloc: Global,
-    frames: Frames,
-    level: Level,
-    side: Expr,
-    token: Token,
-    text: &[u8],
-) -> Result<Next, Stop>
-    requires { length text.now ≤ MOST_TEXT }
-    ensures { Gives result (after_side frames level side token.kind token.start token.end text.now) }
+pub fn after_side(alloc: Global, within: Within, side: Expr, piece: Piece<'_>) -> Result<Next, Stop>
+    ensures { Gives result (after_side within.frames within.level side piece.entry.token.kind piece.entry.token.start piece.entry.token.end piece.entry.text.now) }
 {
+    let Within { frames, level } = within;
     let Level {
         branches,
         error,
         items,
         joint,
     } = level;
-    let rest = Level {
-        branches,
-        error,
-        items,
-        joint: Joint::Alone,
+    let mut rest = Within {
+        frames,
+        level: Level {
+            branches,
+            error,
+            items,
+            joint: Joint::Alone,
+        },
     };
     match joint {
-        Joint::Alone => match token.kind {
+        Joint::Alone => match piece.token.kind {
             TokenKind::Ampersand => {
-                let level = Level {
-                    branches: rest.branches,
-                    error: rest.error,
-                    items: rest.items,
-                    joint: Joint::Window(side),
-                };
-                Ok(goes(frames, level, Mode::Side))
+                rest.level.joint = Joint::Window(side);
+                Ok(goes(rest, Mode::Side))
             }
-            _ => after_window(alloc, frames, rest, side, token, text),
+            _ => after_window(alloc, rest, side, piece),
         },
         Joint::Window(left) => {
             let window = both_of(alloc, left, side)?;
-            after_window(alloc, frames, rest, window, token, text)
+            after_window(alloc, rest, window, piece)
         }
         Joint::Sends(left) => {
             let item = sends_of(alloc, left, side)?;
-            after_item(alloc, frames, rest, item, token, text)
+            after_item(alloc, rest, item, piece)
         }
     }
 }

@@ -4,16 +4,16 @@ ghost use Rattle.std.specs.Prelude.{◌≡◌};
 ghost use Rattle.csn_grammar.specs.reader.BodySteps.{fresh};
 
 use crate::expr::{Branches, Exprs};
-use crate::reader::body::{Body, Frames, Joint, Level, Mode, Next};
+use crate::reader::body::{Body, Joint, Level, Mode, Next, Within};
 use std::alloc::Global;
 
 /// More of the body.
-pub fn goes(frames: Frames, level: Level, mode: Mode) -> Next
-    ensures { result ≡ Next.Goes (record { frames = frames; level = level; mode = mode }) }
+pub fn goes(within: Within, mode: Mode) -> Next
+    ensures { result ≡ Next.Goes (record { frames = within.frames; level = within.level; mode = mode }) }
 {
     Next::Goes(Body {
-        frames,
-        level,
+        frames: within.frames,
+        level: within.level,
         mode,
     })
 }

@@ -1,34 +1,27 @@
 //! The words between `<` and `>`, or `<` and `:`.
 
-ghost use Rattle.csn_grammar.specs.reader.Gives.{Gives, IsWordToken};
+ghost use Rattle.csn_grammar.specs.reader.Gives.{Gives};
 ghost use Rattle.csn_grammar.specs.reader.BodySteps.{first_word, after_words};
 
 use crate::expr::{Expr, Form, Span};
-use crate::reader::body::{Frames, Level, Mode, Next, Opening};
+use crate::reader::body::{Mode, Next, Opening, Within};
+use crate::reader::piece::Piece;
 use crate::reader::steps::level::goes;
 use crate::reader::steps::side::open_frame;
 use crate::reader::stop::Stop;
 use crate::reader::words::Words;
-use csn_lexer::{Token, TokenKind};
+use csn_lexer::TokenKind;
 use std::alloc::Global;
 
 /// Takes the token behind `<`.
 #[tactic(auto, unfolding(crate::specs::reader::BodySteps::first_word))]
-pub fn first_word(
-    alloc: Global,
-    frames: Frames,
-    level: Level,
-    start: u32,
-    kind: TokenKind,
-    text: &[u8],
-) -> Result<Next, Stop>
-    requires { IsWordToken kind text.now }
-    ensures { Gives result (first_word frames level start kind text.now) }
+pub fn first_word(alloc: Global, within: Within, start: u32, piece: Piece<'_>) -> Result<Next, Stop>
+    ensures { Gives result (first_word within.frames within.level start piece.entry.token.kind piece.entry.text.now) }
 {
-    match kind {
+    match piece.token.kind {
         TokenKind::Word => {
-            let words = Words::new(alloc, text)?;
-            Ok(goes(frames, level, Mode::Name { start, words }))
+            let words = Words::new(alloc, piece.text)?;
+            Ok(goes(within, Mode::Name { start, words }))
         }
         _ => Err(Stop::Refused),
     }
@@ -38,34 +31,31 @@ pub fn first_word(
 #[tactic(auto, unfolding(crate::specs::reader::BodySteps::after_words))]
 pub fn after_words(
     alloc: Global,
-    frames: Frames,
-    level: Level,
+    within: Within,
     start: u32,
     words: Words,
-    token: Token,
-    text: &[u8],
+    piece: Piece<'_>,
 ) -> Result<Next, Stop>
-    requires { IsWordToken token.kind text.now }
-    ensures { Gives result (after_words frames level start words token.kind token.end text.now) }
+    ensures { Gives result (after_words within.frames within.level start words piece.entry.token.kind piece.entry.token.end piece.entry.text.now) }
 {
-    match token.kind {
+    match piece.token.kind {
         TokenKind::Word => {
-            let words = words.and(text)?;
-            Ok(goes(frames, level, Mode::Name { start, words }))
+            let words = words.and(piece.text)?;
+            Ok(goes(within, Mode::Name { start, words }))
         }
         TokenKind::Greater => {
             let name = Expr {
                 span: Span {
                     start,
-                    end: token.end,
+                    end: piece.token.end,
                 },
                 form: Form::Name(words.label(alloc)?),
             };
-            Ok(goes(frames, level, Mode::Base(name)))
+            Ok(goes(within, Mode::Base(name)))
         }
         TokenKind::Colon => {
             let label = words.label(alloc)?;
-            open_frame(alloc, frames, level, start, Opening::Label(label))
+            open_frame(alloc, within, start, Opening::Label(label))
         }
         _ => Err(Stop::Refused),
     }

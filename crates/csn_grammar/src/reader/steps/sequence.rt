@@ -1,73 +1,61 @@
 //! Behind an item that is whole.
 
-ghost use Rattle.std.specs.Prelude.{◌≤◌, length};
-ghost use Rattle.csn_lexer.specs.declared.token.TheConstants.{MOST_TEXT};
 ghost use Rattle.csn_grammar.specs.reader.Gives.{Gives};
 ghost use Rattle.csn_grammar.specs.reader.BodySteps.{with_item, begin_side, after_item};
 
 use crate::expr::{Expr, Exprs};
-use crate::reader::body::{Frames, Joint, Level, Mode, Next};
+use crate::reader::body::{Joint, Level, Mode, Next, Within};
 use crate::reader::build::{cut_with, seq_with};
+use crate::reader::piece::Piece;
 use crate::reader::steps::choice::after_seq;
 use crate::reader::steps::level::goes;
 use crate::reader::steps::side::begin_side;
 use crate::reader::stop::Stop;
-use csn_lexer::{Token, TokenKind};
+use csn_lexer::TokenKind;
 use std::alloc::Global;
 
 // Begins the next item.
-fn next_item(
-    alloc: Global,
-    frames: Frames,
-    mut level: Level,
-    item: Expr,
-    token: Token,
-    text: &[u8],
-) -> Result<Next, Stop>
-    requires { length text.now ≤ MOST_TEXT }
-    ensures { Gives result (begin_side frames (with_item level item) token.kind token.start token.end text.now) }
+fn next_item(alloc: Global, mut within: Within, item: Expr, piece: Piece<'_>) -> Result<Next, Stop>
+    ensures { Gives result (begin_side within.frames (with_item within.level item) piece.entry.token.kind piece.entry.token.start piece.entry.token.end piece.entry.text.now) }
 {
-    level.items.push(item)?;
-    level.joint = Joint::Alone;
-    begin_side(alloc, frames, level, token, text)
+    within.level.items.push(item)?;
+    within.level.joint = Joint::Alone;
+    begin_side(alloc, within, piece)
 }
 
 /// Takes the token behind an item that is whole.
 #[tactic(auto, unfolding(crate::specs::reader::BodySteps::after_item))]
-pub fn after_item(
-    alloc: Global,
-    frames: Frames,
-    level: Level,
-    item: Expr,
-    token: Token,
-    text: &[u8],
-) -> Result<Next, Stop>
-    requires { length text.now ≤ MOST_TEXT }
-    ensures { Gives result (after_item frames level item token.kind token.start token.end text.now) }
+pub fn after_item(alloc: Global, within: Within, item: Expr, piece: Piece<'_>) -> Result<Next, Stop>
+    ensures { Gives result (after_item within.frames within.level item piece.entry.token.kind piece.entry.token.start piece.entry.token.end piece.entry.text.now) }
 {
+    let token = piece.token;
+    if let TokenKind::Word | TokenKind::Less | TokenKind::BraceLeft = token.kind {
+        return next_item(alloc, within, item, piece);
+    }
+    let Within { frames, level } = within;
+    let Level {
+        branches,
+        error,
+        items,
+        ..
+    } = level;
+    let rest = Within {
+        frames,
+        level: Level {
+            branches,
+            error,
+            items: Exprs::new(alloc),
+            joint: Joint::Alone,
+        },
+    };
     match token.kind {
         TokenKind::SlashSlash => {
-            let cut = cut_with(level.items, item, token.end)?;
-            let level = Level {
-                branches: level.branches,
-                error: level.error,
-                items: Exprs::new(alloc),
-                joint: Joint::Alone,
-            };
-            Ok(goes(frames, level, Mode::Slashes(cut)))
-        }
-        TokenKind::Word | TokenKind::Less | TokenKind::BraceLeft => {
-            next_item(alloc, frames, level, item, token, text)
+            let cut = cut_with(items, item, token.end)?;
+            Ok(goes(rest, Mode::Slashes(cut)))
         }
         _ => {
-            let body = seq_with(level.items, item)?;
-            let level = Level {
-                branches: level.branches,
-                error: level.error,
-                items: Exprs::new(alloc),
-                joint: Joint::Alone,
-            };
-            after_seq(alloc, frames, level, body, token.kind, token.end)
+            let body = seq_with(items, item)?;
+            after_seq(alloc, rest, body, token)
         }
     }
 }

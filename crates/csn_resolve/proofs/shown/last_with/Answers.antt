@@ -1,8 +1,7 @@
-use Rattle.std.proofs.Common.{◌≡◌, ◌+◌, ◌-◌, ◌<◌, ℕ, List, [], true, false, take, length, min, get_or, sym, ◌∙◌, ap, arith}
+use Rattle.std.proofs.Common.{◌≡◌, ◌-◌, ℕ, List, [], true, false, length, min, get_or, sym, ◌∙◌, ap, arith}
 use Rattle.std.proofs.lemmas.Option.{slice_get-get_or}
 use Rattle.csn_grammar.specs.Names.{same_name}
 use Rattle.csn_resolve.specs.Seen.{seen_in}
-use Rattle.csn_resolve.specs.Made.{frame_before}
 use Rattle.csn_resolve.proofs.Giving.MadeFacts.{passed-by, other-label, has-label, frame-all}
 use Rattle.csn_resolve.proofs.shown.last_with.Goals as goal
 

@@ -7,23 +7,24 @@ use Rattle.csn_grammar.specs.ExprV.{ExprV, BranchV, expr, power, both, exprs_of}
 use Rattle.csn_grammar.specs.declared.exponent.Exponent.TheVariants.{Any}
 use Rattle.csn_grammar.specs.ExprCode.{expr_size, list_size, branch_list_size}
 use Rattle.csn_grammar.specs.Names.{rule_of, is_built_in}
-use Rattle.csn_grammar.specs.Forms.{unit_of, is_bit, width_of, WindowV}
+use Rattle.csn_grammar.specs.Forms.{unit_of, is_bit}
 use Rattle.csn_grammar.specs.TailForm.{tail_of}
 use Rattle.csn_resolve.specs.declared.shown.Shown as s
 use Rattle.csn_resolve.specs.Seen.{Frame, Seen, with_labelled}
 use Rattle.csn_grammar.specs.Environment.{label_of}
 use Rattle.csn_resolve.specs.Gives.{placed}
-use Rattle.csn_resolve.specs.Views.{width_view, tail_view}
+use Rattle.csn_resolve.specs.Views.{window_view, tail_view}
 use Rattle.csn_resolve.specs.Made.{frame_before, shown_view, AllQuiet, GivesFew, ItemsGiveFew, Adds, AddsItems, AddsKept}
 use Rattle.csn_resolve.proofs.Basics.Parts.{item_size, branch_size_of, take_get, take_short, drop_at, get_within}
 use Rattle.csn_resolve.proofs.Walking.DepthFacts.{in_deepest, entered}
 use Rattle.csn_resolve.proofs.Naming.ViewFacts.{known}
 use Rattle.csn_resolve.proofs.Giving.MadeFacts.{shown-Behind, frame-push, no-nodes, not-bit}
-use Rattle.csn_resolve.proofs.Walking.QuietFacts.{quiet-as, quiet-labelled, quiet-group, quiet-left, quiet-right, quiet-seq, quiet-cut, quiet-choice, quiet-count, quiet-times, quiet-many, quiet-window, quiet-behind, quiet-name, quiet-plain, quiet-tail, quiet-at, quiet-branch}
+use Rattle.csn_resolve.proofs.Walking.QuietFacts.{quiet-as, quiet-labelled, quiet-group, quiet-left, quiet-right, quiet-seq, quiet-cut, quiet-choice, quiet-count, quiet-times, quiet-many, quiet-window, quiet-name, quiet-plain, quiet-tail, quiet-at, quiet-branch}
 use Rattle.csn_resolve.proofs.Giving.AddFacts.{on-ok, adds-as, few-as, room, adds-lits, adds-null, adds-bit, adds-octet, adds-group, few-group, adds-received, adds-sent, few-received, few-sent, adds-name, few-name, adds-spare, adds-labelled, few-labelled, adds-rest, adds-many, few-many, adds-field, adds-times, few-times, counted-given, adds-window, few-window, window-count, some-window, adds-only, few-only, adds-choice, few-choice, adds-plain, few-plain, seq-gives, cut-gives, adds-row, few-row, spare-named}
-use Rattle.csn_resolve.proofs.Giving.BuildFacts.{ItemsLeft, items-begin, items-next, items-few, items-done, parts-room, kept-more, kept-past, kept-few, kept-done, kept-quiet, tail-few, tail-items, items-in, turn-few, parts-fit, stop-room, adds-tail, turn-items, adds-turn, items-longer, kept-longer, tail-longer}
-use Rattle.csn_resolve.proofs.Basics.Windows.{left_window, right_window}
+use Rattle.csn_resolve.proofs.Giving.BuildFacts.{ItemsLeft, ItemsIn, items-begin, items-next, items-few, items-done, parts-room, kept-more, kept-past, kept-few, kept-done, kept-quiet, tail-few, tail-items, items-in, turn-few, parts-fit, stop-room, adds-tail, turn-items, adds-turn, items-longer, kept-longer, tail-longer}
+use Rattle.csn_resolve.proofs.Basics.Windows.{sides_of, part_size}
 use Rattle.csn_resolve.proofs.build.Builder.+build.Goals as goal
+use Rattle.csn_resolve.proofs.build.Builder.+build.Goals.{build_tail-In_ok-build_items}
 
 pub build-build_name-requires : goal.build-build_name-requires
 build-build_name-requires t c =
@@ -221,66 +222,30 @@ build-returns-in-Sent t c =
 
 pub build_both-width-count-requires : goal.build_both-width-count-requires
 build_both-width-count-requires t c =
-    let wide : width_of c.args.left.now ≡ Some (width_view c.in-Some.width) = sym c.in-Some.ensures in
-    let w : WindowV = record { width = width_view c.in-Some.width; part = c.args.right.now } in
-    let window = left_window c.args.left.now c.args.right.now (width_view c.in-Some.width) wide in
-    let there = window-count c.args.self.now.names.now c.args.self.now.reading w window c.requires.gives.1.1 in
-    record { count = there.0; is = there.1; small = (quiet-window c.args.self.now.names.now c.args.self.now.reading wide c.requires.quiet.1).1 }
-
-pub build_both-width-count-requires-in-Some-width_of : goal.build_both-width-count-requires-in-Some-width_of
-build_both-width-count-requires-in-Some-width_of t c =
-    let none : width_of c.args.left.now ≡ None = sym c.in_default.ensures in
-    let wide : width_of c.args.right.now ≡ Some (width_view c.in-Some-width_of.width) = sym c.in-Some-width_of.ensures in
-    let w : WindowV = record { width = width_view c.in-Some-width_of.width; part = c.args.left.now } in
-    let window = right_window c.args.left.now c.args.right.now (width_view c.in-Some-width_of.width) none wide in
-    let there = window-count c.args.self.now.names.now c.args.self.now.reading w window c.requires.gives.1.1 in
-    record { count = there.0; is = there.1; small = (quiet-behind c.args.self.now.names.now c.args.self.now.reading none wide c.requires.quiet.1).1 }
+    let w = window_view c.in-Some.window in
+    let sides = sides_of c.args.left.now c.args.right.now w (sym c.in-Some.ensures) in
+    let there = window-count c.args.self.now.names.now c.args.self.now.reading w (sym c.in-Some.ensures) c.requires.gives.1.1 in
+    record { count = there.0; is = there.1; small = (quiet-window c.args.self.now.names.now c.args.self.now.reading sides c.requires.quiet.1).1 }
 
 pub build_both-push-requires : goal.build_both-push-requires
 build_both-push-requires t c =
     room c.args.self.now.names.now c.args.self.now.reading c.requires.gives.1
 
-pub build_both-push-requires-in-Some-width_of : goal.build_both-push-requires-in-Some-width_of
-build_both-push-requires-in-Some-width_of t c =
-    room c.args.self.now.names.now c.args.self.now.reading c.requires.gives.1
-
 pub build_both-build-requires : goal.build_both-build-requires
 build_both-build-requires t c =
-    let wide : width_of c.args.left.now ≡ Some (width_view c.in-Some.width) = sym c.in-Some.ensures in
-    let w : WindowV = record { width = width_view c.in-Some.width; part = c.args.right.now } in
-    let window = left_window c.args.left.now c.args.right.now (width_view c.in-Some.width) wide in
-    (omega (arith, c.decreases), ((quiet-window c.args.self.now.names.now c.args.self.now.reading wide c.requires.quiet.1).0, few-window c.args.self.now.names.now c.args.self.now.reading c.args.made.now c.push.new.self w _ window c.in_ok-push.ensures c.requires.gives.1))
+    let w = window_view c.in-Some.window in
+    let sides = sides_of c.args.left.now c.args.right.now w (sym c.in-Some.ensures) in
+    (omega (arith, part_size sides, c.decreases), ((quiet-window c.args.self.now.names.now c.args.self.now.reading sides c.requires.quiet.1).0, few-window c.args.self.now.names.now c.args.self.now.reading c.args.made.now c.push.new.self w _ (sym c.in-Some.ensures) c.in_ok-push.ensures c.requires.gives.1))
 
-pub build_both-build-requires-in-Some-width_of : goal.build_both-build-requires-in-Some-width_of
-build_both-build-requires-in-Some-width_of t c =
-    let none : width_of c.args.left.now ≡ None = sym c.in_default.ensures in
-    let wide : width_of c.args.right.now ≡ Some (width_view c.in-Some-width_of.width) = sym c.in-Some-width_of.ensures in
-    let w : WindowV = record { width = width_view c.in-Some-width_of.width; part = c.args.left.now } in
-    let window = right_window c.args.left.now c.args.right.now (width_view c.in-Some-width_of.width) none wide in
-    (omega (arith, c.decreases), ((quiet-behind c.args.self.now.names.now c.args.self.now.reading none wide c.requires.quiet.1).0, few-window c.args.self.now.names.now c.args.self.now.reading c.args.made.now c.push-in-Some-width_of.new.self w _ window c.in_ok-push-2.ensures c.requires.gives.1))
-
-pub build_both-returns-in-Some : goal.build_both-returns-in-Some
-build_both-returns-in-Some t c =
-    let wide : width_of c.args.left.now ≡ Some (width_view c.in-Some.width) = sym c.in-Some.ensures in
-    let w : WindowV = record { width = width_view c.in-Some.width; part = c.args.right.now } in
-    let window = left_window c.args.left.now c.args.right.now (width_view c.in-Some.width) wide in
+pub build_both-returns : goal.build_both-returns
+build_both-returns t c =
     on-ok c.build.result
-    (λ h end. adds-window c.args.self.now.names.now c.args.self.now.reading c.args.made.now c.push.new.self c.build.new.made w (c.len-inner.result + 1) c.width-count.result window c.width-count.ensures (omega (arith, c.len-inner.ensures.len)) c.in_ok-push.ensures h)
+    (λ h end. adds-window c.args.self.now.names.now c.args.self.now.reading c.args.made.now c.push.new.self c.build.new.made (window_view c.in-Some.window) (c.len-part.result + 1) c.width-count.result (sym c.in-Some.ensures) c.width-count.ensures (omega (arith, c.len-part.ensures.len)) c.in_ok-push.ensures h)
     c.build.ensures
-
-pub build_both-returns-in-Some-width_of : goal.build_both-returns-in-Some-width_of
-build_both-returns-in-Some-width_of t c =
-    let none : width_of c.args.left.now ≡ None = sym c.in_default.ensures in
-    let wide : width_of c.args.right.now ≡ Some (width_view c.in-Some-width_of.width) = sym c.in-Some-width_of.ensures in
-    let w : WindowV = record { width = width_view c.in-Some-width_of.width; part = c.args.left.now } in
-    let window = right_window c.args.left.now c.args.right.now (width_view c.in-Some-width_of.width) none wide in
-    on-ok c.build-in-Some-width_of.result
-    (λ h end. adds-window c.args.self.now.names.now c.args.self.now.reading c.args.made.now c.push-in-Some-width_of.new.self c.build-in-Some-width_of.new.made w (c.len-inner.result + 1) c.width-count-in-Some-width_of.result window c.width-count-in-Some-width_of.ensures (omega (arith, c.len-inner.ensures.len)) c.in_ok-push-2.ensures h)
-    c.build-in-Some-width_of.ensures
 
 pub build_both-unreachable-requires : goal.build_both-unreachable-requires
 build_both-unreachable-requires t c =
-    some-window c.args.self.now.names.now c.args.self.now.reading c.requires.gives.1.1 (sym c.in_default.ensures) (sym c.in_default-width_of.ensures)
+    some-window c.args.self.now.names.now c.args.self.now.reading c.requires.gives.1.1 (sym c.in_default.ensures)
 
 pub build_branches-push-requires : goal.build_branches-push-requires
 build_branches-push-requires t c =
@@ -538,57 +503,49 @@ build_tail-build_items-requires t c =
     let few = tail-few c.args.self.now.names.now c.args.self.now.reading c.requires.gives in
     (omega (arith, c.decreases), (c.requires.within, (c.requires.quiet, (tail-items c.args.self.now.names.now c.args.self.now.reading c.args.made.now (take c.args.tail.count c.args.tail.items.now) _ refl c.in_ok-push.ensures few, omega (arith, ap length c.new-parts.ensures)))))
 
+-- the items of a rule in tail form stand behind its node
+tail-added : (t : ℕ) (c : build_tail-In_ok-build_items t) → AddsItems c.args.self.now.names.now c.args.self.now.reading (take c.args.tail.count c.args.tail.items.now) (shown_view c.args.self.now.reading c.args.round.shown.now) [] c.build_items.new.parts c.push.new.self c.build_items.new.made
+tail-added t c =
+    let P : List ℕ → Type 0 = λ l. AddsItems c.args.self.now.names.now c.args.self.now.reading (take c.args.tail.count c.args.tail.items.now) (shown_view c.args.self.now.reading c.args.round.shown.now) l c.build_items.new.parts c.push.new.self c.build_items.new.made in
+    subst P c.new-parts.ensures c.in_ok-build_items.ensures
+
+tail-behind : (t : ℕ) (c : build_tail-In_ok-build_items t) → ItemsIn c.args.self.now.names.now c.args.self.now.reading (tail_view c.args.tail) (shown_view c.args.self.now.reading c.args.round.shown.now) c.args.place c.args.made.now c.build_items.new.made c.build_items.new.parts
+tail-behind t c =
+    items-in c.args.self.now.names.now c.args.self.now.reading c.args.made.now (take c.args.tail.count c.args.tail.items.now) _ refl c.in_ok-push.ensures (tail-added t c) (tail-few c.args.self.now.names.now c.args.self.now.reading c.requires.gives)
+
 pub build_tail-push-requires-2 : goal.build_tail-push-requires-2
 build_tail-push-requires-2 t c =
-    let few = tail-few c.args.self.now.names.now c.args.self.now.reading c.requires.gives in
-    let P : List ℕ → Type 0 = λ l. AddsItems c.args.self.now.names.now c.args.self.now.reading (take c.args.tail.count c.args.tail.items.now) (shown_view c.args.self.now.reading c.args.round.shown.now) l c.build_items.new.parts c.push.new.self c.build_items.new.made in
-    let items : AddsItems c.args.self.now.names.now c.args.self.now.reading (take c.args.tail.count c.args.tail.items.now) (shown_view c.args.self.now.reading c.args.round.shown.now) [] c.build_items.new.parts c.push.new.self c.build_items.new.made = subst P c.new-parts.ensures c.in_ok-build_items.ensures in
-    let behind = items-in c.args.self.now.names.now c.args.self.now.reading c.args.made.now (take c.args.tail.count c.args.tail.items.now) _ refl c.in_ok-push.ensures items few in
+    let behind = tail-behind t (goal.at.build_tail-push-requires-2 t c).In_ok-build_items in
     let fit = parts-fit c.args.self.now.names.now c.args.self.now.reading behind in
     omega (arith, fit)
 
 pub build_tail-build_turn-requires : goal.build_tail-build_turn-requires
 build_tail-build_turn-requires t c =
-    let few = tail-few c.args.self.now.names.now c.args.self.now.reading c.requires.gives in
-    let P : List ℕ → Type 0 = λ l. AddsItems c.args.self.now.names.now c.args.self.now.reading (take c.args.tail.count c.args.tail.items.now) (shown_view c.args.self.now.reading c.args.round.shown.now) l c.build_items.new.parts c.push.new.self c.build_items.new.made in
-    let items : AddsItems c.args.self.now.names.now c.args.self.now.reading (take c.args.tail.count c.args.tail.items.now) (shown_view c.args.self.now.reading c.args.round.shown.now) [] c.build_items.new.parts c.push.new.self c.build_items.new.made = subst P c.new-parts.ensures c.in_ok-build_items.ensures in
-    let behind = items-in c.args.self.now.names.now c.args.self.now.reading c.args.made.now (take c.args.tail.count c.args.tail.items.now) _ refl c.in_ok-push.ensures items few in
+    let behind = tail-behind t (goal.at.build_tail-build_turn-requires t c).In_ok-build_items in
     (omega (arith, c.decreases), (c.requires.within, (c.requires.quiet, turn-few c.args.self.now.names.now c.args.self.now.reading behind)))
 
 pub build_tail-push-requires-3 : goal.build_tail-push-requires-3
 build_tail-push-requires-3 t c =
-    let few = tail-few c.args.self.now.names.now c.args.self.now.reading c.requires.gives in
-    let P : List ℕ → Type 0 = λ l. AddsItems c.args.self.now.names.now c.args.self.now.reading (take c.args.tail.count c.args.tail.items.now) (shown_view c.args.self.now.reading c.args.round.shown.now) l c.build_items.new.parts c.push.new.self c.build_items.new.made in
-    let items : AddsItems c.args.self.now.names.now c.args.self.now.reading (take c.args.tail.count c.args.tail.items.now) (shown_view c.args.self.now.reading c.args.round.shown.now) [] c.build_items.new.parts c.push.new.self c.build_items.new.made = subst P c.new-parts.ensures c.in_ok-build_items.ensures in
-    let behind = items-in c.args.self.now.names.now c.args.self.now.reading c.args.made.now (take c.args.tail.count c.args.tail.items.now) _ refl c.in_ok-push.ensures items few in
+    let behind = tail-behind t (goal.at.build_tail-push-requires-3 t c).In_ok-build_items in
     let fit = parts-fit c.args.self.now.names.now c.args.self.now.reading behind in
     let one = ap length c.in_ok-push-2.ensures.ok ∙ length-append c.build_items.new.parts (c.len.result ∷ []) in
     omega (arith, fit, one)
 
 pub build_tail-push-requires-4 : goal.build_tail-push-requires-4
 build_tail-push-requires-4 t c =
-    let few = tail-few c.args.self.now.names.now c.args.self.now.reading c.requires.gives in
-    let P : List ℕ → Type 0 = λ l. AddsItems c.args.self.now.names.now c.args.self.now.reading (take c.args.tail.count c.args.tail.items.now) (shown_view c.args.self.now.reading c.args.round.shown.now) l c.build_items.new.parts c.push.new.self c.build_items.new.made in
-    let items : AddsItems c.args.self.now.names.now c.args.self.now.reading (take c.args.tail.count c.args.tail.items.now) (shown_view c.args.self.now.reading c.args.round.shown.now) [] c.build_items.new.parts c.push.new.self c.build_items.new.made = subst P c.new-parts.ensures c.in_ok-build_items.ensures in
-    let behind = items-in c.args.self.now.names.now c.args.self.now.reading c.args.made.now (take c.args.tail.count c.args.tail.items.now) _ refl c.in_ok-push.ensures items few in
+    let behind = tail-behind t (goal.at.build_tail-push-requires-4 t c).In_ok-build_items in
     stop-room c.args.self.now.names.now c.args.self.now.reading c.build_turn.new.made behind c.in_ok-build_turn.ensures
 
 pub build_tail-set-requires : goal.build_tail-set-requires
 build_tail-set-requires t c =
-    let few = tail-few c.args.self.now.names.now c.args.self.now.reading c.requires.gives in
-    let P : List ℕ → Type 0 = λ l. AddsItems c.args.self.now.names.now c.args.self.now.reading (take c.args.tail.count c.args.tail.items.now) (shown_view c.args.self.now.reading c.args.round.shown.now) l c.build_items.new.parts c.push.new.self c.build_items.new.made in
-    let items : AddsItems c.args.self.now.names.now c.args.self.now.reading (take c.args.tail.count c.args.tail.items.now) (shown_view c.args.self.now.reading c.args.round.shown.now) [] c.build_items.new.parts c.push.new.self c.build_items.new.made = subst P c.new-parts.ensures c.in_ok-build_items.ensures in
-    let behind = items-in c.args.self.now.names.now c.args.self.now.reading c.args.made.now (take c.args.tail.count c.args.tail.items.now) _ refl c.in_ok-push.ensures items few in
+    let behind = tail-behind t (goal.at.build_tail-set-requires t c).In_ok-build_items in
     let longer = tail-longer c.args.self.now.names.now c.args.self.now.reading c.build_turn.new.made behind c.in_ok-build_turn.ensures in
     let one = ap length c.in_ok-push-4.ensures ∙ length-append c.build_turn.new.made _ in
     omega (arith, longer, one, c.len-at.ensures.len)
 
 pub build_tail-returns : goal.build_tail-returns
 build_tail-returns t c =
-    let few = tail-few c.args.self.now.names.now c.args.self.now.reading c.requires.gives in
-    let P : List ℕ → Type 0 = λ l. AddsItems c.args.self.now.names.now c.args.self.now.reading (take c.args.tail.count c.args.tail.items.now) (shown_view c.args.self.now.reading c.args.round.shown.now) l c.build_items.new.parts c.push.new.self c.build_items.new.made in
-    let items : AddsItems c.args.self.now.names.now c.args.self.now.reading (take c.args.tail.count c.args.tail.items.now) (shown_view c.args.self.now.reading c.args.round.shown.now) [] c.build_items.new.parts c.push.new.self c.build_items.new.made = subst P c.new-parts.ensures c.in_ok-build_items.ensures in
-    let behind = items-in c.args.self.now.names.now c.args.self.now.reading c.args.made.now (take c.args.tail.count c.args.tail.items.now) _ refl c.in_ok-push.ensures items few in
+    let items = tail-added t (goal.at.build_tail-returns t c).In_ok-build_items in
     let stopped = c.in_ok-push-4.ensures ∙ ap (λ z. c.build_turn.new.made ++ placed (Lits z) c.args.tail.end.stop.at ∷ []) c.in_ok-stop.ensures in
     let all = c.in_ok-push-3.ensures.ok ∙ (ap (λ l. l ++ c.len-2.result ∷ []) c.in_ok-push-2.ensures.ok ∙ append_assoc c.build_items.new.parts (c.len.result ∷ []) (c.len-2.result ∷ [])) in
     adds-tail c.args.self.now.names.now c.args.self.now.reading c.args.made.now (take c.args.tail.count c.args.tail.items.now) _ c.len-at.result c.len.result c.len-2.result refl c.in_ok-push.ensures items c.in_ok-build_turn.ensures stopped c.len.ensures.len c.len-2.ensures.len all c.set.ensures c.len-at.ensures.len

@@ -1,6 +1,5 @@
 use Rattle.std.proofs.Common.{◌≡◌, ◌<◌, ℕ, Bool, true, false, List, [], Ok, Some, None, take, drop, sym, ◌∙◌, ap, subst, take_all, arith}
 use Rattle.std.proofs.lemmas.List.{drop_all}
-use Rattle.std.proofs.lemmas.Result.{err_from_is_err_and}
 use Rattle.csn_grammar.specs.ExprV.{ExprV, BranchV, expr, power, both, exprs_of, branches_of}
 use Rattle.csn_grammar.specs.ExprCode.{expr_size}
 use Rattle.csn_grammar.specs.Names.{is_built_in, rule_of}
@@ -12,9 +11,9 @@ use Rattle.csn_resolve.specs.Views.{around_view, entered_view, seen_view, width_
 use Rattle.csn_resolve.proofs.Basics.Parts.{item_size, branch_size_of, take_get, take_short, get_within}
 use Rattle.csn_resolve.proofs.Walking.DepthFacts.{in_deepest, entered}
 use Rattle.csn_resolve.proofs.Naming.ViewFacts.{known, frame-more}
-use Rattle.csn_resolve.proofs.Walking.GoingFacts.{stops-same, stops-in, stops-first, stops-later, stops-second, stops-third, goes-same, goes-after, goes-on, goes-third, way-on, way-third, refused-after}
+use Rattle.csn_resolve.proofs.Walking.GoingFacts.{exit-stops, stops-same, stops-in, stops-first, stops-later, stops-second, stops-third, goes-same, goes-after, goes-on, goes-third, way-on, way-third, refused-after}
 use Rattle.csn_resolve.proofs.Walking.Inversion.{lits-steps, null-steps, bit-steps, octet-steps, labelled-steps, group-steps, seq-steps, choice-steps, cut-steps, sends-steps, built-in-steps, name-steps, undefined-steps, recursive-steps, rule-steps, power-steps, both-steps, window-steps, window-behind-steps, no-window-steps, items-end-steps, items-next-steps, components-end-steps, components-next-steps, branches-end-steps, branches-next-steps, as-form, walk-in, items-in, components-in, branches-in, items-as, items-behind, components-as, components-behind, branches-as, count-at, tail-steps-at, power-stop, power-leaf, power-part}
-use Rattle.csn_resolve.proofs.Walking.WalkFacts.{inside-view, behind-in, putting-in, items-at, components-at, branches-at, branch-left-as}
+use Rattle.csn_resolve.proofs.Walking.WalkFacts.{behind-in, putting-in, items-at, components-at, branches-at, branch-left-as}
 use Rattle.csn_resolve.proofs.walker.Walker.+walk.Goals as goal
 
 pub walk-returns-in-Lits : goal.walk-returns-in-Lits
@@ -44,49 +43,44 @@ walk-returns-in-Octet t c =
 pub walk-returns-in_err-begun-in-Labelled : goal.walk-returns-in_err-begun-in-Labelled
 walk-returns-in_err-begun-in-Labelled t c =
     λ steps h.
-    let p = err_from_is_err_and c.from_residual.result c.from_residual.ensures.1 in
     let is = known c.args.x.now c.x.inside.span c.x.inside.form _ c.x.view_is c.in-Labelled.is in
     let parts = labelled-steps c.args.self.now.names.now c.args.self.now.reading (as-form c.args.self.now.names.now c.args.self.now.reading is h) in
-    rw (p.1, p.2) (stops-in c.args.begun.nodes (node_at (around_view c.args.self.now.reading c.args.around) c.x.inside.span.start) parts.0 steps _ parts.2 c.in_err-begun-in-Labelled.ensures.steps)
+    exit-stops c.args.begun.nodes steps _ c.from_residual.result c.from_residual.ensures.1 (stops-in c.args.begun.nodes (node_at (around_view c.args.self.now.reading c.args.around) c.x.inside.span.start) parts.0 steps _ parts.2 c.in_err-begun-in-Labelled.ensures.steps)
 
 pub walk-returns-in_err-begun-in-Seq : goal.walk-returns-in_err-begun-in-Seq
 walk-returns-in_err-begun-in-Seq t c =
     λ steps h.
-    let p = err_from_is_err_and c.from_residual-in_err-begun-in-Seq.result c.from_residual-in_err-begun-in-Seq.ensures.1 in
     let is = known c.args.x.now c.x.inside.span c.x.inside.form _ c.x.view_is c.in-Seq.is in
     let parts = seq-steps c.args.self.now.names.now c.args.self.now.reading (as-form c.args.self.now.names.now c.args.self.now.reading is h) in
-    rw (p.1, p.2) (stops-in c.args.begun.nodes (node_at (around_view c.args.self.now.reading c.args.around) c.x.inside.span.start) parts.0 steps _ parts.2 c.in_err-begun-in-Seq.ensures.steps)
+    exit-stops c.args.begun.nodes steps _ c.from_residual-in_err-begun-in-Seq.result c.from_residual-in_err-begun-in-Seq.ensures.1 (stops-in c.args.begun.nodes (node_at (around_view c.args.self.now.reading c.args.around) c.x.inside.span.start) parts.0 steps _ parts.2 c.in_err-begun-in-Seq.ensures.steps)
 
 pub walk-returns-in_err-begun-in-Choice : goal.walk-returns-in_err-begun-in-Choice
 walk-returns-in_err-begun-in-Choice t c =
     λ steps h.
-    let p = err_from_is_err_and c.from_residual-in_err-begun-in-Choice.result c.from_residual-in_err-begun-in-Choice.ensures.1 in
     let is = known c.args.x.now c.x.inside.span c.x.inside.form _ c.x.view_is c.in-Choice.is in
     let parts = choice-steps c.args.self.now.names.now c.args.self.now.reading (as-form c.args.self.now.names.now c.args.self.now.reading is h) in
-    rw (p.1, p.2) (stops-in c.args.begun.nodes (node_at (around_view c.args.self.now.reading c.args.around) c.x.inside.span.start) parts.0 steps _ parts.2 c.in_err-begun-in-Choice.ensures.steps)
+    exit-stops c.args.begun.nodes steps _ c.from_residual-in_err-begun-in-Choice.result c.from_residual-in_err-begun-in-Choice.ensures.1 (stops-in c.args.begun.nodes (node_at (around_view c.args.self.now.reading c.args.around) c.x.inside.span.start) parts.0 steps _ parts.2 c.in_err-begun-in-Choice.ensures.steps)
 
 pub walk-returns-in_err-begun-in-Cut : goal.walk-returns-in_err-begun-in-Cut
 walk-returns-in_err-begun-in-Cut t c =
     λ steps h.
-    let p = err_from_is_err_and c.from_residual-in_err-begun-in-Cut.result c.from_residual-in_err-begun-in-Cut.ensures.1 in
     let is = known c.args.x.now c.x.inside.span c.x.inside.form _ c.x.view_is c.in-Cut.is in
     let parts = cut-steps c.args.self.now.names.now c.args.self.now.reading (as-form c.args.self.now.names.now c.args.self.now.reading is h) in
-    rw (p.1, p.2) (stops-in c.args.begun.nodes (node_at (around_view c.args.self.now.reading c.args.around) c.x.inside.span.start) parts.0 steps _ parts.2 c.in_err-begun-in-Cut.ensures.steps)
+    exit-stops c.args.begun.nodes steps _ c.from_residual-in_err-begun-in-Cut.result c.from_residual-in_err-begun-in-Cut.ensures.1 (stops-in c.args.begun.nodes (node_at (around_view c.args.self.now.reading c.args.around) c.x.inside.span.start) parts.0 steps _ parts.2 c.in_err-begun-in-Cut.ensures.steps)
 
 pub walk-returns-in_err-enter-in-Group : goal.walk-returns-in_err-enter-in-Group
 walk-returns-in_err-enter-in-Group t c =
     λ steps h.
-    let p = err_from_is_err_and c.from_residual-in_err-enter-in-Group.result c.from_residual-in_err-enter-in-Group.ensures.1 in
     let is = known c.args.x.now c.x.inside.span c.x.inside.form _ c.x.view_is c.in-Group.is in
     let parts = group-steps c.args.self.now.names.now c.args.self.now.reading (as-form c.args.self.now.names.now c.args.self.now.reading is h) in
-    rw (p.1, p.2) (stops-in c.args.begun.nodes (entering (around_view c.args.self.now.reading c.args.around) c.x.inside.span.start) parts.0 steps _ parts.2 (c.in_err-enter-in-Group.ensures.steps c.args.begun.nodes))
+    exit-stops c.args.begun.nodes steps _ c.from_residual-in_err-enter-in-Group.result c.from_residual-in_err-enter-in-Group.ensures.1 (stops-in c.args.begun.nodes (entering (around_view c.args.self.now.reading c.args.around) c.x.inside.span.start) parts.0 steps _ parts.2 (c.in_err-enter-in-Group.ensures.steps c.args.begun.nodes))
 
 pub walk-returns-in_ok-begun-in-Labelled : goal.walk-returns-in_ok-begun-in-Labelled
 walk-returns-in_ok-begun-in-Labelled t c =
     λ steps h.
     let is = known c.args.x.now c.x.inside.span c.x.inside.form _ c.x.view_is c.in-Labelled.is in
     let parts = labelled-steps c.args.self.now.names.now c.args.self.now.reading (as-form c.args.self.now.names.now c.args.self.now.reading is h) in
-    let inner = as-form c.args.self.now.names.now c.args.self.now.reading (sym c.deref.ensures) (walk-in c.args.self.now.names.now c.args.self.now.reading (inside-view c.args.self.now.reading c.args.around c.inside.result c.inside.ensures.depth c.inside.ensures.names c.inside.ensures.seen) parts.1) in
+    let inner = as-form c.args.self.now.names.now c.args.self.now.reading (sym c.deref.ensures) (walk-in c.args.self.now.names.now c.args.self.now.reading (c.inside.ensures.around c.args.self.now.reading) parts.1) in
     goes-after c.args.begun.nodes c.in_ok-begun-in-Labelled.begun.nodes (node_at (around_view c.args.self.now.reading c.args.around) c.x.inside.span.start) parts.0 steps c.walk.result parts.2 c.in_ok-begun-in-Labelled.ensures.steps (c.walk.ensures parts.0 inner)
 
 pub walk-returns-in_ok-enter-in-Group : goal.walk-returns-in_ok-enter-in-Group
@@ -94,7 +88,7 @@ walk-returns-in_ok-enter-in-Group t c =
     λ steps h.
     let is = known c.args.x.now c.x.inside.span c.x.inside.form _ c.x.view_is c.in-Group.is in
     let parts = group-steps c.args.self.now.names.now c.args.self.now.reading (as-form c.args.self.now.names.now c.args.self.now.reading is h) in
-    let inner = as-form c.args.self.now.names.now c.args.self.now.reading (sym c.deref-in-Group.ensures) (walk-in c.args.self.now.names.now c.args.self.now.reading (inside-view c.args.self.now.reading c.args.around c.inside-in-Group.result c.inside-in-Group.ensures.depth c.inside-in-Group.ensures.names c.inside-in-Group.ensures.seen) parts.1) in
+    let inner = as-form c.args.self.now.names.now c.args.self.now.reading (sym c.deref-in-Group.ensures) (walk-in c.args.self.now.names.now c.args.self.now.reading (c.inside-in-Group.ensures.around c.args.self.now.reading) parts.1) in
     goes-after c.args.begun.nodes c.args.begun.nodes (entering (around_view c.args.self.now.reading c.args.around) c.x.inside.span.start) parts.0 steps c.walk-in-Group.result parts.2 (c.in_ok-enter-in-Group.ensures.steps c.args.begun.nodes) (c.walk-in-Group.ensures parts.0 inner)
 
 pub walk-returns-in_ok-begun-in-Seq : goal.walk-returns-in_ok-begun-in-Seq
@@ -103,7 +97,7 @@ walk-returns-in_ok-begun-in-Seq t c =
     let is = known c.args.x.now c.x.inside.span c.x.inside.form _ c.x.view_is c.in-Seq.is in
     let parts = seq-steps c.args.self.now.names.now c.args.self.now.reading (as-form c.args.self.now.names.now c.args.self.now.reading is h) in
     let all : c.in-Seq.items ≡ take c.len.result c.in-Seq.items = sym (take_all c.len.result c.in-Seq.items (omega (arith, c.len.ensures.len))) in
-    let inner = items-as c.args.self.now.names.now c.args.self.now.reading (ap exprs_of all) (items-in c.args.self.now.names.now c.args.self.now.reading (inside-view c.args.self.now.reading c.args.around c.inside-in-Seq.result c.inside-in-Seq.ensures.depth c.inside-in-Seq.ensures.names c.inside-in-Seq.ensures.seen) parts.1) in
+    let inner = items-as c.args.self.now.names.now c.args.self.now.reading (ap exprs_of all) (items-in c.args.self.now.names.now c.args.self.now.reading (c.inside-in-Seq.ensures.around c.args.self.now.reading) parts.1) in
     goes-after c.args.begun.nodes c.in_ok-begun-in-Seq.begun.nodes (node_at (around_view c.args.self.now.reading c.args.around) c.x.inside.span.start) parts.0 steps c.walk_items.result parts.2 c.in_ok-begun-in-Seq.ensures.steps (c.walk_items.ensures parts.0 inner)
 
 pub walk-returns-in_ok-begun-in-Choice : goal.walk-returns-in_ok-begun-in-Choice
@@ -111,7 +105,7 @@ walk-returns-in_ok-begun-in-Choice t c =
     λ steps h.
     let is = known c.args.x.now c.x.inside.span c.x.inside.form _ c.x.view_is c.in-Choice.is in
     let parts = choice-steps c.args.self.now.names.now c.args.self.now.reading (as-form c.args.self.now.names.now c.args.self.now.reading is h) in
-    let inner = branches-in c.args.self.now.names.now c.args.self.now.reading (inside-view c.args.self.now.reading c.args.around c.inside-in-Choice.result c.inside-in-Choice.ensures.depth c.inside-in-Choice.ensures.names c.inside-in-Choice.ensures.seen) parts.1 in
+    let inner = branches-in c.args.self.now.names.now c.args.self.now.reading (c.inside-in-Choice.ensures.around c.args.self.now.reading) parts.1 in
     goes-after c.args.begun.nodes c.in_ok-begun-in-Choice.begun.nodes (node_at (around_view c.args.self.now.reading c.args.around) c.x.inside.span.start) parts.0 steps c.walk_branches.result parts.2 c.in_ok-begun-in-Choice.ensures.steps (c.walk_branches.ensures parts.0 inner)
 
 pub walk-returns-in_ok-begun-in-Cut : goal.walk-returns-in_ok-begun-in-Cut
@@ -119,16 +113,15 @@ walk-returns-in_ok-begun-in-Cut t c =
     λ steps h.
     let is = known c.args.x.now c.x.inside.span c.x.inside.form _ c.x.view_is c.in-Cut.is in
     let parts = cut-steps c.args.self.now.names.now c.args.self.now.reading (as-form c.args.self.now.names.now c.args.self.now.reading is h) in
-    let inner = components-in c.args.self.now.names.now c.args.self.now.reading (inside-view c.args.self.now.reading c.args.around c.inside-in-Cut.result c.inside-in-Cut.ensures.depth c.inside-in-Cut.ensures.names c.inside-in-Cut.ensures.seen) parts.1 in
+    let inner = components-in c.args.self.now.names.now c.args.self.now.reading (c.inside-in-Cut.ensures.around c.args.self.now.reading) parts.1 in
     goes-after c.args.begun.nodes c.in_ok-begun-in-Cut.begun.nodes (node_at (around_view c.args.self.now.reading c.args.around) c.x.inside.span.start) parts.0 steps c.walk_components.result parts.2 c.in_ok-begun-in-Cut.ensures.steps (c.walk_components.ensures parts.0 inner)
 
 pub walk-returns-in_err-begun-in-Sends : goal.walk-returns-in_err-begun-in-Sends
 walk-returns-in_err-begun-in-Sends t c =
     λ steps h.
-    let p = err_from_is_err_and c.from_residual-in_err-begun-in-Sends.result c.from_residual-in_err-begun-in-Sends.ensures.1 in
     let is = known c.args.x.now c.x.inside.span c.x.inside.form _ c.x.view_is c.in-Sends.is in
     let parts = sends-steps c.args.self.now.names.now c.args.self.now.reading (as-form c.args.self.now.names.now c.args.self.now.reading is h) in
-    rw (p.1, p.2) (stops-in c.args.begun.nodes parts.0 parts.1 steps _ parts.4 (c.in_err-begun-in-Sends.ensures parts.0 (as-form c.args.self.now.names.now c.args.self.now.reading (sym c.deref-in-Sends.ensures) parts.2)))
+    exit-stops c.args.begun.nodes steps _ c.from_residual-in_err-begun-in-Sends.result c.from_residual-in_err-begun-in-Sends.ensures.1 (stops-in c.args.begun.nodes parts.0 parts.1 steps _ parts.4 (c.in_err-begun-in-Sends.ensures parts.0 (as-form c.args.self.now.names.now c.args.self.now.reading (sym c.deref-in-Sends.ensures) parts.2)))
 
 pub walk-returns-in_ok-begun-in-Sends : goal.walk-returns-in_ok-begun-in-Sends
 walk-returns-in_ok-begun-in-Sends t c =
@@ -160,18 +153,16 @@ walk-returns-in-Both t c =
 pub walk_both-returns-in_err-begun : goal.walk_both-returns-in_err-begun
 walk_both-returns-in_err-begun t c =
     λ end steps h.
-    let p = err_from_is_err_and c.from_residual.result c.from_residual.ensures.1 in
     let parts = both-steps c.args.self.now.names.now c.args.self.now.reading h in
-    rw (p.1, p.2) (stops-in c.args.begun.nodes (node_at (around_view c.args.self.now.reading c.args.around) c.args.place) parts.0 steps _ parts.1 c.in_err-begun.ensures.steps)
+    exit-stops c.args.begun.nodes steps _ c.from_residual.result c.from_residual.ensures.1 (stops-in c.args.begun.nodes (node_at (around_view c.args.self.now.reading c.args.around) c.args.place) parts.0 steps _ parts.1 c.in_err-begun.ensures.steps)
 
 pub walk_both-returns-in_err-check_width : goal.walk_both-returns-in_err-check_width
 walk_both-returns-in_err-check_width t c =
     λ end steps h.
-    let p = err_from_is_err_and c.from_residual-in_err-check_width.result c.from_residual-in_err-check_width.ensures.1 in
     let begins : start_of c.args.left.now ≡ c.left.inside.span.start = sym (ap start_of c.left.view_is) in
     let parts = window-steps c.args.self.now.names.now c.args.self.now.reading (width_view c.in-Some.width) (sym c.in-Some.ensures) h in
     let counts = count-at c.args.self.now.names.now c.args.self.now.reading begins parts.2 in
-    rw (p.1, p.2) (stops-second c.args.begun.nodes c.in_ok-begun.begun.nodes (node_at (around_view c.args.self.now.reading c.args.around) c.args.place) parts.0 parts.1 steps _ parts.4 c.in_ok-begun.ensures.steps (c.in_err-check_width.ensures parts.0 counts c.in_ok-begun.begun.nodes))
+    exit-stops c.args.begun.nodes steps _ c.from_residual-in_err-check_width.result c.from_residual-in_err-check_width.ensures.1 (stops-second c.args.begun.nodes c.in_ok-begun.begun.nodes (node_at (around_view c.args.self.now.reading c.args.around) c.args.place) parts.0 parts.1 steps _ parts.4 c.in_ok-begun.ensures.steps (c.in_err-check_width.ensures parts.0 counts c.in_ok-begun.begun.nodes))
 
 pub walk_both-returns-in-Some : goal.walk_both-returns-in-Some
 walk_both-returns-in-Some t c =
@@ -179,33 +170,31 @@ walk_both-returns-in-Some t c =
     let begins : start_of c.args.left.now ≡ c.left.inside.span.start = sym (ap start_of c.left.view_is) in
     let parts = window-steps c.args.self.now.names.now c.args.self.now.reading (width_view c.in-Some.width) (sym c.in-Some.ensures) h in
     let counts = count-at c.args.self.now.names.now c.args.self.now.reading begins parts.2 in
-    let inner = walk-in c.args.self.now.names.now c.args.self.now.reading (inside-view c.args.self.now.reading c.args.around c.inside.result c.inside.ensures.depth c.inside.ensures.names c.inside.ensures.seen) parts.3 in
+    let inner = walk-in c.args.self.now.names.now c.args.self.now.reading (c.inside.ensures.around c.args.self.now.reading) parts.3 in
     goes-third c.args.begun.nodes c.in_ok-begun.begun.nodes c.in_ok-begun.begun.nodes (node_at (around_view c.args.self.now.reading c.args.around) c.args.place) parts.0 parts.1 steps c.walk.result parts.4 c.in_ok-begun.ensures.steps (c.in_ok-check_width.ensures parts.0 counts c.in_ok-begun.begun.nodes) (c.walk.ensures parts.1 inner)
 
 pub walk_both-returns-in_err-begun-2 : goal.walk_both-returns-in_err-begun-2
 walk_both-returns-in_err-begun-2 t c =
     λ end steps h.
-    let p = err_from_is_err_and c.from_residual-in_err-begun-2.result c.from_residual-in_err-begun-2.ensures.1 in
     let parts = window-behind-steps c.args.self.now.names.now c.args.self.now.reading (width_view c.in-Some-width_of.width) (sym c.in_default.ensures) (sym c.in-Some-width_of.ensures) h in
-    let inner = walk-in c.args.self.now.names.now c.args.self.now.reading (inside-view c.args.self.now.reading c.args.around c.inside-in-Some-width_of.result c.inside-in-Some-width_of.ensures.depth c.inside-in-Some-width_of.ensures.names c.inside-in-Some-width_of.ensures.seen) parts.2 in
-    rw (p.1, p.2) (stops-second c.args.begun.nodes c.in_ok-begun.begun.nodes (node_at (around_view c.args.self.now.reading c.args.around) c.args.place) parts.0 parts.1 steps _ parts.4 c.in_ok-begun.ensures.steps (c.in_err-begun-2.ensures parts.0 inner))
+    let inner = walk-in c.args.self.now.names.now c.args.self.now.reading (c.inside-in-Some-width_of.ensures.around c.args.self.now.reading) parts.2 in
+    exit-stops c.args.begun.nodes steps _ c.from_residual-in_err-begun-2.result c.from_residual-in_err-begun-2.ensures.1 (stops-second c.args.begun.nodes c.in_ok-begun.begun.nodes (node_at (around_view c.args.self.now.reading c.args.around) c.args.place) parts.0 parts.1 steps _ parts.4 c.in_ok-begun.ensures.steps (c.in_err-begun-2.ensures parts.0 inner))
 
 pub walk_both-returns-in_err-check_width-2 : goal.walk_both-returns-in_err-check_width-2
 walk_both-returns-in_err-check_width-2 t c =
     λ end steps h.
-    let p = err_from_is_err_and c.from_residual-in_err-check_width-2.result c.from_residual-in_err-check_width-2.ensures.1 in
     let begins : start_of c.args.right.now ≡ c.right.inside.span.start = sym (ap start_of c.right.view_is) in
     let parts = window-behind-steps c.args.self.now.names.now c.args.self.now.reading (width_view c.in-Some-width_of.width) (sym c.in_default.ensures) (sym c.in-Some-width_of.ensures) h in
-    let inner = walk-in c.args.self.now.names.now c.args.self.now.reading (inside-view c.args.self.now.reading c.args.around c.inside-in-Some-width_of.result c.inside-in-Some-width_of.ensures.depth c.inside-in-Some-width_of.ensures.names c.inside-in-Some-width_of.ensures.seen) parts.2 in
+    let inner = walk-in c.args.self.now.names.now c.args.self.now.reading (c.inside-in-Some-width_of.ensures.around c.args.self.now.reading) parts.2 in
     let counts = count-at c.args.self.now.names.now c.args.self.now.reading begins parts.3 in
-    rw (p.1, p.2) (stops-third c.args.begun.nodes c.in_ok-begun.begun.nodes c.in_ok-begun-2.begun.nodes (node_at (around_view c.args.self.now.reading c.args.around) c.args.place) parts.0 parts.1 steps _ parts.4 c.in_ok-begun.ensures.steps (c.in_ok-begun-2.ensures parts.0 inner) (c.in_err-check_width-2.ensures parts.1 counts c.in_ok-begun-2.begun.nodes))
+    exit-stops c.args.begun.nodes steps _ c.from_residual-in_err-check_width-2.result c.from_residual-in_err-check_width-2.ensures.1 (stops-third c.args.begun.nodes c.in_ok-begun.begun.nodes c.in_ok-begun-2.begun.nodes (node_at (around_view c.args.self.now.reading c.args.around) c.args.place) parts.0 parts.1 steps _ parts.4 c.in_ok-begun.ensures.steps (c.in_ok-begun-2.ensures parts.0 inner) (c.in_err-check_width-2.ensures parts.1 counts c.in_ok-begun-2.begun.nodes))
 
 pub walk_both-returns-in-Some-width_of : goal.walk_both-returns-in-Some-width_of
 walk_both-returns-in-Some-width_of t c =
     λ end steps h.
     let begins : start_of c.args.right.now ≡ c.right.inside.span.start = sym (ap start_of c.right.view_is) in
     let parts = window-behind-steps c.args.self.now.names.now c.args.self.now.reading (width_view c.in-Some-width_of.width) (sym c.in_default.ensures) (sym c.in-Some-width_of.ensures) h in
-    let inner = walk-in c.args.self.now.names.now c.args.self.now.reading (inside-view c.args.self.now.reading c.args.around c.inside-in-Some-width_of.result c.inside-in-Some-width_of.ensures.depth c.inside-in-Some-width_of.ensures.names c.inside-in-Some-width_of.ensures.seen) parts.2 in
+    let inner = walk-in c.args.self.now.names.now c.args.self.now.reading (c.inside-in-Some-width_of.ensures.around c.args.self.now.reading) parts.2 in
     let counts = count-at c.args.self.now.names.now c.args.self.now.reading begins parts.3 in
     way-third c.args.begun.nodes c.in_ok-begun.begun.nodes c.in_ok-begun-2.begun.nodes (node_at (around_view c.args.self.now.reading c.args.around) c.args.place) parts.0 parts.1 steps parts.4 c.in_ok-begun.ensures.steps (c.in_ok-begun-2.ensures parts.0 inner)
     ∙ c.in_ok-check_width-2.ensures parts.1 counts c.in_ok-begun-2.begun.nodes
@@ -226,21 +215,19 @@ walk_branches-walk-requires t c =
 pub walk_branches-returns-in_err-begun : goal.walk_branches-returns-in_err-begun
 walk_branches-returns-in_err-begun t c =
     λ steps h.
-    let p = err_from_is_err_and c.from_residual.result c.from_residual.ensures.1 in
     let before = c.loop-at.invariant steps h in
     let parts = branches-next-steps c.args.self.now.names.now c.args.self.now.reading (branches-at c.args.self.now.names.now c.args.self.now.reading c.args.branches.now c.loop-at.at c.get-branch.result.now c.get-branch.ensures before.1) in
     let first = as-form c.args.self.now.names.now c.args.self.now.reading (ap (λ (z : BranchV). z.body) (sym c.branch.view_is)) parts.3 in
-    rw (p.1, p.2) (stops-same _ before.2 (stops-in c.loop-at.begun.nodes parts.0 _ before.0 _ parts.6 (c.in_err-begun.ensures parts.0 first)))
+    exit-stops c.args.begun.nodes steps _ c.from_residual.result c.from_residual.ensures.1 (stops-same _ before.2 (stops-in c.loop-at.begun.nodes parts.0 _ before.0 _ parts.6 (c.in_err-begun.ensures parts.0 first)))
 
 pub walk_branches-returns-in_err-leave_branch : goal.walk_branches-returns-in_err-leave_branch
 walk_branches-returns-in_err-leave_branch t c =
     λ steps h.
-    let p = err_from_is_err_and c.from_residual-in_err-leave_branch.result c.from_residual-in_err-leave_branch.ensures.1 in
     let before = c.loop-at.invariant steps h in
     let parts = branches-next-steps c.args.self.now.names.now c.args.self.now.reading (branches-at c.args.self.now.names.now c.args.self.now.reading c.args.branches.now c.loop-at.at c.get-branch.result.now c.get-branch.ensures before.1) in
     let first = as-form c.args.self.now.names.now c.args.self.now.reading (ap (λ (z : BranchV). z.body) (sym c.branch.view_is)) parts.3 in
     let left = branch-left-as c.args.self.now.names.now c.args.self.now.reading (sym c.branch.view_is) parts.4 in
-    rw (p.1, p.2) (stops-same _ before.2 (stops-second c.loop-at.begun.nodes c.in_ok-begun.begun.nodes parts.0 parts.1 parts.2 before.0 _ parts.6 (c.in_ok-begun.ensures parts.0 first) (c.in_err-leave_branch.ensures parts.1 left c.in_ok-begun.begun.nodes)))
+    exit-stops c.args.begun.nodes steps _ c.from_residual-in_err-leave_branch.result c.from_residual-in_err-leave_branch.ensures.1 (stops-same _ before.2 (stops-second c.loop-at.begun.nodes c.in_ok-begun.begun.nodes parts.0 parts.1 parts.2 before.0 _ parts.6 (c.in_ok-begun.ensures parts.0 first) (c.in_err-leave_branch.ensures parts.1 left c.in_ok-begun.begun.nodes)))
 
 pub walk_branches-loop-at-preserved : goal.walk_branches-loop-at-preserved
 walk_branches-loop-at-preserved t c =
@@ -261,32 +248,30 @@ walk_branches-returns t c =
 pub walk_components-walk-requires : goal.walk_components-walk-requires
 walk_components-walk-requires t c =
     let size = item_size c.args.items.now c.loop-at.at c.get-item.result.now c.get-item.ensures in
-    (omega (arith, size, c.decreases), omega (arith, size, c.requires))
+    rw c.behind.ensures.depth (omega (arith, size, c.decreases), omega (arith, size, c.requires))
 
 pub walk_components-returns-in_err-begun : goal.walk_components-returns-in_err-begun
 walk_components-returns-in_err-begun t c =
     λ steps h.
-    let p = err_from_is_err_and c.from_residual.result c.from_residual.ensures.1 in
     let before = c.loop-at.invariant steps h in
     let parts = components-next-steps c.args.self.now.names.now c.args.self.now.reading (components-at c.args.self.now.names.now c.args.self.now.reading c.args.items.now c.loop-at.at c.get-item.result.now c.get-item.ensures before.1) in
-    let first = behind-in c.args.self.now.names.now c.args.self.now.reading c.args.around c.args.items c.loop-at.at parts.3 in
-    rw (p.1, p.2) (stops-same _ before.2 (stops-in c.loop-at.begun.nodes parts.0 _ before.0 _ parts.6 (c.in_err-begun.ensures parts.0 first)))
+    let first = walk-in c.args.self.now.names.now c.args.self.now.reading (c.behind.ensures.around c.args.self.now.reading) (behind-in c.args.self.now.names.now c.args.self.now.reading c.args.around c.args.items c.loop-at.at parts.3) in
+    exit-stops c.args.begun.nodes steps _ c.from_residual.result c.from_residual.ensures.1 (stops-same _ before.2 (stops-in c.loop-at.begun.nodes parts.0 _ before.0 _ parts.6 (c.in_err-begun.ensures parts.0 first)))
 
 pub walk_components-returns-in_err-leave_part : goal.walk_components-returns-in_err-leave_part
 walk_components-returns-in_err-leave_part t c =
     λ steps h.
-    let p = err_from_is_err_and c.from_residual-in_err-leave_part.result c.from_residual-in_err-leave_part.ensures.1 in
     let before = c.loop-at.invariant steps h in
     let parts = components-next-steps c.args.self.now.names.now c.args.self.now.reading (components-at c.args.self.now.names.now c.args.self.now.reading c.args.items.now c.loop-at.at c.get-item.result.now c.get-item.ensures before.1) in
-    let first = behind-in c.args.self.now.names.now c.args.self.now.reading c.args.around c.args.items c.loop-at.at parts.3 in
-    rw (p.1, p.2) (stops-same _ before.2 (stops-second c.loop-at.begun.nodes c.in_ok-begun.begun.nodes parts.0 parts.1 parts.2 before.0 _ parts.6 (c.in_ok-begun.ensures parts.0 first) (c.in_err-leave_part.ensures parts.1 parts.4 c.in_ok-begun.begun.nodes)))
+    let first = walk-in c.args.self.now.names.now c.args.self.now.reading (c.behind.ensures.around c.args.self.now.reading) (behind-in c.args.self.now.names.now c.args.self.now.reading c.args.around c.args.items c.loop-at.at parts.3) in
+    exit-stops c.args.begun.nodes steps _ c.from_residual-in_err-leave_part.result c.from_residual-in_err-leave_part.ensures.1 (stops-same _ before.2 (stops-second c.loop-at.begun.nodes c.in_ok-begun.begun.nodes parts.0 parts.1 parts.2 before.0 _ parts.6 (c.in_ok-begun.ensures parts.0 first) (c.in_err-leave_part.ensures parts.1 parts.4 c.in_ok-begun.begun.nodes)))
 
 pub walk_components-loop-at-preserved : goal.walk_components-loop-at-preserved
 walk_components-loop-at-preserved t c =
     λ steps h.
     let before = c.loop-at.invariant steps h in
     let parts = components-next-steps c.args.self.now.names.now c.args.self.now.reading (components-at c.args.self.now.names.now c.args.self.now.reading c.args.items.now c.loop-at.at c.get-item.result.now c.get-item.ensures before.1) in
-    let first = behind-in c.args.self.now.names.now c.args.self.now.reading c.args.around c.args.items c.loop-at.at parts.3 in
+    let first = walk-in c.args.self.now.names.now c.args.self.now.reading (c.behind.ensures.around c.args.self.now.reading) (behind-in c.args.self.now.names.now c.args.self.now.reading c.args.around c.args.items c.loop-at.at parts.3) in
     (parts.2, components-behind c.args.self.now.names.now c.args.self.now.reading (frame-more c.args.self.now.reading c.args.items.now c.loop-at.at c.get-item.result.now c.get-item.ensures) parts.5, before.2 ∙ way-third c.loop-at.begun.nodes c.in_ok-begun.begun.nodes c.in_ok-begun.begun.nodes parts.0 parts.1 parts.2 before.0 parts.6 (c.in_ok-begun.ensures parts.0 first) (c.in_ok-leave_part.ensures parts.1 parts.4 c.in_ok-begun.begun.nodes))
 
 pub walk_components-returns : goal.walk_components-returns
@@ -299,17 +284,16 @@ walk_components-returns t c =
 pub walk_items-walk-requires : goal.walk_items-walk-requires
 walk_items-walk-requires t c =
     let size = item_size c.args.items.now c.loop-at.at c.get.result.now c.get.ensures in
-    (omega (arith, size, c.decreases), omega (arith, size, c.requires.part))
+    rw c.behind.ensures.depth (omega (arith, size, c.decreases), omega (arith, size, c.requires.part))
 
 pub walk_items-returns-in_err-begun : goal.walk_items-returns-in_err-begun
 walk_items-returns-in_err-begun t c =
     λ steps h.
-    let p = err_from_is_err_and c.from_residual.result c.from_residual.ensures.1 in
     let before = c.loop-at.invariant steps h in
     let few : c.loop-at.at < c.args.count = c.loop-at-test.true in
     let parts = items-next-steps c.args.self.now.names.now c.args.self.now.reading (items-at c.args.self.now.names.now c.args.self.now.reading (take c.args.count c.args.items.now) c.loop-at.at c.get.result.now (take_get c.args.items.now c.args.count c.loop-at.at c.get.result.now few c.get.ensures) before.1) in
-    let first = behind-in c.args.self.now.names.now c.args.self.now.reading c.args.around c.args.items c.loop-at.at parts.2 in
-    rw (p.1, p.2) (stops-same _ before.2 (stops-in c.loop-at.begun.nodes parts.0 parts.1 before.0 _ parts.4 (c.in_err-begun.ensures parts.0 first)))
+    let first = walk-in c.args.self.now.names.now c.args.self.now.reading (c.behind.ensures.around c.args.self.now.reading) (behind-in c.args.self.now.names.now c.args.self.now.reading c.args.around c.args.items c.loop-at.at parts.2) in
+    exit-stops c.args.begun.nodes steps _ c.from_residual.result c.from_residual.ensures.1 (stops-same _ before.2 (stops-in c.loop-at.begun.nodes parts.0 parts.1 before.0 _ parts.4 (c.in_err-begun.ensures parts.0 first)))
 
 pub walk_items-loop-at-preserved : goal.walk_items-loop-at-preserved
 walk_items-loop-at-preserved t c =
@@ -317,7 +301,7 @@ walk_items-loop-at-preserved t c =
     let before = c.loop-at.invariant steps h in
     let few : c.loop-at.at < c.args.count = c.loop-at-test.true in
     let parts = items-next-steps c.args.self.now.names.now c.args.self.now.reading (items-at c.args.self.now.names.now c.args.self.now.reading (take c.args.count c.args.items.now) c.loop-at.at c.get.result.now (take_get c.args.items.now c.args.count c.loop-at.at c.get.result.now few c.get.ensures) before.1) in
-    let first = behind-in c.args.self.now.names.now c.args.self.now.reading c.args.around c.args.items c.loop-at.at parts.2 in
+    let first = walk-in c.args.self.now.names.now c.args.self.now.reading (c.behind.ensures.around c.args.self.now.reading) (behind-in c.args.self.now.names.now c.args.self.now.reading c.args.around c.args.items c.loop-at.at parts.2) in
     (parts.1, items-behind c.args.self.now.names.now c.args.self.now.reading (frame-more c.args.self.now.reading c.args.items.now c.loop-at.at c.get.result.now c.get.ensures) parts.3, before.2 ∙ (ap (way c.loop-at.begun.nodes) parts.4 ∙ way-on c.loop-at.begun.nodes c.in_ok-begun.begun.nodes parts.0 parts.1 (c.in_ok-begun.ensures parts.0 first)))
 
 pub walk_items-returns : goal.walk_items-returns
@@ -336,10 +320,9 @@ walk_name-returns-then-is_built_in t c =
 pub walk_name-returns-in_err-enter : goal.walk_name-returns-in_err-enter
 walk_name-returns-in_err-enter t c =
     λ end steps h.
-    let p = err_from_is_err_and c.from_residual.result c.from_residual.ensures.1 in
     let built : is_built_in c.args.label.now ≡ false = ap is_built_in (sym c.bytes.ensures.value) ∙ (sym c.is_built_in.ensures ∙ c.if-is_built_in.false) in
     let parts = name-steps c.args.self.now.names.now c.args.self.now.reading c.args.label.now built h in
-    rw (p.1, p.2) (stops-in c.args.begun.nodes (entering (around_view c.args.self.now.reading c.args.around) c.args.place) parts.0 steps _ parts.1 (c.in_err-enter.ensures.steps c.args.begun.nodes))
+    exit-stops c.args.begun.nodes steps _ c.from_residual.result c.from_residual.ensures.1 (stops-in c.args.begun.nodes (entering (around_view c.args.self.now.reading c.args.around) c.args.place) parts.0 steps _ parts.1 (c.in_err-enter.ensures.steps c.args.begun.nodes))
 
 pub walk_name-returns-in_default : goal.walk_name-returns-in_default
 walk_name-returns-in_default t c =
@@ -376,15 +359,13 @@ walk_name-returns t c =
 pub walk_power-returns-in_err-begun : goal.walk_power-returns-in_err-begun
 walk_power-returns-in_err-begun t c =
     λ end steps h.
-    let p = err_from_is_err_and c.from_residual.result c.from_residual.ensures.1 in
     let parts = power-steps c.args.self.now.names.now c.args.self.now.reading h in
-    rw (p.1, p.2) (stops-in c.args.begun.nodes (node_at (around_view c.args.self.now.reading c.args.around) c.args.place) parts.0 steps _ parts.1 c.in_err-begun.ensures.steps)
+    exit-stops c.args.begun.nodes steps _ c.from_residual.result c.from_residual.ensures.1 (stops-in c.args.begun.nodes (node_at (around_view c.args.self.now.reading c.args.around) c.args.place) parts.0 steps _ parts.1 c.in_err-begun.ensures.steps)
 
 pub walk_power-returns-in_err-is_leaf : goal.walk_power-returns-in_err-is_leaf
 walk_power-returns-in_err-is_leaf t c =
     λ end steps h.
-    let p = err_from_is_err_and c.from_residual-in_err-is_leaf.result c.from_residual-in_err-is_leaf.ensures.1 in
-    rw (p.1, p.2) (power-stop c.args.self.now.names.now c.args.self.now.reading c.args.count.now c.args.begun.nodes c.in_ok-begun.begun.nodes _ c.in_err-is_leaf.ensures c.in_ok-begun.ensures.steps h)
+    exit-stops c.args.begun.nodes steps _ c.from_residual-in_err-is_leaf.result c.from_residual-in_err-is_leaf.ensures.1 (power-stop c.args.self.now.names.now c.args.self.now.reading c.args.count.now c.args.begun.nodes c.in_ok-begun.begun.nodes _ c.in_err-is_leaf.ensures c.in_ok-begun.ensures.steps h)
 
 pub walk_power-returns-then-branch : goal.walk_power-returns-then-branch
 walk_power-returns-then-branch t c =
@@ -396,22 +377,20 @@ walk_power-returns-then-branch t c =
 pub walk_power-returns-in_err-begun-2 : goal.walk_power-returns-in_err-begun-2
 walk_power-returns-in_err-begun-2 t c =
     λ end steps h.
-    let p = err_from_is_err_and c.from_residual-in_err-begun-2.result c.from_residual-in_err-begun-2.ensures.1 in
     let Q : Bool → Type 0 = λ z. LeafGoes c.args.self.now.names.now c.args.self.now.reading (seen_view c.args.self.now.reading c.args.around.seen.now) c.args.place c.args.part.now c.args.count.now (Ok z) in
     let leaf = subst Q c.if-branch.false c.in_ok-is_leaf.ensures in
     let parts = power-part c.args.self.now.names.now c.args.self.now.reading c.args.count.now c.args.begun.nodes c.in_ok-begun.begun.nodes leaf c.in_ok-begun.ensures.steps h in
-    let inner = walk-in c.args.self.now.names.now c.args.self.now.reading (inside-view c.args.self.now.reading c.args.around c.inside.result c.inside.ensures.depth c.inside.ensures.names c.inside.ensures.seen) parts.2 in
-    rw (p.1, p.2) (stops-same _ parts.4 (stops-first c.in_ok-begun.begun.nodes parts.0 parts.1 _ (c.in_err-begun-2.ensures parts.0 inner)))
+    let inner = walk-in c.args.self.now.names.now c.args.self.now.reading (c.inside.ensures.around c.args.self.now.reading) parts.2 in
+    exit-stops c.args.begun.nodes steps _ c.from_residual-in_err-begun-2.result c.from_residual-in_err-begun-2.ensures.1 (stops-same _ parts.4 (stops-first c.in_ok-begun.begun.nodes parts.0 parts.1 _ (c.in_err-begun-2.ensures parts.0 inner)))
 
 pub walk_power-returns-in_err-leave_part : goal.walk_power-returns-in_err-leave_part
 walk_power-returns-in_err-leave_part t c =
     λ end steps h.
-    let p = err_from_is_err_and c.from_residual-in_err-leave_part.result c.from_residual-in_err-leave_part.ensures.1 in
     let Q : Bool → Type 0 = λ z. LeafGoes c.args.self.now.names.now c.args.self.now.reading (seen_view c.args.self.now.reading c.args.around.seen.now) c.args.place c.args.part.now c.args.count.now (Ok z) in
     let leaf = subst Q c.if-branch.false c.in_ok-is_leaf.ensures in
     let parts = power-part c.args.self.now.names.now c.args.self.now.reading c.args.count.now c.args.begun.nodes c.in_ok-begun.begun.nodes leaf c.in_ok-begun.ensures.steps h in
-    let inner = walk-in c.args.self.now.names.now c.args.self.now.reading (inside-view c.args.self.now.reading c.args.around c.inside.result c.inside.ensures.depth c.inside.ensures.names c.inside.ensures.seen) parts.2 in
-    rw (p.1, p.2) (stops-same _ parts.4 (stops-later c.in_ok-begun.begun.nodes c.in_ok-begun-2.begun.nodes parts.0 parts.1 _ (c.in_ok-begun-2.ensures parts.0 inner) (c.in_err-leave_part.ensures parts.1 parts.3 c.in_ok-begun-2.begun.nodes)))
+    let inner = walk-in c.args.self.now.names.now c.args.self.now.reading (c.inside.ensures.around c.args.self.now.reading) parts.2 in
+    exit-stops c.args.begun.nodes steps _ c.from_residual-in_err-leave_part.result c.from_residual-in_err-leave_part.ensures.1 (stops-same _ parts.4 (stops-later c.in_ok-begun.begun.nodes c.in_ok-begun-2.begun.nodes parts.0 parts.1 _ (c.in_ok-begun-2.ensures parts.0 inner) (c.in_err-leave_part.ensures parts.1 parts.3 c.in_ok-begun-2.begun.nodes)))
 
 pub walk_power-returns : goal.walk_power-returns
 walk_power-returns t c =
@@ -419,42 +398,38 @@ walk_power-returns t c =
     let Q : Bool → Type 0 = λ z. LeafGoes c.args.self.now.names.now c.args.self.now.reading (seen_view c.args.self.now.reading c.args.around.seen.now) c.args.place c.args.part.now c.args.count.now (Ok z) in
     let leaf = subst Q c.if-branch.false c.in_ok-is_leaf.ensures in
     let parts = power-part c.args.self.now.names.now c.args.self.now.reading c.args.count.now c.args.begun.nodes c.in_ok-begun.begun.nodes leaf c.in_ok-begun.ensures.steps h in
-    let inner = walk-in c.args.self.now.names.now c.args.self.now.reading (inside-view c.args.self.now.reading c.args.around c.inside.result c.inside.ensures.depth c.inside.ensures.names c.inside.ensures.seen) parts.2 in
+    let inner = walk-in c.args.self.now.names.now c.args.self.now.reading (c.inside.ensures.around c.args.self.now.reading) parts.2 in
     parts.4 ∙ (way-on c.in_ok-begun.begun.nodes c.in_ok-begun-2.begun.nodes parts.0 parts.1 (c.in_ok-begun-2.ensures parts.0 inner) ∙ c.in_ok-leave_part.ensures parts.1 parts.3 c.in_ok-begun-2.begun.nodes)
 
 pub walk_tail-returns-in_err-begun-2 : goal.walk_tail-returns-in_err-begun-2
 walk_tail-returns-in_err-begun-2 t c =
     λ rule steps at start h.
-    let p = err_from_is_err_and c.from_residual-in_err-begun-2.result c.from_residual-in_err-begun-2.ensures.1 in
-    let parts = tail-steps-at c.args.self.now.names.now c.args.self.now.reading (tail_view c.args.tail) (around_view c.args.self.now.reading c.inside-inner.result) c.args.place at start (inside-view c.args.self.now.reading c.args.around c.inside-inner.result c.inside-inner.ensures.depth c.inside-inner.ensures.names c.inside-inner.ensures.seen) h in
-    rw (p.1, p.2) (stops-same _ (ap (way c.args.begun.nodes) parts.6) (stops-later c.args.begun.nodes c.in_ok-begun.begun.nodes (node_at (around_view c.args.self.now.reading c.args.around) c.args.place) _ _ c.in_ok-begun.ensures.steps (stops-first c.in_ok-begun.begun.nodes parts.0 _ _ (c.in_err-begun-2.ensures parts.0 parts.3))))
+    let parts = tail-steps-at c.args.self.now.names.now c.args.self.now.reading (tail_view c.args.tail) (around_view c.args.self.now.reading c.inside-inner.result) c.args.place at start (c.inside-inner.ensures.around c.args.self.now.reading) h in
+    exit-stops c.args.begun.nodes steps _ c.from_residual-in_err-begun-2.result c.from_residual-in_err-begun-2.ensures.1 (stops-same _ (ap (way c.args.begun.nodes) parts.6) (stops-later c.args.begun.nodes c.in_ok-begun.begun.nodes (node_at (around_view c.args.self.now.reading c.args.around) c.args.place) _ _ c.in_ok-begun.ensures.steps (stops-first c.in_ok-begun.begun.nodes parts.0 _ _ (c.in_err-begun-2.ensures parts.0 parts.3))))
 
 pub walk_tail-returns-in_err-turn : goal.walk_tail-returns-in_err-turn
 walk_tail-returns-in_err-turn t c =
     λ rule steps at start h.
-    let p = err_from_is_err_and c.from_residual-in_err-turn.result c.from_residual-in_err-turn.ensures.1 in
-    let parts = tail-steps-at c.args.self.now.names.now c.args.self.now.reading (tail_view c.args.tail) (around_view c.args.self.now.reading c.inside-inner.result) c.args.place at start (inside-view c.args.self.now.reading c.args.around c.inside-inner.result c.inside-inner.ensures.depth c.inside-inner.ensures.names c.inside-inner.ensures.seen) h in
-    rw (p.1, p.2) (stops-same _ (ap (way c.args.begun.nodes) parts.6) (stops-later c.args.begun.nodes c.in_ok-begun.begun.nodes (node_at (around_view c.args.self.now.reading c.args.around) c.args.place) _ _ c.in_ok-begun.ensures.steps (stops-later c.in_ok-begun.begun.nodes c.in_ok-begun-2.begun.nodes parts.0 _ _ (c.in_ok-begun-2.ensures parts.0 parts.3) (stops-first c.in_ok-begun-2.begun.nodes (turn_begun (around_view c.args.self.now.reading c.inside-inner.result) (end_view c.args.tail.end)) _ _ (c.in_err-turn.ensures.steps c.args.self.now.reading)))))
+    let parts = tail-steps-at c.args.self.now.names.now c.args.self.now.reading (tail_view c.args.tail) (around_view c.args.self.now.reading c.inside-inner.result) c.args.place at start (c.inside-inner.ensures.around c.args.self.now.reading) h in
+    exit-stops c.args.begun.nodes steps _ c.from_residual-in_err-turn.result c.from_residual-in_err-turn.ensures.1 (stops-same _ (ap (way c.args.begun.nodes) parts.6) (stops-later c.args.begun.nodes c.in_ok-begun.begun.nodes (node_at (around_view c.args.self.now.reading c.args.around) c.args.place) _ _ c.in_ok-begun.ensures.steps (stops-later c.in_ok-begun.begun.nodes c.in_ok-begun-2.begun.nodes parts.0 _ _ (c.in_ok-begun-2.ensures parts.0 parts.3) (stops-first c.in_ok-begun-2.begun.nodes (turn_begun (around_view c.args.self.now.reading c.inside-inner.result) (end_view c.args.tail.end)) _ _ (c.in_err-turn.ensures.steps c.args.self.now.reading)))))
 
 pub walk_tail-returns-in_err-begun-3 : goal.walk_tail-returns-in_err-begun-3
 walk_tail-returns-in_err-begun-3 t c =
     λ rule steps at start h.
-    let p = err_from_is_err_and c.from_residual-in_err-begun-3.result c.from_residual-in_err-begun-3.ensures.1 in
-    let parts = tail-steps-at c.args.self.now.names.now c.args.self.now.reading (tail_view c.args.tail) (around_view c.args.self.now.reading c.inside-inner.result) c.args.place at start (inside-view c.args.self.now.reading c.args.around c.inside-inner.result c.inside-inner.ensures.depth c.inside-inner.ensures.names c.inside-inner.ensures.seen) h in
+    let parts = tail-steps-at c.args.self.now.names.now c.args.self.now.reading (tail_view c.args.tail) (around_view c.args.self.now.reading c.inside-inner.result) c.args.place at start (c.inside-inner.ensures.around c.args.self.now.reading) h in
     let turn = items-in c.args.self.now.names.now c.args.self.now.reading (c.in_ok-turn.ensures.around c.args.self.now.reading) parts.4 in
-    rw (p.1, p.2) (stops-same _ (ap (way c.args.begun.nodes) parts.6) (stops-later c.args.begun.nodes c.in_ok-begun.begun.nodes (node_at (around_view c.args.self.now.reading c.args.around) c.args.place) _ _ c.in_ok-begun.ensures.steps (stops-later c.in_ok-begun.begun.nodes c.in_ok-begun-2.begun.nodes parts.0 _ _ (c.in_ok-begun-2.ensures parts.0 parts.3) (stops-later c.in_ok-begun-2.begun.nodes c.in_ok-turn.turn.begun.nodes (turn_begun (around_view c.args.self.now.reading c.inside-inner.result) (end_view c.args.tail.end)) _ _ (c.in_ok-turn.ensures.steps c.args.self.now.reading) (stops-first c.in_ok-turn.turn.begun.nodes parts.1 _ _ (c.in_err-begun-3.ensures parts.1 turn))))))
+    exit-stops c.args.begun.nodes steps _ c.from_residual-in_err-begun-3.result c.from_residual-in_err-begun-3.ensures.1 (stops-same _ (ap (way c.args.begun.nodes) parts.6) (stops-later c.args.begun.nodes c.in_ok-begun.begun.nodes (node_at (around_view c.args.self.now.reading c.args.around) c.args.place) _ _ c.in_ok-begun.ensures.steps (stops-later c.in_ok-begun.begun.nodes c.in_ok-begun-2.begun.nodes parts.0 _ _ (c.in_ok-begun-2.ensures parts.0 parts.3) (stops-later c.in_ok-begun-2.begun.nodes c.in_ok-turn.turn.begun.nodes (turn_begun (around_view c.args.self.now.reading c.inside-inner.result) (end_view c.args.tail.end)) _ _ (c.in_ok-turn.ensures.steps c.args.self.now.reading) (stops-first c.in_ok-turn.turn.begun.nodes parts.1 _ _ (c.in_err-begun-3.ensures parts.1 turn))))))
 
 pub walk_tail-returns-in_err-leave_turn : goal.walk_tail-returns-in_err-leave_turn
 walk_tail-returns-in_err-leave_turn t c =
     λ rule steps at start h.
-    let p = err_from_is_err_and c.from_residual-in_err-leave_turn.result c.from_residual-in_err-leave_turn.ensures.1 in
-    let parts = tail-steps-at c.args.self.now.names.now c.args.self.now.reading (tail_view c.args.tail) (around_view c.args.self.now.reading c.inside-inner.result) c.args.place at start (inside-view c.args.self.now.reading c.args.around c.inside-inner.result c.inside-inner.ensures.depth c.inside-inner.ensures.names c.inside-inner.ensures.seen) h in
+    let parts = tail-steps-at c.args.self.now.names.now c.args.self.now.reading (tail_view c.args.tail) (around_view c.args.self.now.reading c.inside-inner.result) c.args.place at start (c.inside-inner.ensures.around c.args.self.now.reading) h in
     let turn = items-in c.args.self.now.names.now c.args.self.now.reading (c.in_ok-turn.ensures.around c.args.self.now.reading) parts.4 in
-    rw (p.1, p.2) (stops-same _ (ap (way c.args.begun.nodes) parts.6) (stops-later c.args.begun.nodes c.in_ok-begun.begun.nodes (node_at (around_view c.args.self.now.reading c.args.around) c.args.place) _ _ c.in_ok-begun.ensures.steps (stops-later c.in_ok-begun.begun.nodes c.in_ok-begun-2.begun.nodes parts.0 _ _ (c.in_ok-begun-2.ensures parts.0 parts.3) (stops-later c.in_ok-begun-2.begun.nodes c.in_ok-turn.turn.begun.nodes (turn_begun (around_view c.args.self.now.reading c.inside-inner.result) (end_view c.args.tail.end)) _ _ (c.in_ok-turn.ensures.steps c.args.self.now.reading) (stops-later c.in_ok-turn.turn.begun.nodes c.in_ok-begun-3.begun.nodes parts.1 _ _ (c.in_ok-begun-3.ensures parts.1 turn) (stops-first c.in_ok-begun-3.begun.nodes parts.2 _ _ (c.in_err-leave_turn.ensures parts.2 parts.5 c.in_ok-begun-3.begun.nodes)))))))
+    exit-stops c.args.begun.nodes steps _ c.from_residual-in_err-leave_turn.result c.from_residual-in_err-leave_turn.ensures.1 (stops-same _ (ap (way c.args.begun.nodes) parts.6) (stops-later c.args.begun.nodes c.in_ok-begun.begun.nodes (node_at (around_view c.args.self.now.reading c.args.around) c.args.place) _ _ c.in_ok-begun.ensures.steps (stops-later c.in_ok-begun.begun.nodes c.in_ok-begun-2.begun.nodes parts.0 _ _ (c.in_ok-begun-2.ensures parts.0 parts.3) (stops-later c.in_ok-begun-2.begun.nodes c.in_ok-turn.turn.begun.nodes (turn_begun (around_view c.args.self.now.reading c.inside-inner.result) (end_view c.args.tail.end)) _ _ (c.in_ok-turn.ensures.steps c.args.self.now.reading) (stops-later c.in_ok-turn.turn.begun.nodes c.in_ok-begun-3.begun.nodes parts.1 _ _ (c.in_ok-begun-3.ensures parts.1 turn) (stops-first c.in_ok-begun-3.begun.nodes parts.2 _ _ (c.in_err-leave_turn.ensures parts.2 parts.5 c.in_ok-begun-3.begun.nodes)))))))
 
 pub walk_tail-returns : goal.walk_tail-returns
 walk_tail-returns t c =
     λ rule steps at start h.
-    let parts = tail-steps-at c.args.self.now.names.now c.args.self.now.reading (tail_view c.args.tail) (around_view c.args.self.now.reading c.inside-inner.result) c.args.place at start (inside-view c.args.self.now.reading c.args.around c.inside-inner.result c.inside-inner.ensures.depth c.inside-inner.ensures.names c.inside-inner.ensures.seen) h in
+    let parts = tail-steps-at c.args.self.now.names.now c.args.self.now.reading (tail_view c.args.tail) (around_view c.args.self.now.reading c.inside-inner.result) c.args.place at start (c.inside-inner.ensures.around c.args.self.now.reading) h in
     let turn = items-in c.args.self.now.names.now c.args.self.now.reading (c.in_ok-turn.ensures.around c.args.self.now.reading) parts.4 in
     goes-after c.args.begun.nodes c.in_ok-begun.begun.nodes (node_at (around_view c.args.self.now.reading c.args.around) c.args.place) _ steps c.begin-2.result parts.6 c.in_ok-begun.ensures.steps (goes-on c.in_ok-begun.begun.nodes c.in_ok-begun-2.begun.nodes parts.0 _ c.begin-2.result (c.in_ok-begun-2.ensures parts.0 parts.3) (goes-on c.in_ok-begun-2.begun.nodes c.in_ok-turn.turn.begun.nodes (turn_begun (around_view c.args.self.now.reading c.inside-inner.result) (end_view c.args.tail.end)) _ c.begin-2.result (c.in_ok-turn.ensures.steps c.args.self.now.reading) (goes-on c.in_ok-turn.turn.begun.nodes c.in_ok-begun-3.begun.nodes parts.1 _ c.begin-2.result (c.in_ok-begun-3.ensures parts.1 turn) (goes-on c.in_ok-begun-3.begun.nodes c.in_ok-begun-3.begun.nodes parts.2 _ c.begin-2.result (c.in_ok-leave_turn.ensures parts.2 parts.5 c.in_ok-begun-3.begun.nodes) c.begin-2.ensures.steps))))
