@@ -61,7 +61,7 @@ impl Search<'_> {
             if tables_meet(&later, table, &Word::new()) {
                 first = Some(i);
             }
-            later.add_all(table);
+            later.add_all(alloc, table)?;
         }
         Ok(first)
     }
@@ -153,7 +153,7 @@ impl Search<'_> {
         ensures { IfOk result (IsFirstBegun self.now.desc.now octet part word.now) }
     {
         let mut only = KeyTable::new(alloc)?;
-        only.add(word, true);
+        only.add(alloc, word, true)?;
         let keys = self.look.keys(alloc, part, octet)?;
         match first_meeting(&only, &keys) {
             Some(at) => Ok(Some(keys.get(at).word.copy())),

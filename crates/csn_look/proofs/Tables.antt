@@ -1,5 +1,6 @@
 -- Tables of keys: their marks, lists and products, and those of each node at each octet position.
 pub mod MarkFacts
+pub mod BlockFacts
 pub mod KeyMarkFacts
 pub mod KeyWords
 pub mod KeyLists

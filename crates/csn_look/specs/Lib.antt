@@ -26,3 +26,4 @@ pub mod Steps
 pub mod FollowV
 pub mod Laws
 pub mod Examples
+pub mod Blocks

@@ -4,6 +4,7 @@ ghost use Rattle.std.specs.Prelude.{◌≡◌, ℕ, ◌+◌, ◌<◌, ◌↔◌,
 ghost use Rattle.csn_look.specs.KeyMarks.{IsWord, is_marked, place_of, key_mark, BeginsWithKey};
 ghost use Rattle.csn_look.specs.KeyTables.{AddsKey};
 
+use crate::key_table::KeyTable;
 use crate::marks::{is_marked, set_mark};
 use crate::word::PLACES;
 
@@ -28,16 +29,16 @@ pub(crate) fn key_mark(place: usize, whole: bool) -> usize
 }
 
 /// Whether the word with this place is a key, whole or cut.
-pub(crate) fn is_key(marks: &[u64], place: usize) -> bool
+pub(crate) fn is_key(marks: &KeyTable, place: usize) -> bool
     requires size { length marks.now ≡ MARK_WORDS }
     requires small { place < PLACES }
     ensures { result ≡ (is_marked marks.now place || is_marked marks.now (CUT + place)) }
 {
-    is_marked(marks, place) || is_marked(marks, CUT + place)
+    marks.is_marked(place) || marks.is_marked(CUT + place)
 }
 
 /// Whether a key is a prefix of the word with this place.
-pub(crate) fn begins_with_key(marks: &[u64], place: usize) -> bool
+pub(crate) fn begins_with_key(marks: &KeyTable, place: usize) -> bool
     requires size { length marks.now ≡ MARK_WORDS }
     requires some { 0 < place }
     requires small { place < PLACES }

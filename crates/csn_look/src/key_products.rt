@@ -6,6 +6,7 @@ ghost use Rattle.csn_look.specs.KeyTables.{IsKeyTable};
 ghost use Rattle.csn_look.specs.KeySteps.{Extends, IsBehind, IsKeyBehind, IsAfter};
 
 use crate::key_marks::{CUT, MARK_WORDS, STARTS, add_key};
+use crate::key_table::KeyTable;
 use crate::marks::next_marked;
 use crate::word::{MOST_WORD, PLACES};
 
@@ -39,7 +40,7 @@ pub(crate) fn add_words(marks: &mut [u64], words: usize, whole: bool)
 fn add_marked(
     marks: &mut [u64],
     front: usize,
-    rest: &[u64],
+    rest: &KeyTable,
     plane: usize,
     words: usize,
     whole: bool,
@@ -62,7 +63,7 @@ fn add_marked(
 }
 
 /// The word with the place `front`, and behind it each key of one size.
-fn add_keys_of(marks: &mut [u64], front: usize, rest: &[u64], words: usize)
+fn add_keys_of(marks: &mut [u64], front: usize, rest: &KeyTable, words: usize)
     requires size { length marks.old ≡ MARK_WORDS }
     requires rest_size { length rest.now ≡ MARK_WORDS }
     requires some { 0 < front }
@@ -75,7 +76,7 @@ fn add_keys_of(marks: &mut [u64], front: usize, rest: &[u64], words: usize)
 }
 
 /// The word with the place `front`, which leaves room for so many bits, and behind it each key, cut at 12 bits.
-fn add_behind(marks: &mut [u64], front: usize, rest: &[u64], room: usize)
+fn add_behind(marks: &mut [u64], front: usize, rest: &KeyTable, room: usize)
     requires size { length marks.old ≡ MARK_WORDS }
     requires rest_size { length rest.now ≡ MARK_WORDS }
     requires some { 0 < front }
@@ -90,7 +91,7 @@ fn add_behind(marks: &mut [u64], front: usize, rest: &[u64], room: usize)
 }
 
 /// Each whole key of the first part that has so many bits, and behind it each key of the rest.
-fn add_after_wholes(marks: &mut [u64], first: &[u64], rest: &[u64], size: usize)
+fn add_after_wholes(marks: &mut [u64], first: &KeyTable, rest: &KeyTable, size: usize)
     requires size { length marks.old ≡ MARK_WORDS }
     requires first_size { length first.now ≡ MARK_WORDS }
     requires rest_size { length rest.now ≡ MARK_WORDS }
@@ -106,7 +107,7 @@ fn add_after_wholes(marks: &mut [u64], first: &[u64], rest: &[u64], size: usize)
 }
 
 /// Each cut key of the first part that has so many bits, and each whole one with each key of the rest behind it.
-pub(crate) fn add_after_size(marks: &mut [u64], first: &[u64], rest: &[u64], size: usize)
+pub(crate) fn add_after_size(marks: &mut [u64], first: &KeyTable, rest: &KeyTable, size: usize)
     requires size { length marks.old ≡ MARK_WORDS }
     requires first_size { length first.now ≡ MARK_WORDS }
     requires rest_size { length rest.now ≡ MARK_WORDS }

@@ -117,12 +117,12 @@ impl Rowed<'_> {
     {
         if self.are_same(tables, parts) {
             let table = self.union(tables, parts, 0)?;
-            return same_row(tables, table);
+            return same_row(self.alloc, tables, &table);
         }
         let mut row = [0; 8];
         for octet in 0..8 {
             let table = self.union(tables, parts, octet)?;
-            row[octet] = tables.keep(table)?;
+            row[octet] = tables.keep(self.alloc, &table)?;
         }
         Ok(row)
     }
@@ -149,7 +149,7 @@ impl Rowed<'_> {
         let mut table = KeyTable::new(self.alloc)?;
         for at in 0..parts.len() {
             let row = self.of(tables, parts.get(at));
-            table.add_all(tables.get(row[octet]));
+            table.add_all(self.alloc, tables.get(row[octet]))?;
         }
         Ok(table)
     }
@@ -351,10 +351,14 @@ fn empty_row(alloc: Global, tables: &mut TableMaker, whole: bool) -> Result<[usi
 }
 
 /// One table for each octet position.
-fn same_row(tables: &mut TableMaker, table: KeyTable) -> Result<[usize; 8], NoMemory>
-    ensures { IfOk result (λ row. IsSameRow tables.old tables.new row table) }
+fn same_row(
+    alloc: Global,
+    tables: &mut TableMaker,
+    table: &KeyTable,
+) -> Result<[usize; 8], NoMemory>
+    ensures { IfOk result (λ row. IsSameRow tables.old tables.new row table.now) }
 {
-    let at = tables.keep(table)?;
+    let at = tables.keep(alloc, table)?;
     Ok(same(at))
 }
 

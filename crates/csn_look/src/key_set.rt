@@ -3,7 +3,7 @@ ghost use Rattle.csn_look.specs.KeyMarks.{IsWord, place_of, has_key};
 ghost use Rattle.csn_look.specs.KeyLists.{keys_if, keys_from};
 
 use crate::key_marks::{MARK_WORDS, STARTS, key_mark};
-use crate::marks::is_marked;
+use crate::key_table::KeyTable;
 use crate::word::{Key, MOST_WORD, PLACES, Word};
 use csn_bits::NoMemory;
 use std::alloc::Global;
@@ -45,13 +45,18 @@ impl KeySet {
 }
 
 /// Lists the word with this place, where it is a key with this mark.
-fn list_key(marks: &[u64], place: usize, whole: bool, keys: &mut Vec<Key>) -> Result<(), NoMemory>
+fn list_key(
+    marks: &KeyTable,
+    place: usize,
+    whole: bool,
+    keys: &mut Vec<Key>,
+) -> Result<(), NoMemory>
     requires marks { length marks.now ≡ MARK_WORDS }
     requires some { 0 < place }
     requires small { place < PLACES }
     ensures { (word : List ℕ) → IsWord word → place_of word ≡ place → IfOk result (λ done. keys.new.items ≡ keys.old.items ++ keys_if (has_key marks.now word whole) (record { word = word; whole = whole } ∷ [])) }
 {
-    if is_marked(marks, key_mark(place, whole)) {
+    if marks.is_marked(key_mark(place, whole)) {
         let word = Word::with_place(place);
         return Ok(keys.push(Key { word, whole })?);
     }
@@ -60,7 +65,7 @@ fn list_key(marks: &[u64], place: usize, whole: bool, keys: &mut Vec<Key>) -> Re
 
 /// Lists the keys that begin with the word with this place, which has so many bits.
 pub(crate) fn list_keys(
-    marks: &[u64],
+    marks: &KeyTable,
     place: usize,
     size: usize,
     keys: &mut Vec<Key>,
@@ -76,7 +81,7 @@ pub(crate) fn list_keys(
     if size == MOST_WORD {
         return Ok(());
     }
-    if is_marked(marks, STARTS + place) {
+    if marks.is_marked(STARTS + place) {
         list_keys(marks, 2 * place, size + 1, keys)?;
         return list_keys(marks, 2 * place + 1, size + 1, keys);
     }

@@ -72,7 +72,7 @@ impl KeyTables {
         ensures more { (more : List (List ℕ)) × (self.new ≡ self.old ++ more) }
     {
         let mut table = KeyTable::new(alloc)?;
-        table.add_after(self.get(first), self.tables.as_slice(), rests);
-        self.keep(table)
+        table.add_after(alloc, self.get(first), self.tables.as_slice(), rests)?;
+        self.keep(table.packed(alloc)?)
     }
 }

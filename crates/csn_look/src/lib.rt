@@ -1,6 +1,7 @@
 //! Look-ahead sets of the nodes of a description, and the sets and words that they are told in.
 #![tactic(auto)]
 
+mod blocks;
 mod follow;
 mod following;
 mod hand_down;

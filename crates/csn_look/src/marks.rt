@@ -4,6 +4,7 @@ ghost use Rattle.std.specs.Prelude.{◌≡◌, ℕ, ◌*◌, ◌<◌, ◌≤◌,
 ghost use Rattle.csn_look.specs.KeyMarks.{is_marked};
 
 use crate::key_marks::{MARK_WORDS, MARKS};
+use crate::key_table::KeyTable;
 
 /// Whether the mark is set.
 pub(crate) fn is_marked(marks: &[u64], at: usize) -> bool
@@ -14,7 +15,7 @@ pub(crate) fn is_marked(marks: &[u64], at: usize) -> bool
 }
 
 /// The first place from this one on, and before an end, whose mark is set; and the end where there is none.
-pub(crate) fn next_marked(marks: &[u64], from: usize, end: usize) -> usize
+pub(crate) fn next_marked(marks: &KeyTable, from: usize, end: usize) -> usize
     requires size { length marks.now ≡ MARK_WORDS }
     requires order { from ≤ end }
     requires within { end ≤ MARKS }
@@ -25,7 +26,7 @@ pub(crate) fn next_marked(marks: &[u64], from: usize, end: usize) -> usize
 {
     let mut at = from;
     while at < end {
-        let left = marks[at / 64] >> (at % 64);
+        let left = marks.word(at / 64) >> (at % 64);
         if left == 0 {
             at = 64 * (at / 64 + 1);
         } else if left % 2 == 1 {
@@ -43,14 +44,4 @@ pub(crate) fn set_mark(marks: &mut [u64], at: usize)
     ensures { (other : ℕ) → is_marked marks.new other ≡ (nat_eq other at || is_marked marks.old other) }
 {
     marks[at / 64] |= 1 << (at % 64);
-}
-
-/// Sets the marks that are set in either.
-pub(crate) fn join_marks(marks: &mut [u64], others: &[u64])
-    requires { length marks.old ≡ length others.now }
-    ensures { (at : ℕ) → is_marked marks.new at ≡ (is_marked marks.old at || is_marked others.now at) }
-{
-    for at in 0..marks.len() {
-        marks[at] |= others[at];
-    }
 }

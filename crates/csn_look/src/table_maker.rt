@@ -75,11 +75,11 @@ impl TableMaker {
     }
 
     /// Keeps a table, and answers its number.
-    pub fn keep(&mut self, table: KeyTable) -> Result<usize, NoMemory>
-        ensures kept { IfOk result (λ at. (at < length self.new) × (slice_index_or self.new at [] ≡ table)) }
+    pub fn keep(&mut self, alloc: Global, table: &KeyTable) -> Result<usize, NoMemory>
+        ensures kept { IfOk result (λ at. (at < length self.new) × (slice_index_or self.new at [] ≡ table.now)) }
         ensures more { (more : List (List ℕ)) × (self.new ≡ self.old ++ more) }
     {
-        self.tables.keep(table)
+        self.tables.keep(table.packed(alloc)?)
     }
 
     /// Keeps the table of the keys of a first part and of what comes after it, which is in a table of its own for
@@ -119,8 +119,8 @@ impl TableMaker {
             return Ok(at);
         }
         let mut table = KeyTable::new(alloc)?;
-        table.add(word, whole);
-        self.keep_leaf(leaf, table)
+        table.add(alloc, word, whole)?;
+        self.keep_leaf(alloc, leaf, &table)
     }
 
     /// Keeps the table of all words of so many bits, and answers its number.
@@ -134,8 +134,8 @@ impl TableMaker {
             return Ok(at);
         }
         let mut table = KeyTable::new(alloc)?;
-        table.add_words(size, whole);
-        self.keep_leaf(leaf, table)
+        table.add_words(alloc, size, whole)?;
+        self.keep_leaf(alloc, leaf, &table)
     }
 
     /// The table that is looked up by this number, where it was made.
@@ -147,12 +147,12 @@ impl TableMaker {
     }
 
     /// Keeps the table that is looked up by this number, and answers its own.
-    fn keep_leaf(&mut self, leaf: usize, table: KeyTable) -> Result<usize, NoMemory>
-        requires { KeysAre table (LeafKeys leaf) }
+    fn keep_leaf(&mut self, alloc: Global, leaf: usize, table: &KeyTable) -> Result<usize, NoMemory>
+        requires { KeysAre table.now (LeafKeys leaf) }
         ensures kept { IfOk result (λ at. HasTable self.new at (LeafKeys leaf)) }
         ensures more { (more : List (List ℕ)) × (self.new ≡ self.old ++ more) }
     {
-        let at = self.tables.keep(table)?;
+        let at = self.tables.keep(table.packed(alloc)?)?;
         self.leaves.insert(leaf, at)?;
         Ok(at)
     }

@@ -136,12 +136,12 @@ fn word_of(bits: &[u8], rt: &impl Abort) -> Word {
 fn a_table_tells_how_bits_begin(rt: HostRuntime) -> Result<(), Fail> {
     // the keys 01, 100 and 101 of { 01 | 10 <A : bit> }
     let mut first = KeyTable::new(rt.alloc())?;
-    first.add(&word_of(&[0, 1], &rt), true);
+    first.add(rt.alloc(), &word_of(&[0, 1], &rt), true)?;
     let mut table = KeyTable::new(rt.alloc())?;
-    table.add(&word_of(&[1, 0, 0], &rt), true);
-    table.add(&word_of(&[1, 0, 1], &rt), true);
+    table.add(rt.alloc(), &word_of(&[1, 0, 0], &rt), true)?;
+    table.add(rt.alloc(), &word_of(&[1, 0, 1], &rt), true)?;
     assert_eq!(rt; table.begins(&word_of(&[0], &rt)), Begins::Neither);
-    table.add_all(&first);
+    table.add_all(rt.alloc(), &first)?;
     assert!(rt; table.holds(&word_of(&[1, 0, 1], &rt), true));
     assert!(rt; !table.holds(&word_of(&[1, 0, 1], &rt), false));
     assert!(rt; !table.holds(&word_of(&[1, 0], &rt), true));
@@ -157,13 +157,13 @@ fn a_table_tells_how_bits_begin(rt: HostRuntime) -> Result<(), Fail> {
 fn one_part_after_another(rt: HostRuntime) -> Result<(), Fail> {
     // 0, or 1 and more, and then two bits: 000, 001, 010 and 011, whole, and 1, cut
     let mut first = KeyTable::new(rt.alloc())?;
-    first.add(&word_of(&[0], &rt), true);
-    first.add(&word_of(&[1], &rt), false);
+    first.add(rt.alloc(), &word_of(&[0], &rt), true)?;
+    first.add(rt.alloc(), &word_of(&[1], &rt), false)?;
     let mut rest = KeyTable::new(rt.alloc())?;
-    rest.add_words(2, true);
+    rest.add_words(rt.alloc(), 2, true)?;
     let tables = [rest];
     let mut both = KeyTable::new(rt.alloc())?;
-    both.add_after(&first, &tables, &[0; 8]);
+    both.add_after(rt.alloc(), &first, &tables, &[0; 8])?;
     let keys = both.keys(rt.alloc())?;
     assert_eq!(rt; keys.len(), 5);
     assert!(rt; keys.get(1).word == word_of(&[0, 0, 1], &rt));
@@ -179,7 +179,7 @@ fn equal_tables_are_kept_once(rt: HostRuntime) -> Result<(), Fail> {
     let mut numbers = Vec::new(rt.alloc());
     for bits in [[0, 1], [1, 1], [0, 1]] {
         let mut table = KeyTable::new(rt.alloc())?;
-        table.add(&word_of(&bits, &rt), true);
+        table.add(rt.alloc(), &word_of(&bits, &rt), true)?;
         numbers.push(tables.keep(table)?)?;
     }
     assert_eq!(rt; numbers.as_slice(), [0, 1, 0].as_slice());

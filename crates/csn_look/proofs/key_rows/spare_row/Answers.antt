@@ -1,7 +1,6 @@
 use Rattle.std.proofs.Common.{◌≡◌, ℕ, Bool, List, length, sym, subst}
-use Rattle.std.proofs.lemmas.Result.{IfOk-weaker}
 use Rattle.csn_desc.specs.declared.reading.Reading.{Reading}
-use Rattle.csn_desc.specs.declared.reading.Reading.TheVariants.{Received, Sent}
+use Rattle.csn_desc.specs.declared.reading.Reading.TheVariants.{Received}
 use Rattle.csn_look.specs.KeyRows.{Makes, IsSpareKey}
 use Rattle.csn_look.proofs.Tables.ProductsMade.{has_leaf}
 use Rattle.csn_look.proofs.Tables.RowFacts.{makes_same}

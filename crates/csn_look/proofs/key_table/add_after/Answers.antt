@@ -1,4 +1,4 @@
-use Rattle.std.proofs.Common.{◌≡◌, ℕ, ◌<◌, ◌%◌, List, [], get_or, arith, sym, ◌∙◌, subst}
+use Rattle.std.proofs.Common.{◌≡◌, ℕ, ◌<◌, ◌%◌, List, [], get_or, arith, subst}
 use Rattle.std.proofs.lemmas.List.{get_or_read}
 use Rattle.csn_look.specs.KeyTables.{IsKeyTable}
 use Rattle.csn_look.specs.KeySteps.{Extends}
@@ -14,11 +14,10 @@ loop-size-preserved c =
     let low : c.loop-size.size % 8 < 8 = omega arith in
     let there = c.requires.known (c.loop-size.size % 8) low in
     let read : c.index-tables-rests.result ≡ rests c.loop-size.size = get_or_read c.args.tables.now (get_or c.args.rests.now (c.loop-size.size % 8) 0) c.index-tables-rests.result there c.index-tables-rests.is [] in
-    let here : c.deref.result.now ≡ rests c.loop-size.size = c.deref.ensures.value ∙ c.rest.view_is ∙ read in
     let P : List ℕ → Type 0 = IsKeyTable in
     let Q : List ℕ → Type 0 = λ rest. Extends c.loop-size.marks c.add_after_size.new.marks (AtSize c.args.first.now rest c.loop-size.size) in
     below_next c.args.first.now rests c.loop-size.size c.args.marks.now c.loop-size.marks c.add_after_size.new.marks c.loop-size.invariant
-    (subst Q here (c.add_after_size.ensures (subst P (sym c.deref.ensures.value) c.rest.invariant)))
+    (subst Q read (c.add_after_size.ensures (subst P c.rest.view_is c.rest.invariant.0)))
 
 pub returns : goal.returns
 returns c =

@@ -1,4 +1,4 @@
-use Rattle.std.proofs.Common.{◌≡◌, ℕ, ◌+◌, ◌||◌, Bool, List, IsTrue, ◌↔◌, sym, ap, ◌∙◌, subst}
+use Rattle.std.proofs.Common.{◌≡◌, ℕ, ◌+◌, ◌||◌, Bool, List, IsTrue, ◌↔◌, refl, sym, ap, ◌∙◌, subst}
 use Rattle.csn_look.specs.KeyMarks.{IsWord, is_marked, place_of, IsKeyOf, StartsKey}
 use Rattle.csn_look.specs.KeyTables.{IsKeyTable}
 use Rattle.csn_look.proofs.Tables.KeyMarkFacts.{key_told, starts_told}
@@ -22,22 +22,22 @@ starts marks own word at told table is_word same here e =
 
 pub returns-then-is_key : goal.returns-then-is_key
 returns-then-is_key c =
-    (is_key c.deref.result.now c.args.self.now c.args.word.now c.place-place.result c.is_key.result (c.deref.ensures.value ∙ c.self.view_is) c.place-place.ensures.value c.is_key.ensures).0 c.if-is_key.true
+    (is_key c.args.self.now c.args.self.now c.args.word.now c.place-place.result c.is_key.result refl c.place-place.ensures.value c.is_key.ensures).0 c.if-is_key.true
 
 pub returns-then-is_marked : goal.returns-then-is_marked
 returns-then-is_marked c =
-    let key = is_key c.deref.result.now c.args.self.now c.args.word.now c.place-place.result c.is_key.result (c.deref.ensures.value ∙ c.self.view_is) c.place-place.ensures.value c.is_key.ensures in
+    let key = is_key c.args.self.now c.args.self.now c.args.word.now c.place-place.result c.is_key.result refl c.place-place.ensures.value c.is_key.ensures in
     let P : List ℕ → Type 0 = IsKeyTable in
-    let start = starts c.deref-else-is_key.result.now c.args.self.now c.args.word.now c.place-place.result c.is_marked.result (subst P c.self.view_is c.self.invariant) c.place-place.ensures.word (c.deref-else-is_key.ensures.value ∙ c.self.view_is) c.place-place.ensures.value c.is_marked.ensures in (
+    let start = starts c.args.self.now c.args.self.now c.args.word.now c.place-place.result c.is_marked.result (subst P c.self.view_is c.self.invariant.0) c.place-place.ensures.word refl c.place-place.ensures.value c.is_marked.ensures in (
       (λ k. let e = key.1 k in let f = c.if-is_key.false in absurd (cc)),
       start.0 c.if-is_marked.true,
     )
 
 pub returns-else-is_marked : goal.returns-else-is_marked
 returns-else-is_marked c =
-    let key = is_key c.deref.result.now c.args.self.now c.args.word.now c.place-place.result c.is_key.result (c.deref.ensures.value ∙ c.self.view_is) c.place-place.ensures.value c.is_key.ensures in
+    let key = is_key c.args.self.now c.args.self.now c.args.word.now c.place-place.result c.is_key.result refl c.place-place.ensures.value c.is_key.ensures in
     let P : List ℕ → Type 0 = IsKeyTable in
-    let start = starts c.deref-else-is_key.result.now c.args.self.now c.args.word.now c.place-place.result c.is_marked.result (subst P c.self.view_is c.self.invariant) c.place-place.ensures.word (c.deref-else-is_key.ensures.value ∙ c.self.view_is) c.place-place.ensures.value c.is_marked.ensures in (
+    let start = starts c.args.self.now c.args.self.now c.args.word.now c.place-place.result c.is_marked.result (subst P c.self.view_is c.self.invariant.0) c.place-place.ensures.word refl c.place-place.ensures.value c.is_marked.ensures in (
       (λ k. let e = key.1 k in let f = c.if-is_key.false in absurd (cc)),
       (λ s. let e = start.1 s in let f = c.if-is_marked.false in absurd (cc)),
     )

@@ -1,4 +1,4 @@
-use Rattle.std.proofs.Common.{◌<◌, ◌≡◌, ℕ, [], List, length, subst, sym}
+use Rattle.std.proofs.Common.{◌<◌, ◌≡◌, ℕ, [], List, length, subst, sym, ◌∙◌}
 use Rattle.std.specs.Prelude.{slice_index_or}
 use Rattle.csn_look.specs.KeyMarks.{KeysAre}
 use Rattle.csn_look.specs.KeyRows.{HasTable}
@@ -13,7 +13,10 @@ kept tables at leaf table are h =
     record { within = h.0; keys = subst P (sym h.1) are }
 
 pub invariant_of-self : goal.invariant_of-self
-invariant_of-self c = made_stays c.self.inside.tables c.keep.new.self c.self.inside.products.items c.self.inside.leaves c.keep.ensures.more c.self.invariant
+invariant_of-self c = c.self.invariant
+
+pub invariant_of-self-in_err-at : goal.invariant_of-self-in_err-at
+invariant_of-self-in_err-at c = made_stays c.self.inside.tables c.keep.new.self c.self.inside.products.items c.self.inside.leaves c.keep.ensures.more c.self.invariant
 
 pub invariant_of-self-in_err-insert : goal.invariant_of-self-in_err-insert
 invariant_of-self-in_err-insert c =
@@ -25,8 +28,8 @@ invariant_of-self-2 c =
     let made = made_stays c.self.inside.tables c.keep.new.self c.self.inside.products.items c.self.inside.leaves c.keep.ensures.more c.self.invariant in
     record {
       right_products = made.right_products;
-      right_leaves = leaf_kept c.keep.new.self c.self.inside.leaves c.insert.new.self c.args.leaf c.in_ok-at.at c.in_ok-insert.ensures.updates (kept c.keep.new.self c.in_ok-at.at c.args.leaf c.args.table c.requires c.in_ok-at.ensures.kept) made.right_leaves;
+      right_leaves = leaf_kept c.keep.new.self c.self.inside.leaves c.insert.new.self c.args.leaf c.in_ok-at.at c.in_ok-insert.ensures.updates (kept c.keep.new.self c.in_ok-at.at c.args.leaf c.args.table.now c.requires (c.in_ok-at.ensures.kept.0, c.in_ok-at.ensures.kept.1 ∙ c.in_ok-packed.ensures)) made.right_leaves;
     }
 
 pub returns-clause-kept : goal.returns-clause-kept
-returns-clause-kept c = kept c.keep.new.self c.in_ok-at.at c.args.leaf c.args.table c.requires c.in_ok-at.ensures.kept
+returns-clause-kept c = kept c.keep.new.self c.in_ok-at.at c.args.leaf c.args.table.now c.requires (c.in_ok-at.ensures.kept.0, c.in_ok-at.ensures.kept.1 ∙ c.in_ok-packed.ensures)

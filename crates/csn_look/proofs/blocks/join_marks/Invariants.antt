@@ -1,6 +1,6 @@
 use Rattle.std.proofs.Common.{◌≡◌, ℕ, ◌<◌, ◌≤◌, get_or}
 use Rattle.std.specs.Prelude.{bit_or}
-use Rattle.csn_look.proofs.marks.join_marks.Given as goal
+use Rattle.csn_look.proofs.blocks.join_marks.Given as goal
 
 -- before the place each number has the marks of both, and from it on it is as it was
 abbrev pub invariant-loop-at : goal.invariant-loop-at

@@ -1,7 +1,7 @@
 use Rattle.std.proofs.Common.{arith, ◌/◌, ◌∙◌, inl, inr}
 use Rattle.std.proofs.lemmas.Bool.{cases_lt}
 use Rattle.csn_look.proofs.Tables.MarkFacts.{joined, past_end}
-use Rattle.csn_look.proofs.marks.join_marks.Goals as goal
+use Rattle.csn_look.proofs.blocks.join_marks.Goals as goal
 
 pub returns : goal.returns
 returns c = λ at.
