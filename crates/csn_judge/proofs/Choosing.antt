@@ -1,5 +1,5 @@
 -- What can be followed with no bits, and of a choice that waits or refuses.
-use Rattle.std.proofs.Common.{◌≡◌, ℕ, zero, suc, ◌+◌, ◌-◌, ◌%◌, ◌<◌, ◌≤◌, Bool, true, false, List, [], ◌∷◌, ◌++◌, length, drop, take, refl, sym, ◌∙◌, ap, subst, arith, append_assoc, append-nil, length-append, Option, Some, slice_get}
+use Rattle.std.proofs.Common.{◌≡◌, ℕ, zero, suc, ◌+◌, ◌-◌, ◌%◌, ◌≤◌, Bool, true, false, List, [], ◌∷◌, ◌++◌, length, drop, take, refl, sym, ◌∙◌, ap, subst, arith, append-nil, length-append, Option, Some, slice_get}
 use Rattle.csn_desc.specs.declared.moves.Move.{Move}
 use Rattle.csn_desc.specs.declared.moves.Move.TheVariants.{Leave}
 use Rattle.csn_desc.specs.declared.node.Node.TheVariants.{Choice}
@@ -7,26 +7,27 @@ use Rattle.csn_desc.specs.TreeV.{TreeV}
 use Rattle.csn_desc.specs.TreeV as tree
 use Rattle.csn_desc.specs.Nodes.{DescV}
 use Rattle.csn_desc.specs.Values.{Values}
-use Rattle.csn_desc.specs.Means.{NMeans, NodeMeans, means_at, means_choice, parts_end, times_end, many_end}
+use Rattle.csn_desc.specs.Means.{NodeMeans, means_at, means_choice, parts_end, times_end, many_end}
 use Rattle.csn_desc.specs.Follows.{NFollow, parts_here, times_here}
 use Rattle.csn_desc.specs.Walks as walk
-use Rattle.csn_desc.specs.Formed.{Formed, PartsFormed, formed_next, with_seen, IsDescription}
+use Rattle.csn_desc.specs.Formed.{Formed, PartsFormed, with_seen, IsDescription}
 use Rattle.csn_desc.specs.Laws.{EmptyBitsAreFollowed}
 use Rattle.csn_certify.specs.declared.pick.Pick.TheVariants.{Wait, Refuse}
 use Rattle.csn_certify.specs.Conflicts.{Certified}
 use Rattle.csn_certify.specs.Picks.{Picks}
 use Rattle.csn_certify.specs.Ahead.{LiesAhead}
-use Rattle.csn_certify.specs.Laws.{ChoicesRefuseNone, FollowedRefuseNone, WaitingIsFollowed, WaitingEndsInRefusal, RefusedHasNoEmptyTree}
 use Rattle.csn_look.specs.Reached.{MayStandBehind}
-use Rattle.csn_judge.specs.Left.{Left, all_left, bits_left, choice_left, none_left, window_left, parts_left, turns_left, free_left, cut_left, lead_left, behind, Completes, completes_choice, completes_none, completes_parts, completes_turns, completes_free, completes_cut, Begins, begins_whole, begins_all, begins_choice, begins_window, begins_parts, begins_turns, begins_lead_none}
+use Rattle.csn_judge.specs.Left.{Left, choice_left, parts_left, turns_left, behind, Completes, completes_choice, completes_none, completes_parts, completes_turns, completes_free, completes_cut, Begins, begins_whole, begins_all, begins_choice, begins_window, begins_parts, begins_turns, begins_lead_none}
 use Rattle.csn_judge.specs.Remains.{Within, Rest, rest_next, Goes, goes_end, goes_next, goes_here}
 use Rattle.csn_judge.specs.Inside.{seen_of, IsReady, Inside, IsLeftOf, of_all, of_field, of_literal, of_spare, of_pad, of_pad_begun, of_rest, of_read, of_choice, of_window, of_parts, of_turns, of_free, of_cut, of_lead, IsStack, stack_end, stack_node}
 use Rattle.csn_judge.proofs.Parts.{Moving, follow_whole}
-use Rattle.csn_judge.proofs.Standing.{Standing, rest_stands, goes_stands, choice_width}
-use Rattle.csn_judge.proofs.LookAhead.{reaches, within_less}
-use Rattle.csn_judge.proofs.Closing.{Full, goes_within, no_bits_full}
+use Rattle.csn_judge.proofs.Standing.{rest_stands, goes_stands, choice_width}
+use Rattle.csn_judge.proofs.LookAhead.{reaches}
+use Rattle.csn_judge.proofs.Closing.{Full, goes_within}
 use Rattle.csn_judge.proofs.Refusing.{alive, bits_alive, symbols_alive, spare_alive, pad_alive, rest_alive, choice_begun, stuck}
 use Rattle.csn_judge.proofs.Stacks.{seen_have_values, seen_behind, parts_formed, first_formed}
+use Rattle.std.proofs.lemmas.List.{length-take}
+use Rattle.csn_judge.specs.Known.{Known}
 
 module _ (d : DescV) (moving : Moving) (empties : EmptyBitsAreFollowed) where
   -- a well-formed node follows no bits
@@ -75,15 +76,7 @@ module _ (d : DescV) (moving : Moving) (empties : EmptyBitsAreFollowed) where
   nothing_goes (stack_end good) within = goes_end refl
   nothing_goes (stack_node i from v good ready left inner) within = alive d (begins_none _ ready left within) within
 
--- the laws of where look-ahead waits and refuses
-pub record Refusing : Type 0 where
-  pub refuses : ChoicesRefuseNone
-  pub refuses_followed : FollowedRefuseNone
-  pub waits : WaitingIsFollowed
-  pub waits_end : WaitingEndsInRefusal
-  pub never_empty : RefusedHasNoEmptyTree
-
-module _ (d : DescV) (most : ℕ) (is : IsDescription d) (certified : Certified d most) (moving : Moving) (standing : Standing) (laws : Refusing) where
+module _ (d : DescV) (most : ℕ) (is : IsDescription d) (certified : Certified d most) (moving : Moving) (known : Known d) where
   -- a choice that is entered and not decided
   pub record Undecided (k : ℕ) (parts : List ℕ) (v : Values) (outer : List Left) (done : List ℕ) : Type 0 where
     pub at : slice_get d.nodes k ≡ Some (Choice parts)
@@ -95,7 +88,7 @@ module _ (d : DescV) (most : ℕ) (is : IsDescription d) (certified : Certified 
     -- it follows the bits with which it waits
     pub wait_goes : {held : List ℕ} (ended : Bool) → Picks d most k (length done % 8) held ended Wait → Within outer (length done + length held) → Goes d (choice_left parts v ∷ outer) done held
     wait_goes {held} ended picks within =
-        goes_here (choice_begun d moving how.at (laws.waits d most k (length outer) (length done) (seen_of v) v held ended how.ready.formed (seen_have_values v) picks)) (tt, within)
+        goes_here (choice_begun d moving how.at (known.waits d most k (length outer) (length done) (seen_of v) v held ended how.ready.formed (seen_have_values v) picks)) (tt, within)
 
     lies : (h later : List ℕ) {b1 : List ℕ} {t : TreeV} (b2 : List ℕ) (m : ℕ) → NodeMeans d (Choice parts) (length done) v b1 t → MayStandBehind d k (length (done ++ b1) % 8) (take (m - length (done ++ b1)) b2) → b1 ++ take (m - length (done ++ b1)) b2 ≡ h ++ later → LiesAhead d k (length done) v (h ++ later) t
     lies h later {b1} b2 m means stands e =
@@ -110,17 +103,17 @@ module _ (d : DescV) (most : ℕ) (is : IsDescription d) (certified : Certified 
     none_follows : {h : List ℕ} → Picks d most k (length done % 8) h false Refuse → ¬ Begins d (choice_left parts v) done h
     none_follows {h} picks (begins_choice j i here f) =
         let P : List ℕ → Type 0 = λ l. NFollow d i (length done) v l in
-        laws.refuses_followed d most k (length done) j i v parts h [] is certified how.at here (subst P (sym (append-nil h)) f) picks
+        known.refuses_followed d most k (length done) j i v parts h [] is certified how.at here (subst P (sym (append-nil h)) f) picks
     none_follows {h} picks (begins_whole moves (completes_choice t (means_choice {j = j} {i = i} here g) w leave)) =
         let P : List ℕ → Type 0 = λ l. NFollow d i (length done) v l in
-        laws.refuses_followed d most k (length done) j i v parts h [] is certified how.at here (subst P (sym (append-nil h)) (follow_whole d moving g)) picks
+        known.refuses_followed d most k (length done) j i v parts h [] is certified how.at here (subst P (sym (append-nil h)) (follow_whole d moving g)) picks
 
     pub refused : {h : List ℕ} → Picks d most k (length done % 8) h false Refuse → Within outer (length done + length h) → ¬ Goes d (choice_left parts v ∷ outer) done h
     refused {h} picks within (goes_here begun room_more) = none_follows picks begun
     refused {h} picks within (goes_next b1 b2 first cut (completes_choice t means w leave) g) =
-        let stands = goes_stands d is standing (length done + length h) how.inner (choice_width d how.at) within g in
+        let stands = goes_stands d is known (length done + length h) how.inner (choice_width d how.at) within g in
         let reach = reaches h [] b1 b2 (append-nil h ∙ cut) in
-        laws.refuses d most k (length done) v parts h reach.later false t is certified how.at how.ready.reached (λ e. absurd (cc)) (lies h reach.later b2 (length done + length h) means stands (ap (λ n. b1 ++ take n b2) (room h b1) ∙ reach.is)) picks
+        known.refuses d most k (length done) v parts h reach.later false t is certified how.at how.ready.reached (λ e. absurd (cc)) (lies h reach.later b2 (length done + length h) means stands (ap (λ n. b1 ++ take n b2) (room h b1) ∙ reach.is)) picks
 
     -- where it waits with all bits that a window has, and more come behind the window
     pub wait_full : {held : List ℕ} (bit : ℕ) (rest : List ℕ) → ¬ (held ≡ []) → Picks d most k (length done % 8) held false Wait → Within outer (length done + length held) → ((place : ℕ) → Within outer place → place ≤ length done + length held) → ¬ Goes d (choice_left parts v ∷ outer) done (held ++ bit ∷ rest)
@@ -128,47 +121,34 @@ module _ (d : DescV) (most : ℕ) (is : IsDescription d) (certified : Certified 
         let size = length-append held (bit ∷ rest) in
         absurd (omega (arith, full (length done + length (held ++ bit ∷ rest)) room_more.1, size))
     wait_full {held} bit rest some picks within full (goes_next b1 b2 first cut (completes_choice t means w leave) g) =
-        let stands = goes_stands d is standing (length done + length held) how.inner (choice_width d how.at) within g in
+        let stands = goes_stands d is known (length done + length held) how.inner (choice_width d how.at) within g in
         let reach = reaches held (bit ∷ rest) b1 b2 cut in
         let short : length b1 ≤ length held = omega (arith, full (length (done ++ b1)) (goes_within d g), length-append done b1) in
         let none : reach.later ≡ [] = no_more reach.later reach.is short in
-        laws.refuses d most k (length done) v parts held reach.later true t is certified how.at how.ready.reached (λ e. none) (lies held reach.later b2 (length done + length held) means stands (ap (λ n. b1 ++ take n b2) (room held b1) ∙ reach.is)) (laws.waits_end d most k (length done % 8) held some picks)
+        known.refuses d most k (length done) v parts held reach.later true t is certified how.at how.ready.reached (λ e. none) (lies held reach.later b2 (length done + length held) means stands (ap (λ n. b1 ++ take n b2) (room held b1) ∙ reach.is)) (known.waits_end d most k (length done % 8) held some picks)
       where
-        take_few : (n : ℕ) (l : List ℕ) → length (take n l) ≤ n
-        take_few zero l = omega arith
-        take_few (suc n) [] = omega arith
-        take_few (suc n) (a ∷ l) = omega (arith, take_few n l)
-
         no_more : (later : List ℕ) → b1 ++ take (length held - length b1) b2 ≡ held ++ later → length b1 ≤ length held → later ≡ []
         no_more [] e short = refl
         no_more (a ∷ later) e short =
-            absurd (omega (arith, ap length e, length-append b1 (take (length held - length b1) b2), length-append held (a ∷ later), take_few (length held - length b1) b2, short))
+            absurd (omega (arith, ap length e, length-append b1 (take (length held - length b1) b2), length-append held (a ∷ later), length-take (length held - length b1) b2, short))
 
-    -- where it refuses with no bits in a full window
+    -- a block that ends where it refuses without bits has no tree
+    pub refused_never : Picks d most k (length done % 8) [] true Refuse → (moves : List Move) → ¬ Completes d (choice_left parts v) done [] moves
+    refused_never picks moves (completes_choice t means w leave) = known.never_empty d most k (length done % 8) (length done) v [] t is certified picks (means_at (Choice parts) how.at means) refl
+
+    -- and in a full window no bit is followed
     pub refused_empty : (bit : ℕ) (rest : List ℕ) → Picks d most k (length done % 8) [] true Refuse → Full outer done → ¬ Goes d (choice_left parts v ∷ outer) done (bit ∷ rest)
-    refused_empty bit rest picks full = stuck d bit rest full never
-      where
-        never : (moves : List Move) → ¬ Completes d (choice_left parts v) done [] moves
-        never moves (completes_choice t means w leave) = laws.never_empty d most k (length done % 8) (length done) v [] t is certified picks (means_at (Choice parts) how.at means) refl
+    refused_empty bit rest picks full = stuck d bit rest full (refused_never picks)
 
     -- a block that ends where it waits has no tree
     pub wait_ends : {held : List ℕ} {rest : List Move} → ¬ (held ≡ []) → Picks d most k (length done % 8) held false Wait → Within outer (length done + length held) → ¬ Rest d (choice_left parts v ∷ outer) done held rest
     wait_ends {held} {rest} some picks within (rest_next b1 b2 first others cut made (completes_choice t means w leave) o) =
-        let stands = rest_stands d is standing (length done + length held) how.inner (choice_width d how.at) within o in
+        let stands = rest_stands d is known (length done + length held) how.inner (choice_width d how.at) within o in
         let reach = reaches held [] b1 b2 (append-nil held ∙ cut) in
         let none : reach.later ≡ [] = no_later reach.later reach.is in
-        laws.refuses d most k (length done) v parts held reach.later true t is certified how.at how.ready.reached (λ e. none) (lies held reach.later b2 (length done + length held) means stands (ap (λ n. b1 ++ take n b2) (room held b1) ∙ reach.is)) (laws.waits_end d most k (length done % 8) held some picks)
+        known.refuses d most k (length done) v parts held reach.later true t is certified how.at how.ready.reached (λ e. none) (lies held reach.later b2 (length done + length held) means stands (ap (λ n. b1 ++ take n b2) (room held b1) ∙ reach.is)) (known.waits_end d most k (length done % 8) held some picks)
       where
-        take_few : (n : ℕ) (l : List ℕ) → length (take n l) ≤ n
-        take_few zero l = omega arith
-        take_few (suc n) [] = omega arith
-        take_few (suc n) (a ∷ l) = omega (arith, take_few n l)
-
         no_later : (later : List ℕ) → b1 ++ take (length held - length b1) b2 ≡ held ++ later → later ≡ []
         no_later [] e = refl
         no_later (a ∷ later) e =
-            absurd (omega (arith, ap length e, ap length cut, length-append b1 b2, length-append b1 (take (length held - length b1) b2), length-append held (a ∷ later), take_few (length held - length b1) b2))
-
-    -- nor has one that ends where it refuses without bits
-    pub refused_never : Picks d most k (length done % 8) [] true Refuse → (moves : List Move) → ¬ Completes d (choice_left parts v) done [] moves
-    refused_never picks moves (completes_choice t means w leave) = laws.never_empty d most k (length done % 8) (length done) v [] t is certified picks (means_at (Choice parts) how.at means) refl
+            absurd (omega (arith, ap length e, ap length cut, length-append b1 b2, length-append b1 (take (length held - length b1) b2), length-append held (a ∷ later), length-take (length held - length b1) b2))

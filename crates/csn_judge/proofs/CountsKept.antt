@@ -1,5 +1,5 @@
 -- Counts, by the values that are kept.
-use Rattle.std.proofs.Common.{◌≡◌, ℕ, zero, suc, ◌+◌, ◌*◌, ◌^◌, ◌<◌, ◌≤◌, ◌==◌, ◌||◌, Bool, true, false, if◌then◌else◌, eqb-true, List, [], ◌∷◌, ◌++◌, length, reverse, refl, sym, ◌∙◌, ap, subst, arith, Option, Some, None, slice_get}
+use Rattle.std.proofs.Common.{◌≡◌, ℕ, zero, suc, ◌+◌, ◌*◌, ◌^◌, ◌<◌, ◌≤◌, ◌==◌, ◌||◌, Bool, true, false, if◌then◌else◌, eqb-true, List, [], ◌∷◌, ◌++◌, reverse, refl, sym, ◌∙◌, ap, subst, arith, Option, Some, None, slice_get}
 use Rattle.std.specs.Prelude.{IsSome, IsSomeAnd}
 use Rattle.std.specs.List.{list_any}
 use Rattle.std.specs.Option.{option_map}
@@ -12,10 +12,10 @@ use Rattle.csn_desc.specs.declared.node.Count.TheVariants.{Fixed, Counted}
 use Rattle.csn_desc.specs.declared.node.Node.{Node}
 use Rattle.csn_desc.specs.Nodes.{DescV}
 use Rattle.csn_desc.specs.Values.{Values, value_of, count_of}
-use Rattle.csn_desc.specs.Formed.{counts_on, node_counts_on, is_counted, value_width, IsCount, FitWidths, HaveValues}
+use Rattle.csn_desc.specs.Formed.{counts_on, node_counts_on, is_counted, value_width, IsCount}
 use Rattle.csn_judge.specs.declared.values.Value.{Value}
 use Rattle.csn_judge.specs.Inside.{seen_of, IsReady}
-use Rattle.csn_judge.specs.Shown.{number_in, kept_of, HasNumber, KeepsCount}
+use Rattle.csn_judge.specs.Shown.{number_in, kept_of, HasNumber}
 use Rattle.csn_judge.proofs.Stacks.{seen_have_values}
 
 -- the last value is the first from behind

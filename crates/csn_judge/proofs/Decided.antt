@@ -1,5 +1,5 @@
 -- A choice decides by the bits at hand: the alternative whose key they begin with, or the one that takes none.
-use Rattle.std.proofs.Common.{◌≡◌, ℕ, zero, suc, ◌+◌, ◌%◌, ◌<◌, ◌≤◌, ◌⊎◌, inl, inr, Bool, true, false, List, [], ◌∷◌, ◌++◌, length, refl, sym, ◌∙◌, ap, subst, arith, append_assoc, append-nil, length-append, Option, Some, slice_get}
+use Rattle.std.proofs.Common.{◌≡◌, ℕ, suc, ◌+◌, ◌%◌, ◌<◌, ◌≤◌, ◌⊎◌, inl, inr, Bool, false, List, [], ◌∷◌, ◌++◌, length, refl, sym, ◌∙◌, ap, subst, arith, append_assoc, append-nil, length-append, Option, Some, slice_get}
 use Rattle.csn_desc.specs.declared.node.Node.{Node}
 use Rattle.csn_desc.specs.declared.node.Node.TheVariants.{Choice}
 use Rattle.csn_desc.specs.Nodes.{DescV, head_of, parts_of}
@@ -9,16 +9,13 @@ use Rattle.csn_desc.specs.Follows.{NFollow}
 use Rattle.csn_look.specs.Keys.{InKeys}
 use Rattle.csn_certify.specs.declared.pick.Pick.{Pick}
 use Rattle.csn_certify.specs.declared.pick.Pick.TheVariants.{Take, Wait, Refuse}
-use Rattle.csn_certify.specs.Conflicts.{IsBegunBy}
-use Rattle.csn_certify.specs.Picks.{BeginsWithKey, BeginsKey, StandsBehind, behind_bit, TakesNone, Picks, pick_key, pick_none, pick_wait, pick_refuse, pick_again, pick_leave}
+use Rattle.csn_certify.specs.Picks.{BeginsWithKey, StandsBehind, behind_bit, TakesNone, Picks, pick_key, pick_none, pick_wait, pick_refuse, pick_again, pick_leave}
 use Rattle.csn_judge.specs.Known.{Known}
-use Rattle.csn_judge.specs.Left.{Left, all_left, none_left, choice_left}
-use Rattle.csn_judge.specs.Remains.{Within, Steps}
+use Rattle.csn_judge.specs.Left.{Left, choice_left}
+use Rattle.csn_judge.specs.Remains.{Within}
 use Rattle.csn_judge.specs.Inside.{seen_of, IsStack, stack_node, of_all, of_choice}
 use Rattle.csn_judge.proofs.Choosing.{node_empty}
 use Rattle.csn_judge.proofs.LookAhead.{Decides, within_less}
-use Rattle.csn_judge.proofs.LeafStacks.{standing}
-use Rattle.csn_judge.proofs.Rooms.{deciding}
 use Rattle.csn_judge.proofs.Stacks.{Begun, begun_of, alternative_begun, first_next, seen_have_values}
 use Rattle.csn_judge.proofs.Turning.{moving}
 
@@ -108,7 +105,7 @@ module _ (d : DescV) where
     pub word : List ℕ
     pub more : List ℕ
     pub is : held ≡ word ++ more
-    pub how : Decides d 12 known.description known.certified (moving d known) (standing d known) (deciding known) k part j parts v outer done word
+    pub how : Decides d 12 known.description known.certified (moving d known) known k part j parts v outer done word
 
   -- an alternative follows no bits
   pub part_empty : {fresh : Option ℕ} {k part : ℕ} {parts : List ℕ} {v : Values} {outer : List Left} {done : List ℕ} (j : ℕ) (known : Known d)
@@ -119,36 +116,9 @@ module _ (d : DescV) where
   module _ {fresh : Option ℕ} {k part j bit : ℕ} {parts rest : List ℕ} {v : Values} {outer : List Left} {done : List ℕ} (known : Known d)
       (at : slice_get d.nodes k ≡ Some (Choice parts)) (here : slice_get parts j ≡ Some part) (begun : Begun d fresh k v outer done)
       (within : Within outer (length done + length (bit ∷ rest))) where
-    -- by the first bit
-    one_decides : Picks d 12 k (length done % 8) (bit ∷ []) false (Take j) → Decided k part j parts v outer done (bit ∷ rest) known
-    one_decides picks =
-        record {
-          word = bit ∷ [];
-          more = rest;
-          is = refl;
-          how = record {
-            at = at;
-            is_part = here;
-            ready = begun.ready;
-            fresh = fresh;
-            inner = begun.inner;
-            some = omega arith;
-            picks = picks;
-            within = within_less outer (length done + 1) (length done + length (bit ∷ rest)) (omega arith) within;
-            fronts = fronts;
-          };
-        }
-      where
-        fronts : (y r : List ℕ) → bit ∷ [] ≡ y ++ r → 0 < length r → NFollow d part (length done) v y
-        fronts [] r e some = part_empty j known at here begun
-        fronts (a ∷ y) r e some = absurd (omega (arith, ap (λ l. length l) e, length-append y r, some))
-
-    -- by a key that they begin with
-    key_decides : (word more : List ℕ) (mark : Bool) → bit ∷ rest ≡ word ++ more → InKeys d 12 part (length done % 8) word mark
-        → Picks d 12 k (length done % 8) (bit ∷ []) false (Take j) ⊎ (0 < length word)
-        → Picks d 12 k (length done % 8) word false (Take j) → Decided k part j parts v outer done (bit ∷ rest) known
-    key_decides word more mark e key (inl one) picks = one_decides one
-    key_decides word more mark e key (inr some) picks =
+    decides : (word more : List ℕ) → bit ∷ rest ≡ word ++ more → 0 < length word → Picks d 12 k (length done % 8) word false (Take j)
+        → ((y r : List ℕ) → word ≡ y ++ r → 0 < length r → NFollow d part (length done) v y) → Decided k part j parts v outer done (bit ∷ rest) known
+    decides word more e some picks fronts =
         record {
           word = word;
           more = more;
@@ -165,6 +135,23 @@ module _ (d : DescV) where
             fronts = fronts;
           };
         }
+
+    -- by the first bit
+    one_decides : Picks d 12 k (length done % 8) (bit ∷ []) false (Take j) → Decided k part j parts v outer done (bit ∷ rest) known
+    one_decides picks =
+        decides (bit ∷ []) rest refl (omega arith) picks fronts
+      where
+        fronts : (y r : List ℕ) → bit ∷ [] ≡ y ++ r → 0 < length r → NFollow d part (length done) v y
+        fronts [] r e some = part_empty j known at here begun
+        fronts (a ∷ y) r e some = absurd (omega (arith, ap (λ l. length l) e, length-append y r, some))
+
+    -- by a key that they begin with
+    key_decides : (word more : List ℕ) (mark : Bool) → bit ∷ rest ≡ word ++ more → InKeys d 12 part (length done % 8) word mark
+        → Picks d 12 k (length done % 8) (bit ∷ []) false (Take j) ⊎ (0 < length word)
+        → Picks d 12 k (length done % 8) word false (Take j) → Decided k part j parts v outer done (bit ∷ rest) known
+    key_decides word more mark e key (inl one) picks = one_decides one
+    key_decides word more mark e key (inr some) picks =
+        decides word more e some picks fronts
       where
         fronts : (y r : List ℕ) → word ≡ y ++ r → 0 < length r → NFollow d part (length done) v y
         fronts y r cut longer =

@@ -1,10 +1,7 @@
 -- A node is entered: what is left of it then, for each kind of node that has no part yet.
-use Rattle.std.proofs.Common.{◌≡◌, ℕ, zero, suc, ◌+◌, ◌-◌, ◌*◌, ◌<◌, ◌≤◌, Bool, true, false, List, [], ◌∷◌, ◌++◌, length, map, refl, sym, ◌∙◌, ap, subst, arith, append_assoc, append-nil, length-append, Some, slice_get}
+use Rattle.std.proofs.Common.{◌≡◌, ℕ, ◌-◌, ◌*◌, false, List, [], ◌∷◌, ◌++◌, length, map, refl, sym, ◌∙◌, ap, subst, arith, append-nil, length-append, Some, slice_get}
 use Rattle.std.specs.Prelude.{replicate}
 use Rattle.std.proofs.lemmas.List.{length-replicate}
-use Rattle.csn_bits.specs.Octets.{IsBits}
-use Rattle.csn_desc.specs.declared.reading.Reading.{Reading}
-use Rattle.csn_desc.specs.declared.reading.Reading.TheVariants.{Received, Sent}
 use Rattle.csn_desc.specs.declared.symbol.Symbol.{Symbol}
 use Rattle.csn_desc.specs.declared.symbol.Symbol.TheVariants.{Low}
 use Rattle.csn_desc.specs.declared.moves.Move.{Move}
@@ -17,20 +14,17 @@ use Rattle.csn_desc.specs.TreeV as tree
 use Rattle.csn_desc.specs.Nodes.{DescV}
 use Rattle.csn_desc.specs.Spelled.{spelled, IsSpare}
 use Rattle.csn_desc.specs.Values.{Values, count_of}
-use Rattle.csn_desc.specs.Means.{NMeans, NodeMeans, TimesMean, ManyMean, LeadMean, means_at, means_lits, means_spare, means_pad, means_null, means_field, means_rest, means_choice, means_times, means_many, means_cut, means_trunc}
+use Rattle.csn_desc.specs.Means.{NMeans, NodeMeans, TimesMean, LeadMean, means_at, means_lits, means_spare, means_pad, means_null, means_field, means_rest, means_choice, means_times, means_many, means_cut, means_trunc}
 use Rattle.csn_desc.specs.Laws.{TreesHaveMoves}
 use Rattle.csn_desc.specs.Follows.{NFollow, NodeFollows, TimesFollow, follows_at, follows_whole, follows_lits, follows_spare, follows_pad, follows_field, follows_choice, follows_times, follows_many, follows_trunc}
-use Rattle.csn_desc.specs.Walks.{Walk, NodeWalk, walk_at, walk_lits, walk_spare, walk_pad, walk_null, walk_field, walk_rest, walk_choice, walk_times, walk_many, walk_trunc, lead_end, lead_next}
+use Rattle.csn_desc.specs.Walks.{Walk, NodeWalk, walk_at, walk_lits, walk_spare, walk_pad, walk_null, walk_field, walk_rest, walk_times, walk_many, walk_trunc, lead_end, lead_next}
 use Rattle.csn_desc.proofs.Nodewise.{meaning_at, follow_at}
-use Rattle.csn_desc.proofs.BitFacts.{IsBits-front, IsBits-along, IsBits-spelled}
+use Rattle.csn_desc.proofs.BitFacts.{IsBits-front, IsBits-along, spelled_is_spare}
 use Rattle.csn_judge.specs.Left.{Left, all_left, bits_left, symbols_left, spare_left, pad_left, rest_left, choice_left, none_left, turns_left, free_left, cut_left, Completes, completes_all, completes_bits, completes_symbols, completes_spare, completes_pad, completes_rest, completes_choice, completes_none, completes_turns, completes_free, completes_cut, completes_lead, Begins, begins_whole, begins_all, begins_bits, begins_symbols, begins_spare, begins_pad, begins_choice, begins_turns, begins_free, begins_cut}
 use Rattle.csn_judge.specs.Remains.{IsUpTo}
 use Rattle.csn_judge.proofs.StepFacts.{Replaces, completes_from, begins_from}
-use Rattle.csn_judge.proofs.Leaves.{bits_joined, spare_front}
-
-IsBits-zeros : (n : ℕ) → IsBits (replicate n 0)
-IsBits-zeros zero = tt
-IsBits-zeros (suc n) = (omega arith, IsBits-zeros n)
+use Rattle.csn_judge.proofs.Leaves.{spare_front}
+use Rattle.csn_bits.proofs.Packing.{IsBits-append, IsBits-zeros}
 
 module _ (d : DescV) where
   -- a meaning of a node with the moves inside it
@@ -273,13 +267,8 @@ module _ (d : DescV) where
       home : (b : List ℕ) → Begins d (bits_left (unit * n)) done b → NodeFollows d (Field unit count) (length done) v b
       home b (begins_bits few good) =
           let more = replicate (unit * n - length b) 0 in
-          follows_field (b ++ more) more refl (means_field n counts (length-append b more ∙ omega (arith, few, length-replicate {A = ℕ} (unit * n - length b) 0)) (bits_joined b more good (IsBits-zeros (unit * n - length b))))
+          follows_field (b ++ more) more refl (means_field n counts (length-append b more ∙ omega (arith, few, length-replicate {A = ℕ} (unit * n - length b) 0)) (IsBits-append b more good (IsBits-zeros (unit * n - length b))))
       home b (begins_whole moves h) = whole (back b moves h)
-
-  -- the one bit that every reading takes
-  spare_bit : (r : Reading) (s : Symbol) (o : ℕ) → IsSpare r s o (spelled (s ∷ []) o)
-  spare_bit Received s o = IsBits-spelled (s ∷ []) o
-  spare_bit Sent s o = refl
 
   pub enter_spare : (s : Symbol) (v : Values) (done : List ℕ) → Enters (Spare s) v done (spare_left s)
   enter_spare s v done =
@@ -303,7 +292,7 @@ module _ (d : DescV) where
       forth b (follows_whole t (means_spare one good)) = begins_spare (omega (arith, one)) good
 
       home : (b : List ℕ) → Begins d (spare_left s) done b → NodeFollows d (Spare s) (length done) v b
-      home [] (begins_spare few good) = follows_spare (spelled (s ∷ []) (length done)) (spelled (s ∷ []) (length done)) refl (means_spare refl (spare_bit d.reading s (length done)))
+      home [] (begins_spare few good) = follows_spare (spelled (s ∷ []) (length done)) (spelled (s ∷ []) (length done)) refl (means_spare refl (spelled_is_spare d.reading s (length done)))
       home (a ∷ b) (begins_spare few good) = follows_spare (a ∷ b) [] (sym (append-nil (a ∷ b))) (means_spare (omega (arith, few)) good)
       home b (begins_whole moves h) = whole (back b moves h)
 
@@ -329,7 +318,7 @@ module _ (d : DescV) where
       forth b (follows_whole t (means_pad some good)) = begins_pad good
 
       home : (b : List ℕ) → Begins d (pad_left false) done b → NodeFollows d Pad (length done) v b
-      home [] (begins_pad good) = follows_pad (spelled (Low ∷ []) (length done)) (spelled (Low ∷ []) (length done)) refl (means_pad (omega arith) (spare_bit d.reading Low (length done)))
+      home [] (begins_pad good) = follows_pad (spelled (Low ∷ []) (length done)) (spelled (Low ∷ []) (length done)) refl (means_pad (omega arith) (spelled_is_spare d.reading Low (length done)))
       home (a ∷ b) (begins_pad good) = follows_pad (a ∷ b) [] (sym (append-nil (a ∷ b))) (means_pad (omega arith) good)
       home b (begins_whole moves h) = whole (back b moves h)
 

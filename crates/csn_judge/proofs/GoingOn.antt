@@ -1,5 +1,5 @@
 -- Turns up to one that waits or refuses.
-use Rattle.std.proofs.Common.{◌≡◌, ℕ, ◌+◌, ◌-◌, ◌*◌, ◌<◌, ◌≤◌, Bool, true, false, if◌then◌else◌, List, [], ◌∷◌, ◌++◌, length, refl, sym, ◌∙◌, ap, subst, arith, append-nil, length-append}
+use Rattle.std.proofs.Common.{◌≡◌, ℕ, ◌+◌, ◌-◌, ◌*◌, ◌≤◌, true, if◌then◌else◌, List, [], ◌∷◌, ◌++◌, length, refl, sym, ◌∙◌, subst, arith}
 use Rattle.csn_desc.specs.declared.moves.Move.{Move}
 use Rattle.csn_desc.specs.declared.node.Node.{Node}
 use Rattle.csn_desc.specs.Nodes.{DescV}
@@ -8,18 +8,13 @@ use Rattle.csn_judge.specs.declared.pace.Pace.{Pace}
 use Rattle.csn_judge.specs.declared.turn.Turn.{Turn}
 use Rattle.csn_judge.specs.declared.turn.Turn.TheVariants.{Moved, Waits, Refused}
 use Rattle.csn_judge.specs.declared.verdict.Verdict.TheVariants.{Going as still_going, Refused as no_more}
-use Rattle.csn_judge.specs.Told.{tells_none}
 use Rattle.csn_judge.specs.Credit.{weight_of, weights_of, credit_of, Pays, PaysAll}
 use Rattle.csn_judge.specs.Left.{Left}
 use Rattle.csn_judge.specs.Turns.{StateV, Stands, StandsSomewhere, GoesOn, Turns}
-use Rattle.csn_judge.proofs.Closing.{passes_of}
-use Rattle.csn_judge.proofs.StepFacts.{steps_none}
 use Rattle.csn_judge.proofs.TurningOn.{on_then, turns_then}
 use Rattle.csn_judge.proofs.Paying.{weighs}
-
-no_bits : (taken bits : List ℕ) → [] ≡ taken ++ bits → bits ≡ []
-no_bits taken [] is = refl
-no_bits taken (bit ∷ bits) is = absurd (omega (arith, ap (λ (l : List ℕ). length l) is, length-append taken (bit ∷ bits)))
+use Rattle.csn_desc.proofs.Splits.{rest_empty}
+use Rattle.csn_judge.proofs.Turning.{stays_as}
 
 -- a turn that waits is paid for but for one step, and where nothing is open it takes none
 last_step : (nodes : ℕ) (frames : List Frame) (pace : Pace) (bits steps steps_after : ℕ)
@@ -43,18 +38,7 @@ module _ (d : DescV) {S : Type 0} (takes : S → Move → Node → S → Type 0)
   pub going_none : (first : StateV) (s : S) (steps : ℕ) → Going first first s s steps steps
   going_none first s steps =
       record {
-        on = λ stack done stands.
-            let same : done ++ [] ≡ done = append-nil done in
-            record {
-              now = stack;
-              taken = [];
-              made = [];
-              stands = subst (λ (l : List ℕ). Stands d first stack l) (sym same) stands;
-              bits = refl;
-              ended = refl;
-              steps = passes_of first.coming.ended (steps_none d stack done first.coming.bits);
-              tells = tells_none refl refl;
-            };
+        on = λ stack done stands. stays_as d takes s first stands;
         paid = omega arith;
       }
 
@@ -84,7 +68,7 @@ module _ (d : DescV) {S : Type 0} (takes : S → Move → Node → S → Type 0)
       → Turns here takes now next t u turn → Turns d takes first next s u turn
   going_turns {first} {now} {t = t} next u turn same going quiet some turns =
       let on = going.on some.stack some.done some.stands in
-      turns_then d takes next u turn (λ ended. no_bits on.taken now.coming.bits (sym (quiet ended) ∙ on.bits)) going.on
+      turns_then d takes next u turn (λ ended. rest_empty on.taken now.coming.bits (sym on.bits ∙ quiet ended)) going.on
       (subst (λ (e : DescV). Turns e takes now next t u turn) same turns)
 
   pub waits_pays : {first now : StateV} {s t : S} {steps steps_now : ℕ} {here : DescV} (next : StateV) (steps_next : ℕ) → here ≡ d → Going first now s t steps steps_now

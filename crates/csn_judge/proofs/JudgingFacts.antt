@@ -1,5 +1,5 @@
 -- From the open nodes to what a judge answers: before the first bit, behind a piece, at a refusal, and at the end.
-use Rattle.std.proofs.Common.{◌≡◌, ℕ, zero, suc, ◌+◌, ◌-◌, ◌*◌, ◌<◌, ◌≤◌, ◌⊎◌, inl, inr, Bool, true, false, List, [], ◌∷◌, ◌++◌, length, take, slice_get, refl, sym, ◌∙◌, ap, subst, arith, append_assoc, append-nil, length-append, Option, Some, None}
+use Rattle.std.proofs.Common.{◌≡◌, ℕ, zero, suc, ◌+◌, ◌*◌, ◌<◌, ◌≤◌, ◌⊎◌, inl, inr, Bool, true, false, List, [], ◌∷◌, ◌++◌, length, take, refl, sym, ◌∙◌, ap, subst, arith, append_assoc, append-nil, length-append, Some, None}
 use Rattle.std.specs.Prelude.{⊤}
 use Rattle.std.proofs.lemmas.Bool.Decides.{leb_tells}
 use Rattle.std.proofs.lemmas.Option.{slice_get_within}
@@ -11,29 +11,27 @@ use Rattle.csn_desc.specs.declared.node.Node.{Node}
 use Rattle.csn_desc.specs.Nodes.{DescV}
 use Rattle.csn_desc.specs.TreeV.{TreeV}
 use Rattle.csn_desc.specs.Means.{NMeans}
-use Rattle.csn_desc.specs.Walks.{Walk}
 use Rattle.csn_desc.specs.Follows.{NFollow, IsPlace}
 use Rattle.csn_desc.specs.Laws.{PrefixesAreFollowed, StringsAreFollowed, TreesHaveMoves}
 use Rattle.csn_judge.specs.Known.{Known}
 use Rattle.csn_judge.specs.Coming.{Coming}
 use Rattle.csn_judge.specs.Told.{Tells, tells_none}
 use Rattle.csn_judge.specs.Left.{Left, all_left, none_left, bits_left, symbols_left, spare_left, pad_left, rest_left, choice_left, window_left, parts_left, turns_left, free_left, cut_left, lead_left, begins_all}
-use Rattle.csn_judge.specs.Remains.{Rest, Goes, IsBlock, StandsFor, Passes, Steps, shorter, goes_here}
+use Rattle.csn_judge.specs.Remains.{Rest, Goes, IsBlock, StandsFor, Passes, Steps, goes_here}
 use Rattle.csn_judge.specs.Inside.{IsStack, AreOwed}
 use Rattle.csn_judge.specs.declared.values.Value.{Value}
 use Rattle.csn_judge.specs.declared.pace.Pace.{Pace}
 use Rattle.csn_judge.specs.declared.frame.Frame.{Frame}
 use Rattle.csn_judge.specs.declared.frame.Frame.TheVariants as frame
 use Rattle.csn_judge.specs.Shown.{Shows, shows_none, shows_begin, round_none}
-use Rattle.csn_judge.specs.Turns.{StateV, fresh_at, Stands, StandsSomewhere, GoesOn, WaitsOn, RefusesAt, around_of}
-use Rattle.csn_judge.specs.Judging.{JudgeV, JudgesFor, judges_on, judges_no_more, Judges, Ends, opened}
+use Rattle.csn_judge.specs.Turns.{StateV, fresh_at, Stands, WaitsOn, RefusesAt, around_of}
+use Rattle.csn_judge.specs.Judging.{JudgeV, JudgesFor, judges_on, judges_no_more, SomeTold, Judges, Ends, opened}
 use Rattle.csn_judge.specs.declared.verdict.Verdict.{Verdict}
 use Rattle.csn_judge.specs.declared.verdict.Judged.{Judged}
 use Rattle.csn_judge.specs.declared.verdict.Verdict.TheVariants.{Going, Refused}
 use Rattle.csn_judge.specs.declared.verdict.Judged.TheVariants.{Ok, Refused as no_string_at}
-use Rattle.csn_judge.proofs.StepFacts.{stands_after, goes_from, rest_from}
-use Rattle.csn_judge.proofs.Turning.{moving}
-use Rattle.csn_judge.proofs.Verdicts.{stands_new, stack_new, feed_on, going, place_at_end, refused_at, StandsAtEnd, at_end, at_end_after, is_string, no_string, no_string_held}
+use Rattle.csn_judge.proofs.StepFacts.{stands_after}
+use Rattle.csn_judge.proofs.Verdicts.{stack_new, feed_on, going, place_at_end, refused_at, StandsAtEnd, at_end, at_end_after, is_string, no_string, no_string_held}
 
 -- the state where other bits come
 abbrev pub where_come : StateV → Coming → StateV
@@ -140,6 +138,12 @@ module _ (d : DescV) where
       let P : List ℕ → Type 0 = λ l. NFollow d 0 0 [] l in
       omega (arith, is.greatest (length b) (omega arith) (subst P (sym (all_of b)) f))
 
+  -- the place is not inside a front that can be followed
+  pub front_within : {b : List ℕ} (more : List ℕ) {place : ℕ} → IsPlace d (b ++ more) place → NFollow d 0 0 [] b → length b ≤ place
+  front_within {b} more is f =
+      let P : List ℕ → Type 0 = λ l. NFollow d 0 0 [] l in
+      is.greatest (length b) (omega (arith, length-append b more)) (subst P (sym (front_of b more (length b) (omega arith) ∙ all_of b)) f)
+
   -- and more bits change nothing
   pub place_stays : PrefixesAreFollowed → {b : List ℕ} {place : ℕ} (more : List ℕ) → IsPlace d b place → place < length b → IsPlace d (b ++ more) place
   place_stays prefixes {b} {place} more is small =
@@ -222,7 +226,7 @@ module _ {S : Type 0} (takes : S → Move → Node → S → Type 0) (old new : 
 
   pub feeds_on : old.refused ≡ None → IsFed old more coming → IsBehind old new more after
       → ((stack : List Left) (done : List ℕ) → Stands old.desc fed stack done → WaitsOn old.desc takes fed after s t stack done)
-      → Judges (λ made. Tells old.desc takes (opened old) made (opened new) s t) old new more Going
+      → Judges (λ around made. Tells old.desc takes (opened old) made around s t) old new more Going
   feeds_on none come is turns b moves (judges_no_more place refused at small) = absurd (cc)
   feeds_on none come is turns b moves (judges_on stack done refused seen cut stands for goes unended) =
       let d : DescV = old.desc in
@@ -238,19 +242,19 @@ module _ {S : Type 0} (takes : S → Move → Node → S → Type 0) (old new : 
       let Q : List Frame → Type 0 = λ f. Tells d takes (opened old) go.made (around_of f) s t in
       let G : List ℕ → Type 0 = λ l. Goes d go.now (done ++ go.taken) l in
       let H : List ℕ → Type 0 = λ l. StandsFor d go.now (done ++ go.taken) l (moves ++ go.made) in
-      let N : List ℕ → Type 0 = λ l. (0 < length l) → (rest : List Move) → ¬ Rest d go.now (done ++ go.taken) l rest in (
-        go.made,
-        judges_by new d is.desc go.now (done ++ go.taken) is.refused (is.seen ∙ ap (λ n. n + length more) seen ∙ sym (length-append b more)) same
-            there.stands (subst H (sym there.bits) read) (subst G (sym there.bits) followed) (subst N (sym there.bits) on.held_ends),
-        subst P (sym (same ∙ ap (λ l. (done ++ go.taken) ++ l) there.bits)) (going d read followed),
-        subst Q (sym is.frames) go.tells,
-      )
+      let N : List ℕ → Type 0 = λ l. (0 < length l) → (rest : List Move) → ¬ Rest d go.now (done ++ go.taken) l rest in
+      record {
+        made = go.made;
+        judges = judges_by new d is.desc go.now (done ++ go.taken) is.refused (is.seen ∙ ap (λ n. n + length more) seen ∙ sym (length-append b more)) same
+            there.stands (subst H (sym there.bits) read) (subst G (sym there.bits) followed) (subst N (sym there.bits) on.held_ends);
+        followed = subst P (sym (same ∙ ap (λ l. (done ++ go.taken) ++ l) there.bits)) (going d read followed);
+        told = subst Q (sym is.frames) go.tells;
+      }
 
   -- a piece with a bit that is refused
   pub feeds_none : PrefixesAreFollowed → (place : ℕ) → old.refused ≡ None → IsFed old more coming
       → ((stack : List Left) (done : List ℕ) → Stands old.desc fed stack done → RefusesAt old.desc takes fed after s t stack done place)
-      → (b : List ℕ) (moves : List Move) → JudgesFor old b moves
-      → IsPlace old.desc (b ++ more) place × (place < length (b ++ more)) × ¬ NFollow old.desc 0 0 [] (b ++ more)
+      → Judges (λ around made. Tells old.desc takes (opened old) made around s t) old new more (Refused place)
   feeds_none prefixes place none come turns b moves (judges_no_more before refused at small) = absurd (cc)
   feeds_none prefixes place none come turns b moves (judges_on stack done refused seen cut stands for goes unended) =
       let d : DescV = old.desc in
@@ -259,27 +263,38 @@ module _ {S : Type 0} (takes : S → Move → Node → S → Type 0) (old new : 
       let F : List ℕ → Type 0 = λ l. StandsFor d stack done l moves in
       let P : List ℕ → Type 0 = λ l. IsPlace d l place in
       let Q : ℕ → Type 0 = λ n. IsPlace d (done ++ coming.bits) n in
+      let G : List ℕ → Type 0 = λ l. NFollow d 0 0 [] l in
       let at = subst P (sym same) (subst Q (sym no.place_is) (refused_at d no.alike no.bit no.later prefixes (subst F (sym come.bits) (feed_on d more for)) no.bits no.followed no.no_further)) in
       let small : place < length (b ++ more) = omega (arith, no.place_is, ap (λ l. length l) same, length-append done coming.bits, ap (λ l. length l) no.bits, length-append no.alike (no.bit ∷ no.later)) in
-      (at, small, not_followed d at small)
+      record {
+        place_is = at;
+        before_end = small;
+        not_followed = not_followed d at small;
+        in_piece = λ none. front_within d more at (subst G (sym cut) (going d for goes));
+        told = λ none. (no.around, no.made, no.tells);
+      }
 
 -- no more bits
 pub feeds_nothing : {S : Type 0} (takes : S → Move → Node → S → Type 0) (j : JudgeV) (more : List ℕ) (s : S) → j.refused ≡ None → more ≡ []
-    → Judges (λ made. Tells j.desc takes (opened j) made (opened j) s s) j j more Going
+    → Judges (λ around made. Tells j.desc takes (opened j) made around s s) j j more Going
 feeds_nothing takes j more s none nothing b moves (judges_no_more place refused at small) = absurd (cc)
 feeds_nothing takes j more s none nothing b moves (judges_on stack done refused seen cut stands for goes unended) =
     let same : b ++ more ≡ b = ap (λ l. b ++ l) nothing ∙ append-nil b in
     let J : List ℕ → Type 0 = λ l. JudgesFor j l moves in
     let K : List Move → Type 0 = λ l. JudgesFor j (b ++ more) l in
-    let P : List ℕ → Type 0 = λ l. NFollow j.desc 0 0 [] l in (
-      [],
-      subst K (sym (append-nil moves)) (subst J (sym same) (judges_on stack done refused seen cut stands for goes unended)),
-      subst P (sym (same ∙ cut)) (going j.desc for goes),
-      tells_none refl refl,
-    )
+    let P : List ℕ → Type 0 = λ l. NFollow j.desc 0 0 [] l in
+    record {
+      made = [];
+      judges = subst K (sym (append-nil moves)) (subst J (sym same) (judges_on stack done refused seen cut stands for goes unended));
+      followed = subst P (sym (same ∙ cut)) (going j.desc for goes);
+      told = tells_none refl refl;
+    }
+
+refused_once : (j : JudgeV) {place : ℕ} → j.refused ≡ Some place → j.refused ≡ None → ⊥
+refused_once j refusal none = absurd (cc)
 
 -- behind a refusal
-pub feeds_still : PrefixesAreFollowed → (are_told : List Move → Type 0) (old new : JudgeV) (more : List ℕ) (place : ℕ) → old.refused ≡ Some place
+pub feeds_still : PrefixesAreFollowed → (are_told : List ℕ → List Move → Type 0) (old new : JudgeV) (more : List ℕ) (place : ℕ) → old.refused ≡ Some place
     → Judges are_told old new more (Refused place)
 feeds_still prefixes are_told old new more place refusal b moves (judges_on stack done refused seen cut stands for goes unended) = absurd (cc)
 feeds_still prefixes are_told old new more place refusal b moves (judges_no_more before refused at small) =
@@ -287,7 +302,13 @@ feeds_still prefixes are_told old new more place refusal b moves (judges_no_more
     let P : ℕ → Type 0 = λ n. IsPlace old.desc (b ++ more) n in
     let here = subst P same (place_stays old.desc prefixes more at small) in
     let far : place < length (b ++ more) = omega (arith, same, length-append b more) in
-    (here, far, not_followed old.desc here far)
+    record {
+      place_is = here;
+      before_end = far;
+      not_followed = not_followed old.desc here far;
+      in_piece = λ none. absurd (refused_once old refusal none);
+      told = λ none. absurd (refused_once old refusal none);
+    }
 
 -- ---- the end of a block
 
@@ -296,24 +317,31 @@ blocks : (d : DescV) → TreesHaveMoves → (b : List ℕ) → ((moves : List Mo
 blocks d have b none tree means = let walk = have d 0 0 [] b tree means in none walk.0 (record { tree = tree; means = means; walks = walk.1 })
 
 -- behind a refusal
-pub ends_refused : StringsAreFollowed → (are_told : List Move → Type 0) (j : JudgeV) (place : ℕ) → j.refused ≡ Some place → Ends are_told j (no_string_at place)
+pub ends_refused : StringsAreFollowed → (are_told : List ℕ → List Move → Type 0) (j : JudgeV) (place : ℕ) → j.refused ≡ Some place → Ends are_told j (no_string_at place)
 ends_refused strings are_told j place refusal b moves (judges_on stack done refused seen cut stands for goes unended) = absurd (cc)
 ends_refused strings are_told j place refusal b moves (judges_no_more before refused at small) =
     let same : before ≡ place = cc in
     let P : ℕ → Type 0 = λ n. IsPlace j.desc b n in
-    (subst P same at, λ tree means. not_followed j.desc at small (strings j.desc 0 0 [] b tree means))
+    record {
+      place_is = subst P same at;
+      no_tree = λ tree means. not_followed j.desc at small (strings j.desc 0 0 [] b tree means);
+      told = λ none. absurd (refused_once j refusal none);
+    }
 
 -- bits are held
-pub ends_held : TreesHaveMoves → (are_told : List Move → Type 0) (j : JudgeV) → j.refused ≡ None → 0 < length j.state.coming.bits → Ends are_told j (no_string_at j.seen)
-ends_held have are_told j none some b moves (judges_no_more before refused at small) = absurd (cc)
-ends_held have are_told j none some b moves (judges_on stack done refused seen cut stands for goes unended) =
+pub ends_held : TreesHaveMoves → (are_told : List ℕ → List Move → Type 0) (j : JudgeV) → j.refused ≡ None → 0 < length j.state.coming.bits → SomeTold are_told
+    → Ends are_told j (no_string_at j.seen)
+ends_held have are_told j none some told b moves (judges_no_more before refused at small) = absurd (cc)
+ends_held have are_told j none some told b moves (judges_on stack done refused seen cut stands for goes unended) =
     let d : DescV = j.desc in
     let P : List ℕ → Type 0 = λ l. NFollow d 0 0 [] l in
     let Q : ℕ → Type 0 = λ n. IsPlace d b n in
-    let R : List ℕ → Type 0 = λ l. (moves : List Move) → ¬ IsBlock d l moves in (
-      subst Q (sym seen) (place_at_end d (subst P (sym cut) (going d for goes))),
-      blocks d have b (subst R (sym cut) (no_string_held d for (unended some))),
-    )
+    let R : List ℕ → Type 0 = λ l. (moves : List Move) → ¬ IsBlock d l moves in
+    record {
+      place_is = subst Q (sym seen) (place_at_end d (subst P (sym cut) (going d for goes)));
+      no_tree = blocks d have b (subst R (sym cut) (no_string_held d for (unended some)));
+      told = λ none. told;
+    }
 
 -- the judge at the end of a block, with no bits held
 pub record IsOver (j : JudgeV) (coming : Coming) : Type 0 where
@@ -398,22 +426,26 @@ module _ {S : Type 0} (takes : S → Move → Node → S → Type 0) (j : JudgeV
 
   pub ends_string : IsOver j coming → after.frames ≡ []
       → ((stack : List Left) (done : List ℕ) → Stands j.desc (where_come j.state coming) stack done → WaitsOn j.desc takes (where_come j.state coming) after s t stack done)
-      → Ends (λ made. Tells j.desc takes (opened j) made [] s t) j Ok
+      → Ends (λ around made. Tells j.desc takes (opened j) made around s t) j Ok
   ends_string over empty turns b moves judges =
       let d : DescV = j.desc in
       let last = at_the_last over turns b moves (at_the_end over b moves judges) in
       let P : List Left → Type 0 = λ l. StandsAtEnd d l b (moves ++ last.made) in
       let Q : List Frame → Type 0 = λ f. Tells d takes (opened j) last.made (around_of f) s t in
-      (last.made, is_string d (subst P (nothing_open empty last.shows) last.ends), subst Q empty last.tells)
+      record { made = last.made; block = is_string d (subst P (nothing_open empty last.shows) last.ends); told = subst Q empty last.tells }
 
-  pub ends_none : TreesHaveMoves → IsOver j coming → ¬ (after.frames ≡ []) → (are_told : List Move → Type 0)
+  pub ends_none : TreesHaveMoves → IsOver j coming → ¬ (after.frames ≡ [])
       → ((stack : List Left) (done : List ℕ) → Stands j.desc (where_come j.state coming) stack done → WaitsOn j.desc takes (where_come j.state coming) after s t stack done)
-      → Ends are_told j (no_string_at j.seen)
-  ends_none have over some are_told turns b moves judges =
+      → Ends (λ around made. Tells j.desc takes (opened j) made around s t) j (no_string_at j.seen)
+  ends_none have over some turns b moves judges =
       let d : DescV = j.desc in
       let end = at_the_end over b moves judges in
       let last = at_the_last over turns b moves end in
-      (end.place, blocks d have b (no_string d last.ends (unended last)))
+      record {
+        place_is = end.place;
+        no_tree = blocks d have b (no_string d last.ends (unended last));
+        told = λ none. (around_of after.frames, last.made, last.tells);
+      }
     where
       unended : (last : AtLast b moves) → (rest : List Move) → ¬ Rest j.desc last.now b [] rest
       unended last = elim last.over [
@@ -422,7 +454,7 @@ module _ {S : Type 0} (takes : S → Move → Node → S → Type 0) (j : JudgeV
       ]
 
   -- nothing is refused where no bits come
-  pub ends_never : IsOver j coming → (are_told : List Move → Type 0) (place here : ℕ)
+  pub ends_never : IsOver j coming → (are_told : List ℕ → List Move → Type 0) (place here : ℕ)
       → ((stack : List Left) (done : List ℕ) → Stands j.desc (where_come j.state coming) stack done → RefusesAt j.desc takes (where_come j.state coming) after s t stack done place)
       → Ends are_told j (no_string_at here)
   ends_never over are_told place here turns b moves judges =
@@ -450,10 +482,21 @@ more_steps nodes more steps before spent after some bits pays =
 
 -- ---- where no move is told
 
-pub untold : (are_told : List Move → Type 0) (old new : JudgeV) (more : List ℕ) (verdict : Verdict) → Judges are_told old new more verdict → Judges (λ made. ⊤) old new more verdict
-untold are_told old new more Going judges = λ b moves here. let found = judges b moves here in (found.0, found.1, found.2, tt)
-untold are_told old new more (Refused place) judges = judges
+pub untold : (are_told : List ℕ → List Move → Type 0) (old new : JudgeV) (more : List ℕ) (verdict : Verdict) → Judges are_told old new more verdict → Judges (λ around made. ⊤) old new more verdict
+untold are_told old new more Going judges =
+    λ b moves here. let found = judges b moves here in record { made = found.made; judges = found.judges; followed = found.followed; told = tt }
+untold are_told old new more (Refused place) judges =
+    λ b moves here.
+    let found = judges b moves here in
+    record {
+      place_is = found.place_is;
+      before_end = found.before_end;
+      not_followed = found.not_followed;
+      in_piece = found.in_piece;
+      told = λ none. ([], [], tt);
+    }
 
-pub untold_end : (are_told : List Move → Type 0) (j : JudgeV) (judged : Judged) → Ends are_told j judged → Ends (λ made. ⊤) j judged
-untold_end are_told j Ok ends = λ b moves here. let found = ends b moves here in (found.0, found.1, tt)
-untold_end are_told j (no_string_at place) ends = ends
+pub untold_end : (are_told : List ℕ → List Move → Type 0) (j : JudgeV) (judged : Judged) → Ends are_told j judged → Ends (λ around made. ⊤) j judged
+untold_end are_told j Ok ends = λ b moves here. let found = ends b moves here in record { made = found.made; block = found.block; told = tt }
+untold_end are_told j (no_string_at place) ends =
+    λ b moves here. let found = ends b moves here in record { place_is = found.place_is; no_tree = found.no_tree; told = λ none. ([], [], tt) }

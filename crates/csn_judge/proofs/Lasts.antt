@@ -1,7 +1,6 @@
 -- Padding and a rest go on while bits may be taken, since nothing may stand behind them.
-use Rattle.std.proofs.Common.{◌≡◌, ℕ, zero, suc, ◌+◌, ◌-◌, ◌%◌, ◌<◌, ◌≤◌, inl, inr, Bool, true, false, List, [], ◌∷◌, ◌++◌, length, drop, take, map, refl, sym, ◌∙◌, ap, subst, arith, append_assoc, append-nil, length-append, Option, Some, slice_get}
+use Rattle.std.proofs.Common.{◌≡◌, ℕ, suc, ◌+◌, ◌-◌, ◌%◌, ◌<◌, ◌≤◌, inl, inr, Bool, List, [], ◌∷◌, ◌++◌, length, take, refl, ◌∙◌, ap, subst, arith, append_assoc, append-nil, length-append, Option, Some, slice_get}
 use Rattle.std.proofs.lemmas.Bool.Decides.{leb_tells}
-use Rattle.csn_desc.specs.declared.symbol.Symbol.{Symbol}
 use Rattle.csn_desc.specs.declared.symbol.Symbol.TheVariants.{Low}
 use Rattle.csn_desc.specs.declared.moves.Move.{Move}
 use Rattle.csn_desc.specs.declared.node.Node.{Node}
@@ -12,16 +11,16 @@ use Rattle.csn_desc.specs.Values.{Values}
 use Rattle.csn_desc.specs.Formed.{IsDescription}
 use Rattle.csn_desc.proofs.Splits.{splits, inside, behind}
 use Rattle.csn_look.specs.Ends.{InEnds, ends_at, ends_pad, ends_rest}
-use Rattle.csn_look.specs.Reached.{InFollow, MayStandBehind}
+use Rattle.csn_look.specs.Reached.{MayStandBehind}
 use Rattle.csn_certify.specs.Conflicts.{Certified, IsLast}
-use Rattle.csn_certify.specs.Laws.{NoBitFollowsTheLast}
-use Rattle.csn_judge.specs.Left.{Left, pad_left, rest_left, Completes, completes_pad, completes_rest, Begins, begins_whole, begins_pad}
+use Rattle.csn_judge.specs.Left.{Left, pad_left, completes_pad, begins_whole, begins_pad}
 use Rattle.csn_judge.specs.Remains.{Within, Rest as RestOf, Goes, goes_next, goes_here}
 use Rattle.csn_judge.specs.Inside.{IsReady, Inside, HasWidth}
 use Rattle.csn_judge.proofs.StepFacts.{NotBefore}
-use Rattle.csn_judge.proofs.Leaves.{spare_front, spare_back, spare_at}
-use Rattle.csn_judge.proofs.Standing.{Standing, rest_stands, goes_stands}
+use Rattle.csn_judge.proofs.Leaves.{spare_front, spare_back}
+use Rattle.csn_judge.proofs.Standing.{rest_stands, goes_stands}
 use Rattle.csn_judge.proofs.LookAhead.{within_less}
+use Rattle.csn_judge.specs.Known.{Known}
 
 -- a node that must be last is read
 pub record AtLast (d : DescV) (k from : ℕ) (v : Values) (outer : List Left) : Type 0 where
@@ -37,31 +36,19 @@ pub record AtLast (d : DescV) (k from : ℕ) (v : Values) (outer : List Left) : 
 under_eight : (n : ℕ) → n % 8 < 8
 under_eight n = omega arith
 
+at_last : (d : DescV) {fresh : Option ℕ} {k from : ℕ} {v : Values} {outer : List Left} (node : Node) → slice_get d.nodes k ≡ Some node → IsLast node → ((place : ℕ) → InEnds d k (from % 8) (place % 8)) → ((b : List ℕ) → HasWidth d k b) → IsReady d k from (length outer) v → Inside d fresh outer k from v → AtLast d k from v outer
+at_last d {fresh} node at last ends width ready inner =
+    record { node = node; at = at; last = last; ready = ready; fresh = fresh; inner = inner; ends = ends; width = width }
+
 pub pad_at_last : (d : DescV) {fresh : Option ℕ} {k from : ℕ} {v : Values} {outer : List Left} → slice_get d.nodes k ≡ Some Pad → IsReady d k from (length outer) v → Inside d fresh outer k from v → AtLast d k from v outer
-pad_at_last d {fresh} at ready inner =
-    record {
-      node = Pad;
-      at = at;
-      last = tt;
-      ready = ready;
-      fresh = fresh;
-      inner = inner;
-      ends = λ place. ends_at Pad at (ends_pad (under_eight place));
-      width = λ b. record { field = λ w e. absurd (grind (arith, at, e)); label = λ w e. absurd (grind (arith, at, e)) };
-    }
+pad_at_last d at =
+    at_last d Pad at tt (λ place. ends_at Pad at (ends_pad (under_eight place)))
+    (λ b. record { field = λ w e. absurd (grind (arith, at, e)); label = λ w e. absurd (grind (arith, at, e)) })
 
 pub rest_at_last : (d : DescV) {fresh : Option ℕ} {k from : ℕ} {v : Values} {outer : List Left} → slice_get d.nodes k ≡ Some Rest → IsReady d k from (length outer) v → Inside d fresh outer k from v → AtLast d k from v outer
-rest_at_last d {fresh} at ready inner =
-    record {
-      node = Rest;
-      at = at;
-      last = tt;
-      ready = ready;
-      fresh = fresh;
-      inner = inner;
-      ends = λ place. ends_at Rest at (ends_rest (under_eight place));
-      width = λ b. record { field = λ w e. absurd (grind (arith, at, e)); label = λ w e. absurd (grind (arith, at, e)) };
-    }
+rest_at_last d at =
+    at_last d Rest at tt (λ place. ends_at Rest at (ends_rest (under_eight place)))
+    (λ b. record { field = λ w e. absurd (grind (arith, at, e)); label = λ w e. absurd (grind (arith, at, e)) })
 
 -- which of two numbers is not the greater
 data Fits (a b : ℕ) : Type 0 where
@@ -71,18 +58,18 @@ data Fits (a b : ℕ) : Type 0 where
 fits_or : (a b : ℕ) → Fits a b
 fits_or a b = elim (leb_tells a b) [ inl long ↦ fits long.1 | inr less ↦ short less.1 ]
 
-module _ (d : DescV) (most : ℕ) (is : IsDescription d) (certified : Certified d most) (standing : Standing) (law : NoBitFollowsTheLast) where
+module _ (d : DescV) (most : ℕ) (is : IsDescription d) (certified : Certified d most) (known : Known d) where
   module _ {k from : ℕ} {v : Values} {outer : List Left} (how : AtLast d k from v outer) where
     no_bit : (done : List ℕ) (bit : ℕ) (rest : List ℕ) → MayStandBehind d k (length done % 8) (take (suc (length done) - length done) (bit ∷ rest)) → ⊥
     no_bit done bit rest stands =
         let one : suc (length done) - length done ≡ 1 = omega arith in
-        law d most k (from % 8) (length done % 8) bit how.node certified how.at how.last how.ready.reached (how.ends (length done)) (stands bit [] (ap (λ n. take n (bit ∷ rest)) one))
+        known.last d most k (from % 8) (length done % 8) bit how.node certified how.at how.last how.ready.reached (how.ends (length done)) (stands bit [] (ap (λ n. take n (bit ∷ rest)) one))
 
     pub rest_none_behind : (done : List ℕ) (bit : ℕ) (rest : List ℕ) {moves : List Move} → Within outer (suc (length done)) → RestOf d outer done (bit ∷ rest) moves → ⊥
-    rest_none_behind done bit rest within o = no_bit done bit rest (rest_stands d is standing (suc (length done)) how.inner (how.width _) within o)
+    rest_none_behind done bit rest within o = no_bit done bit rest (rest_stands d is known (suc (length done)) how.inner (how.width _) within o)
 
     pub goes_none_behind : (done : List ℕ) (bit : ℕ) (rest : List ℕ) → Within outer (suc (length done)) → Goes d outer done (bit ∷ rest) → ⊥
-    goes_none_behind done bit rest within g = no_bit done bit rest (goes_stands d is standing (suc (length done)) how.inner (how.width _) within g)
+    goes_none_behind done bit rest within g = no_bit done bit rest (goes_stands d is known (suc (length done)) how.inner (how.width _) within g)
 
     -- a first piece that is shorter than what is taken leaves a bit behind it
     record Behind (b2 : List ℕ) : Type 0 where

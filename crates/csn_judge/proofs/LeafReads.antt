@@ -1,7 +1,7 @@
 -- Leaves take bits.
 use Rattle.std.proofs.Common.{◌≡◌, ℕ, suc, ◌+◌, ◌-◌, ◌<◌, ◌≤◌, ◌⊎◌, inl, inr, Bool, true, false, List, [], ◌∷◌, ◌++◌, length, map, take, drop, min, refl, sym, ◌∙◌, ap, subst, arith, append_assoc, append-nil, length-append, length-drop, take-append-drop, Option, Some, slice_get}
 use Rattle.std.proofs.lemmas.Bool.Decides.{leb_tells}
-use Rattle.std.proofs.lemmas.List.{length-take-le, drop-drop}
+use Rattle.std.proofs.lemmas.List.{length-take-le, drop-drop, nil_from_length}
 use Rattle.csn_bits.specs.Octets.{IsBits}
 use Rattle.csn_desc.specs.declared.reading.Reading.{Reading}
 use Rattle.csn_desc.specs.declared.reading.Reading.TheVariants.{Sent}
@@ -10,13 +10,13 @@ use Rattle.csn_desc.specs.declared.symbol.Symbol.TheVariants.{Low}
 use Rattle.csn_desc.specs.declared.moves.Move.{Move}
 use Rattle.csn_desc.specs.declared.moves.Move.TheVariants.{Bit}
 use Rattle.csn_desc.specs.declared.node.Node.{Node}
-use Rattle.csn_desc.specs.declared.node.Node.TheVariants.{Lits, Spare, Pad, Field, Rest}
+use Rattle.csn_desc.specs.declared.node.Node.TheVariants.{Lits, Spare}
 use Rattle.csn_desc.specs.Nodes.{DescV}
 use Rattle.csn_desc.specs.Spelled.{symbol_bit, spelled, IsSpare}
-use Rattle.csn_desc.proofs.BitFacts.{IsBits-front}
+use Rattle.csn_desc.proofs.BitFacts.{IsBits-front, length-spelled}
 use Rattle.csn_judge.specs.declared.leaf.Leaf.TheVariants as leaf
 use Rattle.csn_judge.specs.declared.leaf.Read.TheVariants as read
-use Rattle.csn_judge.specs.Coming.{Coming, IsTaken, IsGood}
+use Rattle.csn_judge.specs.Coming.{Coming, IsTaken, IsGood, IsSame}
 use Rattle.csn_judge.specs.Known.{Known}
 use Rattle.csn_judge.specs.Told.{BitsTold}
 use Rattle.csn_judge.specs.Left.{Left, bits_left, symbols_left, spare_left, pad_left, rest_left, none_left, Completes, completes_bits, completes_symbols, completes_spare}
@@ -25,13 +25,13 @@ use Rattle.csn_judge.specs.Inside.{IsStack, stack_node, of_pad, of_pad_begun, of
 use Rattle.csn_judge.specs.Shown.{LeafShows, shows_lits, shows_spare, shows_pad, shows_field, shows_rest, limit_in}
 use Rattle.csn_judge.specs.Reads.{MayBeLeft, may_lits, SpareDiffers, Takes, Keeps, Differs, ReadsLeaf}
 use Rattle.csn_judge.proofs.StepFacts.{Replaces, Alike, NotBefore, as_many, replaced, steps_none}
-use Rattle.csn_judge.proofs.Leaves.{no_bits_if, length-spelled, spare_at, take_bits, take_symbols, take_spare, take_pad, take_rest, no_bits_wanted, no_symbols_wanted}
+use Rattle.csn_judge.proofs.Leaves.{spare_at, take_bits, take_symbols, take_spare, take_pad, take_rest, no_bits_wanted, no_symbols_wanted}
 use Rattle.csn_judge.proofs.Closing.{passes_of, Ends, pad_ends, rest_ends, closed_full, closed_last}
 use Rattle.csn_judge.proofs.Refusing.{alive, spare_alive, bits_wanted, symbols_wanted, spare_wanted, pad_wanted, symbols_follow, symbols_differ, spare_differs, pad_follows}
 use Rattle.csn_judge.proofs.Lasts.{pad_at_last, rest_at_last, not_before, pad_differs}
-use Rattle.csn_judge.proofs.SpellingFacts.{Mismatch, mismatch}
+use Rattle.csn_judge.proofs.SpellingFacts.{Mismatch, mismatch, all_alike}
 use Rattle.csn_judge.proofs.Turning.{within_limit}
-use Rattle.csn_judge.proofs.LeafStacks.{full_at, standing, Kept, field_kept, field_done, literal_kept, literal_done, spare_kept, pad_kept, pad_done, rest_kept, rest_done}
+use Rattle.csn_judge.proofs.LeafStacks.{full_at, Kept, field_kept, field_done, literal_kept, literal_done, spare_kept, pad_kept, pad_done, rest_kept, rest_done}
 
 -- ---- what is taken of what comes
 
@@ -45,36 +45,33 @@ pub record Given (most n : ℕ) (old new : Coming) : Type 0 where
 
 -- those that are ready
 pub record IsReadied (most n : ℕ) (old mid : Coming) : Type 0 where
-  pub bits : mid.bits ≡ old.bits
-  pub place : mid.place ≡ old.place
-  pub limit : mid.limit ≡ old.limit
-  pub ended : mid.ended ≡ old.ended
+  pub same : IsSame old mid
   pub good : IsGood mid
   pub count : n ≡ min most (min (length mid.bits) (mid.limit - mid.place))
 
 pub good_of : {most n : ℕ} {old mid : Coming} → IsReadied most n old mid → IsGood old
 good_of r =
     record {
-      bits = subst (λ (l : List ℕ). IsBits l) r.bits r.good.bits;
-      fits = omega (arith, r.good.fits, ap length r.bits, r.place);
-      inside = omega (arith, r.good.inside, r.place, r.limit);
-      nothing = λ e. sym r.bits ∙ r.good.nothing (r.ended ∙ e);
+      bits = subst (λ (l : List ℕ). IsBits l) r.same.bits r.good.bits;
+      fits = omega (arith, r.good.fits, ap length r.same.bits, r.same.place);
+      inside = omega (arith, r.good.inside, r.same.place, r.same.limit);
+      nothing = λ e. sym r.same.bits ∙ r.good.nothing (r.same.ended ∙ e);
     }
 
 pub given : {most n : ℕ} {old mid new : Coming} → IsReadied most n old mid → IsTaken n mid new → Given most n old new
 given {most} {n} {old} {mid} {new} r t =
-    let size = ap length r.bits in
+    let size = ap length r.same.bits in
     record {
       good = good_of r;
       taken = record {
-        bits = t.bits ∙ ap (λ l. drop n l) r.bits;
-        place = t.place ∙ ap (λ p. p + n) r.place;
-        limit = t.limit ∙ r.limit;
-        ended = t.ended ∙ r.ended;
+        bits = t.bits ∙ ap (λ l. drop n l) r.same.bits;
+        place = t.place ∙ ap (λ p. p + n) r.same.place;
+        limit = t.limit ∙ r.same.limit;
+        ended = t.ended ∙ r.same.ended;
       };
       few = omega (arith, r.count, size);
-      room = omega (arith, r.count, r.place, r.limit, r.good.inside);
-      why = r.count ∙ ap (λ k. min most (min k (mid.limit - mid.place))) size ∙ ap (λ k. min most (min (length old.bits) (k - mid.place))) r.limit ∙ ap (λ k. min most (min (length old.bits) (old.limit - k))) r.place;
+      room = omega (arith, r.count, r.same.place, r.same.limit, r.good.inside);
+      why = r.count ∙ ap (λ k. min most (min k (mid.limit - mid.place))) size ∙ ap (λ k. min most (min (length old.bits) (k - mid.place))) r.same.limit ∙ ap (λ k. min most (min (length old.bits) (old.limit - k))) r.same.place;
     }
 
 -- what is told of them
@@ -89,6 +86,14 @@ spare_of {reading} {other} {place} {at} {b} {c} s same n e f h =
     let P : Reading → Type 0 = λ r. IsSpare r s at (take n c) in
     let Q : List ℕ → Type 0 = λ l. IsSpare reading s at (take n l) in
     subst P (sym same) (subst Q f (spare_at reading s (take n b) e h))
+
+-- they are as in some symbols, where as many are alike
+pub alike_here : {most n k : ℕ} {old mid : Coming} {wanted : List ℕ} (run : List Symbol) → IsReadied most n old mid → length run ≡ n → wanted ≡ spelled run mid.place
+    → k ≤ n → n ≤ k → take k mid.bits ≡ take k wanted → take n old.bits ≡ spelled run old.place
+alike_here {n = n} {k} {mid = mid} run r long is within last same =
+    ap (λ l. take n l) (sym r.same.bits)
+    ∙ all_alike k n mid.bits (spelled run mid.place) within last (length-spelled run mid.place ∙ long) (same ∙ ap (λ l. take k l) is)
+    ∙ ap (λ p. spelled run p) r.same.place
 
 -- where a literal goes on there is a symbol
 pub may_go_on : {at : ℕ} {node : Node} {run : List Symbol} → MayBeLeft (leaf.Lits at) node → node ≡ Lits run → at < length run
@@ -123,7 +128,7 @@ module _ {most n : ℕ} {old new : Coming} (g : Given most n old new) where
   stops some none =
       elim (leb_tells 1 (length old.bits)) [
         | inl there ↦ inr (omega (arith, there.1, some, none, g.why, g.good.inside, g.taken.place, g.taken.limit))
-        | inr few ↦ inl (g.taken.bits ∙ ap (λ k. drop k old.bits) none ∙ no_bits_if old.bits (omega (arith, few.1)))
+        | inr few ↦ inl (g.taken.bits ∙ ap (λ k. drop k old.bits) none ∙ nil_from_length old.bits (omega (arith, few.1)))
       ]
 
   pub not_taken : new.place ≡ old.place → n ≡ 0
@@ -248,7 +253,7 @@ module _ (d : DescV) where
 
         least : IsStack d next fresh (rest_left ∷ outer) done → NotBefore d rest_left outer done (taken_of g)
         least (stack_node k from v bits ready (of_rest at order up) inner) =
-            not_before d 12 known.description known.certified (standing d known) known.last (rest_at_last d at ready inner) done (taken_of g) room
+            not_before d 12 known.description known.certified known (rest_at_last d at ready inner) done (taken_of g) room
 
         by : {left : Left} → LeafShows d i leaf.Rest left → IsStack d next fresh (left ∷ outer) done → Keeps d next fresh takes node old new before after left outer done i leaf.Rest
         by (shows_rest look) is =
@@ -260,6 +265,24 @@ module _ (d : DescV) where
             }
 
     -- ---- where no bit can come
+
+    takes_no_bit : {next : ℕ} {fresh : Option ℕ} {most : ℕ} (g : Given most 0 old new) {left now : Left} {outer : List Left} {done : List ℕ}
+        → IsStack d next fresh (now ∷ outer) done → AreOwed outer done old.bits → after ≡ before → Passes d old.ended (left ∷ outer) (now ∷ outer) done [] new.bits []
+        → Takes d next fresh takes node old new before after left outer done now
+    takes_no_bit {next = next} {fresh = fresh} g {now = now} {outer = outer} {done = done} is owed untold passes =
+        let same : done ≡ done ++ [] = sym (append-nil done) in
+        let all : old.bits ≡ new.bits = sym g.taken.bits in
+        record {
+          taken = [];
+          bits = all;
+          place = g.taken.place;
+          limit = g.taken.limit;
+          ended = g.taken.ended;
+          stack_is = subst (λ (l : List ℕ). IsStack d next fresh (now ∷ outer) l) same is;
+          owed = subst (λ (l : List ℕ). AreOwed outer l new.bits) same (subst (λ (l : List ℕ). AreOwed outer done l) all owed);
+          steps = passes;
+          told = untold;
+        }
 
     closed_steps : {most : ℕ} (g : Given most 0 old new) {left : Left} {outer : List Left} {done : List ℕ}
         → (new.ended ≡ true) ⊎ (new.place ≡ new.limit) → old.place ≡ length done → old.limit ≡ limit_in outer → Ends d left done
@@ -277,20 +300,7 @@ module _ (d : DescV) where
         → (new.ended ≡ true) ⊎ (new.place ≡ new.limit) → old.place ≡ length done → old.limit ≡ limit_in outer → Ends d left done
         → IsStack d next fresh (none_left ∷ outer) done → AreOwed outer done old.bits → after ≡ before
         → Takes d next fresh takes node old new before after left outer done none_left
-    closed_leaf {next = next} {fresh = fresh} g {left} {outer} {done} closed place limit ends is owed untold =
-        let same : done ≡ done ++ [] = sym (append-nil done) in
-        let all : old.bits ≡ new.bits = sym g.taken.bits in
-        record {
-          taken = [];
-          bits = all;
-          place = g.taken.place;
-          limit = g.taken.limit;
-          ended = g.taken.ended;
-          stack_is = subst (λ (l : List ℕ). IsStack d next fresh (none_left ∷ outer) l) same is;
-          owed = subst (λ (l : List ℕ). AreOwed outer l new.bits) same (subst (λ (l : List ℕ). AreOwed outer done l) all owed);
-          steps = closed_steps g closed place limit ends;
-          told = untold;
-        }
+    closed_leaf g closed place limit ends is owed untold = takes_no_bit g is owed untold (closed_steps g closed place limit ends)
 
     pub rest_reads_all : {most : ℕ} (g : Given most 0 old new) → (new.ended ≡ true) ⊎ (new.place ≡ new.limit) → after ≡ before
         → ReadsLeaf d takes leaf.Rest node old new before after read.All
@@ -315,20 +325,7 @@ module _ (d : DescV) where
     same_leaf : {next : ℕ} {fresh : Option ℕ} {most : ℕ} (g : Given most 0 old new) {left : Left} {outer : List Left} {done : List ℕ}
         → IsStack d next fresh (left ∷ outer) done → AreOwed outer done old.bits → after ≡ before
         → Takes d next fresh takes node old new before after left outer done left
-    same_leaf {next = next} {fresh = fresh} g {left} {outer} {done} is owed untold =
-        let same : done ≡ done ++ [] = sym (append-nil done) in
-        let all : old.bits ≡ new.bits = sym g.taken.bits in
-        record {
-          taken = [];
-          bits = all;
-          place = g.taken.place;
-          limit = g.taken.limit;
-          ended = g.taken.ended;
-          stack_is = subst (λ (l : List ℕ). IsStack d next fresh (left ∷ outer) l) same is;
-          owed = subst (λ (l : List ℕ). AreOwed outer l new.bits) same (subst (λ (l : List ℕ). AreOwed outer done l) all owed);
-          steps = passes_of old.ended (steps_none d (left ∷ outer) done new.bits);
-          told = untold;
-        }
+    same_leaf g {left} {outer} {done} is owed untold = takes_no_bit g is owed untold (passes_of old.ended (steps_none d (left ∷ outer) done new.bits))
 
     pub pad_stays : {most : ℕ} (g : Given most 0 old new) {begun : Bool} → 0 < most
         → (begun ≡ true → ¬ ((new.ended ≡ true) ⊎ (new.place ≡ new.limit))) → after ≡ before
@@ -353,9 +350,9 @@ module _ (d : DescV) where
 
         least : {b : Bool} → IsStack d next fresh (pad_left b ∷ outer) done → NotBefore d (pad_left b) outer done (taken_of g)
         least (stack_node k from v bits ready (of_pad at place up) inner) =
-            not_before d 12 known.description known.certified (standing d known) known.last (pad_at_last d at ready inner) done (taken_of g) room
+            not_before d 12 known.description known.certified known (pad_at_last d at ready inner) done (taken_of g) room
         least (stack_node k from v bits ready (of_pad_begun at place up) inner) =
-            not_before d 12 known.description known.certified (standing d known) known.last (pad_at_last d at ready inner) done (taken_of g) room
+            not_before d 12 known.description known.certified known (pad_at_last d at ready inner) done (taken_of g) room
 
         by : {left : Left} → LeafShows d i (leaf.Pad begun) left → IsStack d next fresh (left ∷ outer) done → Keeps d next fresh takes node old new before after left outer done i (leaf.Pad true)
         by (shows_pad look) is =
@@ -386,16 +383,16 @@ module _ (d : DescV) where
             not (spare_at Sent Low l (sym e) (subst P sent h))
 
         mid_at : mid.place ≡ length done
-        mid_at = r.place ∙ a.place
+        mid_at = r.same.place ∙ a.place
 
         room : suc (length done + length m.alike) ≤ limit_in outer
-        room = omega (arith, m.few, r.count, mid_at, r.limit, a.limit)
+        room = omega (arith, m.few, r.count, mid_at, r.same.limit, a.limit)
 
         at_last : {b : Bool} → IsStack d next fresh (pad_left b ∷ outer) done → Within outer (suc (length done + length m.alike)) → ¬ Goes d (pad_left b ∷ outer) done (m.alike ++ m.bit ∷ [])
         at_last (stack_node k from v bits ready (of_pad look place up) inner) =
-            pad_differs d 12 known.description known.certified (standing d known) known.last (pad_at_last d look ready inner) _ m.alike done m.bit [] (there (m.bit ∷ []) _ _ (ap (λ p. p + length m.alike) mid_at) m.not)
+            pad_differs d 12 known.description known.certified known (pad_at_last d look ready inner) _ m.alike done m.bit [] (there (m.bit ∷ []) _ _ (ap (λ p. p + length m.alike) mid_at) m.not)
         at_last (stack_node k from v bits ready (of_pad_begun look place up) inner) =
-            pad_differs d 12 known.description known.certified (standing d known) known.last (pad_at_last d look ready inner) _ m.alike done m.bit [] (there (m.bit ∷ []) _ _ (ap (λ p. p + length m.alike) mid_at) m.not)
+            pad_differs d 12 known.description known.certified known (pad_at_last d look ready inner) _ m.alike done m.bit [] (there (m.bit ∷ []) _ _ (ap (λ p. p + length m.alike) mid_at) m.not)
 
         by : {left : Left} → LeafShows d i (leaf.Pad begun) left → IsStack d next fresh (left ∷ outer) done → Differs d next fresh takes node old new before after left outer done place
         by (shows_pad look) is =
@@ -403,7 +400,7 @@ module _ (d : DescV) where
               alike = m.alike;
               bit = m.bit;
               later = m.later;
-              bits = sym r.bits ∙ m.bits;
+              bits = sym r.same.bits ∙ m.bits;
               place_is = m.place_is ∙ ap (λ p. p + length m.alike) mid_at;
               followed = pad_follows d begun m.alike outer done (here m.alike _ _ mid_at m.good) (within_limit d outer _ (omega (arith, room)));
               no_further = at_last is (within_limit d outer _ room);
@@ -458,16 +455,16 @@ module _ (d : DescV) where
     spare_reads_none {n = n} mid r symbol place node_is one sent m untold next fresh i left outer done known a = by a.shows a.stack_is
       where
         none : m.alike ≡ []
-        none = no_bits_if m.alike (omega (arith, m.few, one))
+        none = nil_from_length m.alike (omega (arith, m.few, one))
 
         mid_at : mid.place ≡ length done
-        mid_at = r.place ∙ a.place
+        mid_at = r.same.place ∙ a.place
 
         behind_none : mid.place + length m.alike ≡ length done
         behind_none = omega (arith, mid_at, ap length none)
 
         bits_are : old.bits ≡ [] ++ m.bit ∷ m.later
-        bits_are = sym r.bits ∙ m.bits ∙ ap (λ l. l ++ m.bit ∷ m.later) none
+        bits_are = sym r.same.bits ∙ m.bits ∙ ap (λ l. l ++ m.bit ∷ m.later) none
 
         by : {left : Left} → LeafShows d i leaf.Spare left → IsStack d next fresh (left ∷ outer) done → Differs d next fresh takes node old new before after left outer done place
         by (shows_spare {s = s} look) is =
@@ -478,7 +475,7 @@ module _ (d : DescV) where
               later = m.later;
               bits = bits_are;
               place_is = m.place_is ∙ behind_none ∙ none_more (length done);
-              followed = alive d (spare_alive d s done) (tt, within_limit d outer (length done) (omega (arith, a.place, a.limit, r.good.inside, r.place, r.limit)));
+              followed = alive d (spare_alive d s done) (tt, within_limit d outer (length done) (omega (arith, a.place, a.limit, r.good.inside, r.same.place, r.same.limit)));
               no_further = spare_differs d s outer done m.bit [] not;
               untold = untold;
             }
@@ -573,17 +570,13 @@ module _ (d : DescV) where
         → ReadsLeaf d takes (leaf.Lits at) node old new before after read.All
     literal_reads_all {n = n} g {at} run node_is all same told next fresh i left outer done known a = by a.shows a.stack_is
       where
-        none_left_of : (l : List Symbol) → length l ≡ 0 → l ≡ []
-        none_left_of [] e = refl
-        none_left_of (s ∷ l) e = absurd (omega (arith, e))
-
         by : {left : Left} → LeafShows d i (leaf.Lits at) left → IsStack d next fresh (left ∷ outer) done → Takes d next fresh takes node old new before after left outer done none_left
         by (shows_lits {left = l} other look begins is_left) is =
             let whole : l ≡ take n (drop at run) ++ drop (at + n) run = is_left ∙ ap (λ m. drop at m) (same_run i a.at node_is look) ∙ parts_of_run run at n in
             let P : List Symbol → Type 0 = λ m. Takes d next fresh takes node old new before after (symbols_left m) outer done none_left in
             let Q : List Symbol → Type 0 = λ m. IsStack d next fresh (symbols_left m ∷ outer) done in
             let here : taken_of g ≡ spelled (take n (drop at run)) (length done) = same ∙ ap (λ p. spelled (take n (drop at run)) p) a.place in
-            let none = none_left_of (drop (at + n) run) (omega (arith, all, length-drop (at + n) run)) in
+            let none = nil_from_length (drop (at + n) run) (omega (arith, all, length-drop (at + n) run)) in
             subst P (sym whole) (literal_all g (take n (drop at run)) (drop (at + n) run) known none (first_long run at n (omega (arith, all))) here (subst Q whole is) a.owed told)
 
     pub literal_reads_none : {most n k : ℕ} (mid : Coming) (r : IsReadied most n old mid) {at : ℕ} (run : List Symbol) (place : ℕ) → place ≡ mid.place + k → node ≡ Lits run → at + n ≤ length run → k < n
@@ -596,7 +589,7 @@ module _ (d : DescV) where
         m = mismatch (take n (drop at run)) mid.place mid.bits k (omega (arith, less, first_long run at n within)) (omega (arith, less, r.count)) same not
 
         mid_at : mid.place ≡ length done
-        mid_at = r.place ∙ a.place
+        mid_at = r.same.place ∙ a.place
 
         alike_is : spelled m.run mid.place ≡ spelled m.run (length done)
         alike_is = ap (λ p. spelled m.run p) mid_at
@@ -617,9 +610,9 @@ module _ (d : DescV) where
               alike = spelled m.run (length done);
               bit = m.bit;
               later = m.later;
-              bits = sym r.bits ∙ m.is ∙ ap (λ x. x ++ m.bit ∷ m.later) alike_is;
+              bits = sym r.same.bits ∙ m.is ∙ ap (λ x. x ++ m.bit ∷ m.later) alike_is;
               place_is = place_here ∙ ap (λ p. p + k) mid_at ∙ ap (λ j. length done + j) (sym alike_long);
-              followed = symbols_follow d m.run (m.s ∷ others) outer done (within_limit d outer _ (omega (arith, alike_long, less, mid_at, r.limit, r.count, a.limit)));
+              followed = symbols_follow d m.run (m.s ∷ others) outer done (within_limit d outer _ (omega (arith, alike_long, less, mid_at, r.same.limit, r.count, a.limit)));
               no_further = symbols_differ d m.run others m.s outer done m.bit [] (λ e. m.not (e ∙ ap (λ p. symbol_bit m.s (p + length m.run)) (sym mid_at)));
               untold = untold;
             })

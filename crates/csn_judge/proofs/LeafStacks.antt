@@ -1,5 +1,5 @@
 -- Leaves that take bits stay where they are: what is kept when bits are taken, and where the innermost window ends.
-use Rattle.std.proofs.Common.{◌≡◌, ℕ, suc, ◌+◌, ◌-◌, ◌<◌, ◌≤◌, ◌⊎◌, inl, inr, Bool, true, List, [], ◌∷◌, ◌++◌, length, sym, ◌∙◌, ap, arith, append_assoc, append-nil, length-append, Option, Some, slice_get}
+use Rattle.std.proofs.Common.{◌≡◌, ℕ, suc, ◌+◌, ◌<◌, ◌≤◌, ◌⊎◌, inl, inr, Bool, true, List, [], ◌∷◌, ◌++◌, length, sym, ◌∙◌, ap, subst, arith, append_assoc, append-nil, length-append, Option, Some, slice_get}
 use Rattle.std.proofs.lemmas.Bool.Decides.{leb_tells}
 use Rattle.csn_bits.specs.Octets.{IsBits}
 use Rattle.csn_desc.specs.declared.symbol.Symbol.{Symbol}
@@ -8,14 +8,14 @@ use Rattle.csn_desc.specs.Nodes.{DescV}
 use Rattle.csn_desc.specs.Values.{Values}
 use Rattle.csn_judge.specs.Known.{Known}
 use Rattle.csn_judge.specs.Left.{Left, all_left, bits_left, symbols_left, spare_left, pad_left, rest_left, choice_left, none_left, window_left, parts_left, turns_left, free_left, cut_left, lead_left}
-use Rattle.csn_judge.specs.Remains.{Within}
+use Rattle.csn_judge.specs.Remains.{Within, Passes}
 use Rattle.csn_judge.specs.Inside.{Inside, inside_none, inside_choice, inside_label, inside_window, inside_parts, inside_turns, inside_free, inside_lead, IsLeftOf, of_field, of_literal, of_spare, of_pad, of_pad_begun, of_rest, of_read, IsStack, stack_node, AreOwed}
 use Rattle.csn_judge.specs.Shown.{limit_in}
 use Rattle.csn_judge.proofs.StepFacts.{within_along}
-use Rattle.csn_judge.proofs.Leaves.{bits_joined}
-use Rattle.csn_judge.proofs.Standing.{Standing}
-use Rattle.csn_judge.proofs.Closing.{Full}
+use Rattle.csn_judge.proofs.Closing.{Full, Ends, passes_of, closed_last, closed_full}
 use Rattle.csn_judge.proofs.Stacks.{field_read, literal_read, spare_read, pad_read, rest_read}
+use Rattle.csn_bits.proofs.Packing.{IsBits-append}
+use Rattle.csn_judge.specs.Coming.{Coming, IsGood}
 
 -- ---- windows
 
@@ -55,21 +55,16 @@ taken_inside d outer done [] ahead order (inr owed) = inr (owed.0, within_along 
 taken_inside d outer done (a ∷ taken) ahead order (inr owed) = inl (omega (arith, order, length-append done (a ∷ taken)))
 
 module _ (d : DescV) where
-  pub standing : Known d → Standing
-  standing known =
-      record {
-        sequence = known.sequence;
-        sequence_followed = known.sequence_followed;
-        truncation = known.truncation;
-        truncation_last = known.truncation_last;
-        truncation_followed = known.truncation_followed;
-        turns = known.turns;
-        turns_followed = known.turns_followed;
-        free = known.free;
-        free_followed = known.free_followed;
-        alternative = known.alternative;
-        label = known.label;
-      }
+  -- where no bit may be taken, what can end with no bits does
+  pub closed_passes : {coming : Coming} {left : Left} {outer : List Left} {done : List ℕ} → IsGood coming → (coming.ended ≡ true) ⊎ (coming.place ≡ coming.limit)
+      → coming.place ≡ length done → coming.limit ≡ limit_in outer → Ends d left done
+      → Passes d coming.ended (left ∷ outer) (none_left ∷ outer) done [] coming.bits []
+  closed_passes {coming} {left} {outer} {done} good (inl over) place limit ends =
+      let P : Bool → Type 0 = λ e. Passes d e (left ∷ outer) (none_left ∷ outer) done [] coming.bits [] in
+      let Q : List ℕ → Type 0 = λ l. Passes d true (left ∷ outer) (none_left ∷ outer) done [] l [] in
+      subst P (sym over) (subst Q (sym (good.nothing over)) (closed_last d ends))
+  closed_passes {coming} {left} {outer} {done} good (inr full) place limit ends =
+      passes_of coming.ended (closed_full d coming.bits ends (full_at outer done (sym place ∙ full ∙ limit) (omega (arith, good.fits, place))))
 
   pub owed_taken : {fresh : Option ℕ} {outer : List Left} {i from : ℕ} {v : Values} (done taken ahead : List ℕ)
       → Inside d fresh outer i from v → from ≤ length done → AreOwed outer done (taken ++ ahead) → AreOwed outer (done ++ taken) ahead
@@ -97,7 +92,7 @@ module _ (d : DescV) where
   field_kept {n} {m} {outer} {done} taken ahead (stack_node i from v bits ready (of_field all at counts place order up) inner) good sum owed =
       record {
         stack_is =
-            stack_node i from v (bits_joined done taken bits good) ready
+            stack_node i from v (IsBits-append done taken bits good) ready
             (of_field all at counts (omega (arith, place, sum, length-append done taken)) (omega (arith, order, length-append done taken)) up) inner;
         owed = owed_taken done taken ahead inner order owed;
       }
@@ -112,7 +107,7 @@ module _ (d : DescV) where
   literal_kept run more {outer} {done} taken ahead (stack_node i from v bits ready (of_literal before at place up) inner) good size owed =
       record {
         stack_is =
-            stack_node i from v (bits_joined done taken bits good) ready
+            stack_node i from v (IsBits-append done taken bits good) ready
             (of_literal (before ++ run) (at ∙ ap (λ l. Some (Lits l)) (sym (append_assoc before run more)))
             (omega (arith, place, size, length-append done taken, length-append before run)) up) inner;
         owed = owed_taken done taken ahead inner (omega (arith, place)) owed;
@@ -129,7 +124,7 @@ module _ (d : DescV) where
   spare_kept known {s} {outer} {done} taken ahead (stack_node i from v bits ready (of_spare at place up) inner) good one owed =
       record {
         stack_is =
-            stack_node i from v (bits_joined done taken bits good) ready
+            stack_node i from v (IsBits-append done taken bits good) ready
             (of_read (spare_read d 12 known.description known.certified at (omega (arith, place, one, length-append done taken))) up) inner;
         owed = owed_taken done taken ahead inner (omega (arith, place)) owed;
       }
@@ -141,8 +136,8 @@ module _ (d : DescV) where
       record { stack_is = by left; owed = owed_taken done taken ahead inner (order left) owed }
     where
       by : {begun : Bool} → IsLeftOf d next (pad_left begun) i from (length outer) v done → IsStack d next fresh (pad_left true ∷ outer) (done ++ taken)
-      by (of_pad at place up) = stack_node i from v (bits_joined done taken bits good) ready (of_pad_begun at (omega (arith, place, some, length-append done taken)) up) inner
-      by (of_pad_begun at before up) = stack_node i from v (bits_joined done taken bits good) ready (of_pad_begun at (omega (arith, before, length-append done taken)) up) inner
+      by (of_pad at place up) = stack_node i from v (IsBits-append done taken bits good) ready (of_pad_begun at (omega (arith, place, some, length-append done taken)) up) inner
+      by (of_pad_begun at before up) = stack_node i from v (IsBits-append done taken bits good) ready (of_pad_begun at (omega (arith, before, length-append done taken)) up) inner
 
       order : {begun : Bool} → IsLeftOf d next (pad_left begun) i from (length outer) v done → from ≤ length done
       order (of_pad at place up) = omega (arith, place)
@@ -156,7 +151,7 @@ module _ (d : DescV) where
       → Kept next fresh rest_left outer done taken ahead
   rest_kept {outer} {done} taken ahead (stack_node i from v bits ready (of_rest at order up) inner) good owed =
       record {
-        stack_is = stack_node i from v (bits_joined done taken bits good) ready (of_rest at (omega (arith, order, length-append done taken)) up) inner;
+        stack_is = stack_node i from v (IsBits-append done taken bits good) ready (of_rest at (omega (arith, order, length-append done taken)) up) inner;
         owed = owed_taken done taken ahead inner order owed;
       }
 

@@ -1,41 +1,32 @@
 -- Look-ahead: the alternative of a choice that is taken, and the turns of a free repetition.
-use Rattle.std.proofs.Common.{◌≡◌, ℕ, zero, suc, ◌+◌, ◌-◌, ◌*◌, ◌%◌, ◌<◌, ◌≤◌, ◌⊎◌, inl, inr, Bool, true, false, List, [], ◌∷◌, ◌++◌, length, drop, take, refl, sym, ◌∙◌, ap, subst, arith, append_assoc, append-nil, length-append, Option, Some, slice_get}
+use Rattle.std.proofs.Common.{◌≡◌, ℕ, suc, ◌+◌, ◌-◌, ◌%◌, ◌<◌, ◌≤◌, false, List, [], ◌∷◌, ◌++◌, length, take, refl, sym, ◌∙◌, ap, subst, arith, append_assoc, append-nil, length-append, Option, Some, slice_get}
 use Rattle.std.proofs.Math.Seq.{take-append_seam}
 use Rattle.csn_desc.specs.declared.moves.Move.{Move}
-use Rattle.csn_desc.specs.declared.moves.Move.TheVariants.{Enter, Bit, Leave}
+use Rattle.csn_desc.specs.declared.moves.Move.TheVariants.{Leave}
 use Rattle.csn_desc.specs.declared.node.Node.TheVariants.{Choice, Many}
 use Rattle.csn_desc.specs.TreeV.{TreeV, Trees, row, alt}
 use Rattle.csn_desc.specs.TreeV as tree
 use Rattle.csn_desc.specs.Nodes.{DescV}
 use Rattle.csn_desc.specs.Values.{Values}
-use Rattle.csn_desc.specs.Means.{NMeans, NodeMeans, ManyMean, means_at, means_choice, means_many, many_end, many_next}
-use Rattle.csn_desc.specs.Follows.{NFollow, NodeFollows, ManyFollow, follows_at, follows_whole, follows_many, many_here, many_later}
-use Rattle.csn_desc.specs.Walks.{Walk, NodeWalk, RepeatsWalk, walk_choice, repeats_end, repeats_next}
-use Rattle.csn_desc.specs.Formed.{IsDescription, FitWidths}
+use Rattle.csn_desc.specs.Means.{NMeans, ManyMean, means_at, means_choice, means_many, many_end, many_next}
+use Rattle.csn_desc.specs.Follows.{NFollow, ManyFollow, follows_at, follows_whole, follows_many, many_here, many_later}
+use Rattle.csn_desc.specs.Walks.{RepeatsWalk, repeats_end, repeats_next}
+use Rattle.csn_desc.specs.Formed.{IsDescription}
 use Rattle.csn_desc.proofs.Splits.{splits}
 use Rattle.csn_desc.proofs.Splits as split
 use Rattle.csn_look.specs.Reached.{Reached, MayStandBehind}
-use Rattle.csn_certify.specs.declared.pick.Pick.TheVariants.{Take, Leave as LeaveIt, Wait, Refuse}
+use Rattle.csn_certify.specs.declared.pick.Pick.TheVariants.{Take, Leave as LeaveIt}
 use Rattle.csn_certify.specs.Conflicts.{Certified}
 use Rattle.csn_certify.specs.Picks.{Picks}
 use Rattle.csn_certify.specs.Ahead.{LiesAhead}
-use Rattle.csn_certify.specs.Laws.{ChoicesTakeTheOne, RepetitionsGoOn, RepetitionsStop, FollowedTakeTheOne, FollowedStop, FreeTurnsHaveBits}
 use Rattle.csn_judge.specs.Left.{Left, all_left, window_left, choice_left, none_left, free_left, Completes, completes_all, completes_choice, completes_none, completes_free, Begins, begins_whole, begins_all, begins_choice, begins_free}
 use Rattle.csn_judge.specs.Remains.{IsUpTo, Within, Rest, rest_next, Goes, goes_next, goes_here, Agrees, shorter, longer, Steps}
-use Rattle.csn_judge.specs.Inside.{IsReady, Inside, HasWidth}
-use Rattle.csn_judge.proofs.StepFacts.{rest_from, rest_along, goes_from, goes_along, Both, BeginsBoth, begins_inner, begins_left, BothGone, gone_here, gone_on, both_gone, both_go, within_along, completes_along}
-use Rattle.csn_judge.proofs.Parts.{Moving, walk_takes, follow_whole, followed_all, ended}
-use Rattle.csn_judge.proofs.Wholes.{repeats_on, repeats_off}
-use Rattle.csn_judge.proofs.Standing.{Standing, rest_stands, goes_stands, choice_width, many_width}
-
--- the laws of what look-ahead answers
-pub record Deciding : Type 0 where
-  pub takes : ChoicesTakeTheOne
-  pub takes_followed : FollowedTakeTheOne
-  pub goes_on : RepetitionsGoOn
-  pub stops : RepetitionsStop
-  pub stops_followed : FollowedStop
-  pub turns : FreeTurnsHaveBits
+use Rattle.csn_judge.specs.Inside.{IsReady, Inside}
+use Rattle.csn_judge.proofs.StepFacts.{Both, BeginsBoth, begins_inner, begins_left, BothGone, gone_here, gone_on, both_gone, both_go, both_rest, both_goes, rest_both, steps_quietly}
+use Rattle.csn_judge.proofs.Parts.{Moving, walk_takes, follow_whole, followed_all, ended, walk_on, walk_off, part_apart}
+use Rattle.csn_judge.proofs.Standing.{rest_stands, goes_stands, choice_width, many_width}
+use Rattle.csn_judge.proofs.Alternatives.{chosen, unchosen, unchosen_goes}
+use Rattle.csn_judge.specs.Known.{Known}
 
 -- ---- lists
 
@@ -89,7 +80,7 @@ pub within_less : (outer : List Left) (m n : ℕ) → m ≤ n → Within outer n
 within_less [] m n less h = tt
 within_less (left ∷ outer) m n less h = (up_less left m n less h.0, within_less outer m n less h.1)
 
-module _ (d : DescV) (most : ℕ) (is : IsDescription d) (certified : Certified d most) (moving : Moving) (standing : Standing) (laws : Deciding) where
+module _ (d : DescV) (most : ℕ) (is : IsDescription d) (certified : Certified d most) (moving : Moving) (known : Known d) where
   -- what lies ahead of a node that begins where the block so far ends
   ahead_of : {i : ℕ} {v : Values} {t : TreeV} (m : ℕ) (done b1 b2 : List ℕ) → NMeans d i (length done) v b1 t → MayStandBehind d i (length (done ++ b1) % 8) (take (m - length (done ++ b1)) b2) → LiesAhead d i (length done) v (b1 ++ take (m - length (done ++ b1)) b2) t
   ahead_of {i} m done b1 b2 means stands =
@@ -118,78 +109,33 @@ module _ (d : DescV) (most : ℕ) (is : IsDescription d) (certified : Certified 
   module _ {k part j : ℕ} {parts : List ℕ} {v : Values} {outer : List Left} {done h : List ℕ} (how : Decides k part j parts v outer done h) where
     -- the tree of the choice is of the alternative
     alternative : {t : TreeV} (later : List ℕ) → LiesAhead d k (length done) v (h ++ later) t → (u : TreeV) × (t ≡ alt j u)
-    alternative {t} later lies = laws.takes d most k (length done) j v parts h later false t is certified how.at how.ready.reached how.ready.widths (λ e. absurd (cc)) lies how.picks
+    alternative {t} later lies = known.takes d most k (length done) j v parts h later false t is certified how.at how.ready.reached how.ready.widths (λ e. absurd (cc)) lies how.picks
 
     -- an alternative that follows the bits is the one
     followed_one : (i a : ℕ) (later : List ℕ) {b : List ℕ} → slice_get parts i ≡ Some a → b ≡ h ++ later → NFollow d a (length done) v b → NFollow d part (length done) v b
     followed_one i a later {b} at e f =
         let P : List ℕ → Type 0 = λ l. NFollow d a (length done) v l in
-        let number : i ≡ j = laws.takes_followed d most k (length done) i j a v parts h later false is certified how.at how.ready.reached how.ready.widths how.some at (subst P e f) how.picks in
+        let number : i ≡ j = known.takes_followed d most k (length done) i j a v parts h later false is certified how.at how.ready.reached how.ready.widths how.some at (subst P e f) how.picks in
         let same : a ≡ part = cc in
         let Q : ℕ → Type 0 = λ n. NFollow d n (length done) v b in
         subst Q same f
 
     -- what completes the choice completes the alternative
-    record Chosen (b : List ℕ) (moves : List Move) : Type 0 where
-      pub tree : TreeV
-      pub inside : List Move
-      pub means : NMeans d part (length done) v b tree
-      pub walks : Walk d part (length done) tree inside
-      pub leave : moves ≡ inside ++ Leave ∷ []
-
-    chosen : {b : List ℕ} {moves : List Move} (later : List ℕ) (m : ℕ) (b2 : List ℕ) → Completes d (choice_left parts v) done b moves → MayStandBehind d k (length (done ++ b) % 8) (take (m - length (done ++ b)) b2) → b ++ take (m - length (done ++ b)) b2 ≡ h ++ later → Chosen b moves
-    chosen {b} {moves} later m b2 (completes_choice {inside = within} t means walks leave) stands e =
-        let lies = ahead_along e (ahead_of m done b b2 (means_at (Choice parts) how.at means) stands) in
-        by means walks refl (alternative later lies)
-      where
-        by : {t u : TreeV} → NodeMeans d (Choice parts) (length done) v b t → NodeWalk d (Choice parts) (length done) u within → t ≡ u → (w : TreeV) × (t ≡ alt j w) → Chosen b moves
-        by (means_choice {j = n} {i = a} {t = x} at_n g) (walk_choice {j = l} {t = y} a2 at_l w) same found =
-            let number : n ≡ j = let e = found.1 in cc in
-            let other : l ≡ j = let e = found.1 in cc in
-            let trees : x ≡ y = cc in
-            let first : a ≡ part = let p = how.is_part in cc in
-            let second : a2 ≡ part = let p = how.is_part in cc in
-            let P : ℕ → Type 0 = λ z. NMeans d z (length done) v b x in
-            let Q : TreeV → Type 0 = λ z. NMeans d part (length done) v b z in
-            let R : ℕ → Type 0 = λ z. Walk d z (length done) y within in
-            record { tree = y; inside = within; means = subst Q trees (subst P first g); walks = subst R second w; leave = leave }
-
-    unchosen : {b : List ℕ} {moves : List Move} → Both d (all_left part v) none_left done b moves → Completes d (choice_left parts v) done b moves
-    unchosen {b} {moves} both = by both.b1 both.b2 both.first both.others both.cut both.is both.inside both.outside
-      where
-        by : (b1 b2 : List ℕ) (first others : List Move) → b ≡ b1 ++ b2 → moves ≡ first ++ others → Completes d (all_left part v) done b1 first → Completes d none_left (done ++ b1) b2 others → Completes d (choice_left parts v) done b moves
-        by b1 b2 first others cut made (completes_all t g w) (completes_none nothing leave) =
-            let same : b1 ≡ b = sym (append-nil b1) ∙ ap (λ l. b1 ++ l) (sym nothing) ∙ sym cut in
-            let P : List ℕ → Type 0 = λ l. NMeans d part (length done) v l t in
-            completes_choice (alt j t) (means_choice how.is_part (subst P same g)) (walk_choice part how.is_part w) (made ∙ ap (λ l. first ++ l) leave)
+    one_chosen : {b : List ℕ} {moves : List Move} (b2 rest : List ℕ) → h ++ rest ≡ b ++ b2 → Completes d (choice_left parts v) done b moves → MayStandBehind d k (length (done ++ b) % 8) (take ((length done + length h) - length (done ++ b)) b2) → Both d (all_left part v) none_left done b moves
+    one_chosen {b} b2 rest e c stands =
+        let reach = reaches h rest b b2 e in
+        chosen d j how.is_part c
+        (λ t means. alternative reach.later (ahead_along (ap (λ n. b ++ take n b2) (room done h b) ∙ reach.is) (ahead_of (length done + length h) done b b2 (means_at (Choice parts) how.at means) stands)))
 
     -- one alternative is taken
     pub take_decided : (more : List ℕ) → Steps d (choice_left parts v ∷ outer) (all_left part v ∷ none_left ∷ outer) done [] (h ++ more) []
     take_decided more =
-        record {
-          ends = λ later rest g. on more later rest g;
-          ended = λ later rest g. back _ rest (rest_from d (append-nil done) g);
-          goes = λ b agrees g. goes_from d (sym (append-nil done)) (forth b (against_of b h more agrees) g);
-          went = λ b agrees g. home b (both_gone d (goes_from d (append-nil done) g));
-        }
+        steps_quietly d on (λ x rest g. rest_both d [] (unchosen d j how.is_part) g) (λ b agrees g. forth b (against_of b h more agrees) g) (λ b agrees g. unchosen_goes d j how.is_part moving b (both_gone d g))
       where
-        through : (b1 b2 : List ℕ) (first : List Move) {b : List ℕ} → b ≡ b1 ++ b2 → Chosen b1 first → Goes d outer (done ++ b1) b2 → Goes d (all_left part v ∷ none_left ∷ outer) done b
-        through b1 b2 first cut c g =
-            goes_next b1 b2 c.inside cut (completes_all c.tree c.means c.walks) (goes_next [] b2 (Leave ∷ []) refl (completes_none refl refl) (goes_from d (sym (append-nil (done ++ b1))) g))
-
-        on : (more later : List ℕ) (rest : List Move) → Rest d (choice_left parts v ∷ outer) done ([] ++ ((h ++ more) ++ later)) rest → (last : List Move) × (rest ≡ [] ++ last) × Rest d (all_left part v ∷ none_left ∷ outer) (done ++ []) ((h ++ more) ++ later) last
-        on more later rest (rest_next b1 b2 first others cut made c o) =
-            let stands = rest_stands d is standing (length done + length h) how.inner (choice_width d how.at) how.within o in
-            let reach = reaches h (more ++ later) b1 b2 (sym (append_assoc h more later) ∙ cut) in
-            let found = chosen reach.later (length done + length h) b2 c stands (ap (λ n. b1 ++ take n b2) (room done h b1) ∙ reach.is) in (
-              rest,
-              refl,
-              rest_from d (sym (append-nil done)) (rest_next b1 b2 found.inside (Leave ∷ others) cut (made ∙ ap (λ l. l ++ others) found.leave ∙ append_assoc found.inside (Leave ∷ []) others) (completes_all found.tree found.means found.walks) (rest_next [] b2 (Leave ∷ []) others refl refl (completes_none refl refl) (rest_from d (sym (append-nil (done ++ b1))) o))),
-            )
-
-        back : (x : List ℕ) (rest : List Move) → Rest d (all_left part v ∷ none_left ∷ outer) done x rest → Rest d (choice_left parts v ∷ outer) done x rest
-        back x rest (rest_next b1 y first others cut made c (rest_next c1 c2 second last cut_more made_more n o)) =
-            rest_next (b1 ++ c1) c2 (first ++ second) last (cut ∙ ap (λ l. b1 ++ l) cut_more ∙ sym (append_assoc b1 c1 c2)) (made ∙ ap (λ l. first ++ l) made_more ∙ sym (append_assoc first second last)) (unchosen (record { b1 = b1; b2 = c1; first = first; others = second; cut = refl; is = refl; inside = c; outside = n })) (rest_from d (append_assoc done b1 c1) o)
+        on : (later : List ℕ) (rest : List Move) → Rest d (choice_left parts v ∷ outer) done ((h ++ more) ++ later) rest → Rest d (all_left part v ∷ none_left ∷ outer) done ((h ++ more) ++ later) rest
+        on later rest (rest_next b1 b2 first others cut made c o) =
+            let stands = rest_stands d is known (length done + length h) how.inner (choice_width d how.at) how.within o in
+            both_rest d cut made (one_chosen b2 (more ++ later) (sym (append_assoc h more later) ∙ cut) c stands) o
 
         one_follows : (b later : List ℕ) → b ≡ h ++ later → Begins d (choice_left parts v) done b → NFollow d part (length done) v b
         one_follows b later e (begins_choice i a at f) = followed_one i a later at e f
@@ -201,14 +147,8 @@ module _ (d : DescV) (most : ℕ) (is : IsDescription d) (certified : Certified 
             goes_here (begins_all (how.fronts b r e longer_rest)) (tt, (tt, within_less outer _ _ less how.within))
         forth b (beyond later e) (goes_here begun within) = goes_here (begins_all (one_follows b later e begun)) (tt, (tt, within.1))
         forth b (beyond later e) (goes_next b1 b2 first cut c g) =
-            let stands = goes_stands d is standing (length done + length h) how.inner (choice_width d how.at) how.within g in
-            let reach = reaches h later b1 b2 (sym e ∙ cut) in
-            through b1 b2 first cut (chosen reach.later (length done + length h) b2 c stands (ap (λ n. b1 ++ take n b2) (room done h b1) ∙ reach.is)) g
-
-        home : (b : List ℕ) → BothGone d (all_left part v) none_left outer done b → Goes d (choice_left parts v ∷ outer) done b
-        home b (gone_on b1 b2 moves cut both g) = goes_next b1 b2 moves cut (unchosen both) g
-        home b (gone_here (begins_inner f up) within) = goes_here (begins_choice j part how.is_part (followed_all d moving f)) (tt, within)
-        home b (gone_here (begins_left b1 b2 first cut c (begins_whole others n) up) within) = goes_here (begins_whole (first ++ others) (unchosen (record { b1 = b1; b2 = b2; first = first; others = others; cut = cut; is = refl; inside = c; outside = n }))) (tt, within)
+            let stands = goes_stands d is known (length done + length h) how.inner (choice_width d how.at) how.within g in
+            both_goes d cut (one_chosen b2 later (sym e ∙ cut) c stands) g
 
   -- ---- a free repetition
 
@@ -235,74 +175,44 @@ module _ (d : DescV) (most : ℕ) (is : IsDescription d) (certified : Certified 
         (reach.later, ahead_along (ap (λ n. b ++ take n b2) (one_room b) ∙ reach.is) (turns_of b2 h stands))
 
     -- another turn
-    record Turned (b : List ℕ) (moves : List Move) : Type 0 where
-      pub both : Both d (all_left part v) (free_left part v) done b moves
-
-    turned : {b : List ℕ} {moves : List Move} → Completes d (free_left part v) done b moves → ((ts : Trees) → ManyMean d part (length done) v b ts → ¬ (row ts ≡ row tree.none)) → Turned b moves
+    turned : {b : List ℕ} {moves : List Move} → Completes d (free_left part v) done b moves → ((ts : Trees) → ManyMean d part (length done) v b ts → ¬ (row ts ≡ row tree.none)) → Both d (all_left part v) (free_left part v) done b moves
     turned {b} {moves} (completes_free {inside = within} ts h ws leave) some = by h ws refl (some ts h)
       where
-        by : {us vs : Trees} → ManyMean d part (length done) v b us → RepeatsWalk d part (length done) vs within → us ≡ vs → ¬ (row us ≡ row tree.none) → Turned b moves
+        by : {us vs : Trees} → ManyMean d part (length done) v b us → RepeatsWalk d part (length done) vs within → us ≡ vs → ¬ (row us ≡ row tree.none) → Both d (all_left part v) (free_left part v) done b moves
         by (many_end nothing) ws same not = absurd (not refl)
         by (many_next b1 b2 cut has g others) (repeats_end stays) same not = absurd (cc)
         by (many_next {t = t} {ts = us} b1 b2 cut has g others) (repeats_next {t = u} {ts = vs} first rest made w ws) same not =
             let trees : t ≡ u = cc in
             let later : us ≡ vs = cc in
-            let P : TreeV → Type 0 = λ x. NMeans d part (length done) v b1 x in
             let Q : Trees → Type 0 = λ x. ManyMean d part (length done + length b1) v b2 x in
             let R : ℕ → Type 0 = λ o. ManyMean d part o v b2 vs in
-            let means = subst P trees g in
-            record {
-              both = record {
-                b1 = b1;
-                b2 = b2;
-                first = first;
-                others = rest ++ Leave ∷ [];
-                cut = cut;
-                is = leave ∙ ap (λ l. l ++ Leave ∷ []) made ∙ append_assoc first rest (Leave ∷ []);
-                inside = completes_all u means w;
-                outside = completes_free vs (subst R (sym (length-append done b1)) (subst Q later others)) (repeats_on d moving part done b1 first (walk_takes moving d means w) ws) refl;
-              };
-            }
+            part_apart d moving rest cut g w trees leave made (λ takes. completes_free vs (subst R (sym (length-append done b1)) (subst Q later others)) (walk_on d moving (λ o. RepeatsWalk d part o vs rest) done b1 first takes ws) refl)
 
     has_bits : {b : List ℕ} {t : TreeV} → NMeans d part (length done) v b t → 0 < length b
-    has_bits {b} {t} h = laws.turns d most k part (length done) v b t is certified how.at h
+    has_bits {b} {t} h = known.free_turns d most k part (length done) v b t is certified how.at h
 
-    unturned : {b : List ℕ} {moves : List Move} → Both d (all_left part v) (free_left part v) done b moves → Completes d (free_left part v) done b moves
-    unturned {b} {moves} both = by both.b1 both.b2 both.first both.others both.cut both.is both.inside both.outside
+    unturned : (b : List ℕ) (moves : List Move) → Both d (all_left part v) (free_left part v) done b moves → Completes d (free_left part v) done b moves
+    unturned b moves both = by both.b1 both.b2 both.first both.others both.cut both.is both.inside both.outside
       where
         by : (b1 b2 : List ℕ) (first others : List Move) → b ≡ b1 ++ b2 → moves ≡ first ++ others → Completes d (all_left part v) done b1 first → Completes d (free_left part v) (done ++ b1) b2 others → Completes d (free_left part v) done b moves
         by b1 b2 first others cut made (completes_all t g w) (completes_free {inside = within} ts h ws leave) =
             let P : ℕ → Type 0 = λ o. ManyMean d part o v b2 ts in
-            completes_free (tree.more t ts) (many_next b1 b2 cut (has_bits g) g (subst P (length-append done b1) h)) (repeats_next first within refl w (repeats_off d moving part done b1 first (walk_takes moving d g w) ws)) (made ∙ ap (λ l. first ++ l) leave ∙ sym (append_assoc first within (Leave ∷ [])))
+            completes_free (tree.more t ts) (many_next b1 b2 cut (has_bits g) g (subst P (length-append done b1) h)) (repeats_next first within refl w (walk_off d moving (λ o. RepeatsWalk d part o ts within) done b1 first (walk_takes moving d g w) ws)) (made ∙ ap (λ l. first ++ l) leave ∙ sym (append_assoc first within (Leave ∷ [])))
 
     -- look-ahead takes another turn
     pub take_turn : (more : List ℕ) → Picks d most k (length done % 8) (bit ∷ []) false (Take 0) → NFollow d part (length done) v [] → Steps d (free_left part v ∷ outer) (all_left part v ∷ free_left part v ∷ outer) done [] (bit ∷ more) []
     take_turn more picks empty =
-        record {
-          ends = λ later rest g. on later rest g;
-          ended = λ later rest g. back _ rest (rest_from d (append-nil done) g);
-          goes = λ b agrees g. goes_from d (sym (append-nil done)) (forth b (against_of b (bit ∷ []) more agrees) g);
-          went = λ b agrees g. home b (both_gone d (goes_from d (append-nil done) g));
-        }
+        steps_quietly d on (λ x rest g. rest_both d [] unturned g) (λ b agrees g. forth b (against_of b (bit ∷ []) more agrees) g) (λ b agrees g. home b (both_gone d g))
       where
         some_turn : {b : List ℕ} {ts : Trees} (b2 rest : List ℕ) → bit ∷ rest ≡ b ++ b2 → ManyMean d part (length done) v b ts → MayStandBehind d k (length (done ++ b) % 8) (take (suc (length done) - length (done ++ b)) b2) → ¬ (row ts ≡ row tree.none)
         some_turn b2 rest e h stands =
             let lies = lies_here b2 rest e h stands in
-            laws.goes_on d most k part (length done) 0 v (bit ∷ []) lies.0 false (row _) is certified how.at how.reached lies.1 picks
+            known.goes_on d most k part (length done) 0 v (bit ∷ []) lies.0 false (row _) is certified how.at how.reached lies.1 picks
 
-        on : (later : List ℕ) (rest : List Move) → Rest d (free_left part v ∷ outer) done ([] ++ ((bit ∷ more) ++ later)) rest → (last : List Move) × (rest ≡ [] ++ last) × Rest d (all_left part v ∷ free_left part v ∷ outer) (done ++ []) ((bit ∷ more) ++ later) last
+        on : (later : List ℕ) (rest : List Move) → Rest d (free_left part v ∷ outer) done ((bit ∷ more) ++ later) rest → Rest d (all_left part v ∷ free_left part v ∷ outer) done ((bit ∷ more) ++ later) rest
         on later rest (rest_next b1 b2 first others cut made c o) =
-            let stands = rest_stands d is standing (suc (length done)) how.inner (many_width d how.at) how.within o in
-            let found = turned c (λ ts h. some_turn b2 (more ++ later) cut h stands) in
-            let both = found.both in (
-              rest,
-              refl,
-              rest_from d (sym (append-nil done)) (rest_next both.b1 (both.b2 ++ b2) both.first (both.others ++ others) (cut ∙ ap (λ l. l ++ b2) both.cut ∙ append_assoc both.b1 both.b2 b2) (made ∙ ap (λ l. l ++ others) both.is ∙ append_assoc both.first both.others others) both.inside (rest_next both.b2 b2 both.others others refl refl both.outside (rest_from d (ap (λ l. done ++ l) both.cut ∙ sym (append_assoc done both.b1 both.b2)) o))),
-            )
-
-        back : (x : List ℕ) (rest : List Move) → Rest d (all_left part v ∷ free_left part v ∷ outer) done x rest → Rest d (free_left part v ∷ outer) done x rest
-        back x rest (rest_next b1 y first others cut made c (rest_next c1 c2 second last cut_more made_more n o)) =
-            rest_next (b1 ++ c1) c2 (first ++ second) last (cut ∙ ap (λ l. b1 ++ l) cut_more ∙ sym (append_assoc b1 c1 c2)) (made ∙ ap (λ l. first ++ l) made_more ∙ sym (append_assoc first second last)) (unturned (record { b1 = b1; b2 = c1; first = first; others = second; cut = refl; is = refl; inside = c; outside = n })) (rest_from d (append_assoc done b1 c1) o)
+            let stands = rest_stands d is known (suc (length done)) how.inner (many_width d how.at) how.within o in
+            both_rest d cut made (turned c (λ ts h. some_turn b2 (more ++ later) cut h stands)) o
 
         begins_turn : (b later : List ℕ) → b ≡ (bit ∷ []) ++ later → Begins d (free_left part v) done b → BeginsBoth d (all_left part v) (free_left part v) done b
         begins_turn b later e (begins_free (many_here f)) = begins_inner (begins_all f) tt
@@ -311,8 +221,7 @@ module _ (d : DescV) (most : ℕ) (is : IsDescription d) (certified : Certified 
             let P : ℕ → Type 0 = λ o. ManyFollow d part o v b2 in
             begins_left b1 b2 first.moves cut (completes_all first.tree first.means first.walks) (begins_free (subst P (sym (length-append done b1)) f)) tt
         begins_turn b later e (begins_whole moves c) =
-            let found = turned c (λ ts h. has_some ts h) in
-            let both = found.both in
+            let both = turned c (λ ts h. has_some ts h) in
             begins_left both.b1 both.b2 both.first both.cut both.inside (begins_whole both.others both.outside) tt
           where
             has_some : (ts : Trees) → ManyMean d part (length done) v b ts → ¬ (row ts ≡ row tree.none)
@@ -327,13 +236,11 @@ module _ (d : DescV) (most : ℕ) (is : IsDescription d) (certified : Certified 
             both_here : {c : List ℕ} → BeginsBoth d (all_left part v) (free_left part v) done c → Within outer (length done + length c) → Goes d (all_left part v ∷ free_left part v ∷ outer) done c
             both_here h within = both_go d outer (λ place. tt) h within
         forth (a ∷ b) (beyond later e) (goes_next b1 b2 first cut c g) =
-            let stands = goes_stands d is standing (suc (length done)) how.inner (many_width d how.at) how.within g in
-            let found = turned c (λ ts h. some_turn b2 later (sym e ∙ cut) h stands) in
-            let both = found.both in
-            goes_next both.b1 (both.b2 ++ b2) both.first (cut ∙ ap (λ l. l ++ b2) both.cut ∙ append_assoc both.b1 both.b2 b2) both.inside (goes_next both.b2 b2 both.others refl both.outside (goes_from d (ap (λ l. done ++ l) both.cut ∙ sym (append_assoc done both.b1 both.b2)) g))
+            let stands = goes_stands d is known (suc (length done)) how.inner (many_width d how.at) how.within g in
+            both_goes d cut (turned c (λ ts h. some_turn b2 later (sym e ∙ cut) h stands)) g
 
         home : (b : List ℕ) → BothGone d (all_left part v) (free_left part v) outer done b → Goes d (free_left part v ∷ outer) done b
-        home b (gone_on b1 b2 moves cut both g) = goes_next b1 b2 moves cut (unturned both) g
+        home b (gone_on b1 b2 moves cut both g) = goes_next b1 b2 moves cut (unturned b1 moves both) g
         home b (gone_here (begins_inner f up) within) = goes_here (begins_free (many_here (followed_all d moving f))) (tt, within)
         home b (gone_here (begins_left b1 b2 first cut c h up) within) = by c h
           where
@@ -341,7 +248,7 @@ module _ (d : DescV) (most : ℕ) (is : IsDescription d) (certified : Certified 
             by (completes_all t g w) (begins_free f) =
                 let P : ℕ → Type 0 = λ o. ManyFollow d part o v b2 in
                 goes_here (begins_free (many_later b1 b2 cut (has_bits g) g (subst P (length-append done b1) f))) (tt, within)
-            by c (begins_whole others n) = goes_here (begins_whole (first ++ others) (unturned (record { b1 = b1; b2 = b2; first = first; others = others; cut = cut; is = refl; inside = c; outside = n }))) (tt, within)
+            by c (begins_whole others n) = goes_here (begins_whole (first ++ others) (unturned b (first ++ others) (record { b1 = b1; b2 = b2; first = first; others = others; cut = cut; is = refl; inside = c; outside = n }))) (tt, within)
 
     -- what completes the repetition with no turn
     unrepeated : {b : List ℕ} {moves : List Move} → Completes d (free_left part v) done b moves → ((ts : Trees) → ManyMean d part (length done) v b ts → row ts ≡ row tree.none) → Completes d none_left done b moves
@@ -358,22 +265,17 @@ module _ (d : DescV) (most : ℕ) (is : IsDescription d) (certified : Certified 
     -- look-ahead leaves the repetition
     pub leave_free : (more : List ℕ) → Picks d most k (length done % 8) (bit ∷ []) false LeaveIt → Steps d (free_left part v ∷ outer) (none_left ∷ outer) done [] (bit ∷ more) []
     leave_free more picks =
-        record {
-          ends = λ later rest g. on later rest g;
-          ended = λ later rest g. back _ rest (rest_from d (append-nil done) g);
-          goes = λ b agrees g. goes_from d (sym (append-nil done)) (forth b (against_of b (bit ∷ []) more agrees) g);
-          went = λ b agrees g. home b (goes_from d (append-nil done) g);
-        }
+        steps_quietly d on back (λ b agrees g. forth b (against_of b (bit ∷ []) more agrees) g) (λ b agrees g. home b g)
       where
         no_turn : {b : List ℕ} {ts : Trees} (b2 rest : List ℕ) → bit ∷ rest ≡ b ++ b2 → ManyMean d part (length done) v b ts → MayStandBehind d k (length (done ++ b) % 8) (take (suc (length done) - length (done ++ b)) b2) → row ts ≡ row tree.none
         no_turn b2 rest e h stands =
             let lies = lies_here b2 rest e h stands in
-            laws.stops d most k part (length done) v (bit ∷ []) lies.0 false (row _) is how.at how.ready.widths (λ e. absurd (cc)) lies.1 picks
+            known.stops d most k part (length done) v (bit ∷ []) lies.0 false (row _) is how.at how.ready.widths (λ e. absurd (cc)) lies.1 picks
 
-        on : (later : List ℕ) (rest : List Move) → Rest d (free_left part v ∷ outer) done ([] ++ ((bit ∷ more) ++ later)) rest → (last : List Move) × (rest ≡ [] ++ last) × Rest d (none_left ∷ outer) (done ++ []) ((bit ∷ more) ++ later) last
+        on : (later : List ℕ) (rest : List Move) → Rest d (free_left part v ∷ outer) done ((bit ∷ more) ++ later) rest → Rest d (none_left ∷ outer) done ((bit ∷ more) ++ later) rest
         on later rest (rest_next b1 b2 first others cut made c o) =
-            let stands = rest_stands d is standing (suc (length done)) how.inner (many_width d how.at) how.within o in
-            (rest, refl, rest_from d (sym (append-nil done)) (rest_next b1 b2 first others cut made (unrepeated c (λ ts h. no_turn b2 (more ++ later) cut h stands)) o))
+            let stands = rest_stands d is known (suc (length done)) how.inner (many_width d how.at) how.within o in
+            rest_next b1 b2 first others cut made (unrepeated c (λ ts h. no_turn b2 (more ++ later) cut h stands)) o
 
         back : (x : List ℕ) (rest : List Move) → Rest d (none_left ∷ outer) done x rest → Rest d (free_left part v ∷ outer) done x rest
         back x rest (rest_next b1 b2 first others cut made c o) = rest_next b1 b2 first others cut made (repeated_none c) o
@@ -381,7 +283,7 @@ module _ (d : DescV) (most : ℕ) (is : IsDescription d) (certified : Certified 
         not_followed : (a : ℕ) (b later : List ℕ) → a ∷ b ≡ (bit ∷ []) ++ later → NFollow d k (length done) v (a ∷ b) → ⊥
         not_followed a b later e f =
             let P : List ℕ → Type 0 = λ l. NFollow d k (length done) v l in
-            laws.stops_followed d most k part (length done) v (bit ∷ []) later false is how.at how.ready.widths (λ e. absurd (cc)) (λ e. absurd (cc)) picks (subst P e f)
+            known.stops_followed d most k part (length done) v (bit ∷ []) later false is how.at how.ready.widths (λ e. absurd (cc)) (λ e. absurd (cc)) picks (subst P e f)
 
         forth : (b : List ℕ) → Against b (bit ∷ []) → Goes d (free_left part v ∷ outer) done b → Goes d (none_left ∷ outer) done b
         forth [] against_it g = goes_here (begins_whole (Leave ∷ []) (completes_none refl refl)) (tt, within_less outer _ _ (omega arith) how.within)
@@ -389,7 +291,7 @@ module _ (d : DescV) (most : ℕ) (is : IsDescription d) (certified : Certified 
         forth (a ∷ b) (beyond later e) (goes_here (begins_free f) within) = absurd (not_followed a b later e (follows_at (Many part) how.at (follows_many f)))
         forth (a ∷ b) (beyond later e) (goes_here (begins_whole moves (completes_free ts h ws leave)) within) = absurd (not_followed a b later e (follows_at (Many part) how.at (follows_whole (row ts) (means_many h))))
         forth (a ∷ b) (beyond later e) (goes_next b1 b2 first cut c g) =
-            let stands = goes_stands d is standing (suc (length done)) how.inner (many_width d how.at) how.within g in
+            let stands = goes_stands d is known (suc (length done)) how.inner (many_width d how.at) how.within g in
             goes_next b1 b2 first cut (unrepeated c (λ ts h. no_turn b2 later (sym e ∙ cut) h stands)) g
 
         home : (b : List ℕ) → Goes d (none_left ∷ outer) done b → Goes d (free_left part v ∷ outer) done b

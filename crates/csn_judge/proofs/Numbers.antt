@@ -1,16 +1,15 @@
 -- Bits of numbers.
 use Rattle.std.proofs.Common.{◌≡◌, ℕ, zero, suc, ◌+◌, ◌-◌, ◌*◌, ◌/◌, ◌%◌, ◌^◌, ◌<◌, ◌≤◌, min, List, [], ◌∷◌, ◌++◌, length, take, drop, get_or, refl, sym, ap, subst, ◌∙◌, arith, length-append, length-drop, take-append-drop, append_assoc, ◌⊎◌, inl, inr}
 use Rattle.std.specs.Int.Bits.{bit_or}
-use Rattle.std.proofs.Math.Nat.{pow-succ', mul_assoc, mul-add-div_right, add-mul, mod-eq_of_lt}
-use Rattle.std.proofs.Math.Seq.{take-append-add, drop-append-add}
+use Rattle.std.proofs.Math.Nat.{mod-eq_of_lt}
+use Rattle.std.proofs.Math.Seq.{take-append-add}
 use Rattle.std.proofs.lemmas.Bool.{cases_lt}
-use Rattle.std.proofs.lemmas.Nat.{pow-add, pow_pos, shr-shr, shr_split, mod-pow-add, shr_high, or_shifted, one_shl, mod_below, mul-le, mod-mul-add, shl_below, shr_below}
-use Rattle.std.proofs.lemmas.List.{take_at, drop_at, drop_all, drop_more, drop-drop, get_or-drop, length-take-le}
-use Rattle.std.specs.Int.{from_be_bytes, w64}
+use Rattle.std.proofs.lemmas.Nat.{pow_pos, shr-shr, one_shl, mod_below, shr_below}
+use Rattle.std.proofs.lemmas.List.{take_at, drop_at, drop_more, drop-drop, get_or-drop, length-take-le}
 use Rattle.csn_judge.specs.Coming.{AreOctets, bits_from}
 use Rattle.csn_bits.specs.Octets.{IsBits, bits_of_octet, bits_of_octets}
 use Rattle.csn_bits.specs.Numbers.{number_of, low_bits}
-use Rattle.csn_bits.proofs.NumberFacts.{length-low_bits, IsBits-low_bits, number_of-low_bits, low_bits-split, low_bits-mod, low_bits-join, low_bits-shifted, low_bits-octet, low_bits-number_of, number_of-append, number_of-lt}
+use Rattle.csn_bits.proofs.NumberFacts.{length-low_bits, IsBits-low_bits, number_of-low_bits, low_bits-split, low_bits-mod, low_bits-shifted, low_bits-octet}
 use Rattle.csn_bits.proofs.Packing.{length-bits_of_octets, drop-bits_of_octets, bits_of_octets-append}
 
 -- ---- what the source does with its buffer
@@ -202,7 +201,3 @@ pub first_bits-number : (k n a b : ℕ) → k ≤ n → a < 2 ^ n → b < 2 ^ n 
 first_bits-number k n a b few small_a small_b same =
     low_bits-same k (a / 2 ^ (n - k)) (b / 2 ^ (n - k)) (first_small k n a few small_a) (first_small k n b few small_b)
     (sym (take-low_bits k n a few) ∙ same ∙ take-low_bits k n b few)
-
-pub none_coming : (bits : List ℕ) → length bits ≡ 0 → bits ≡ []
-none_coming [] none = refl
-none_coming (b ∷ bits) none = absurd (omega arith)

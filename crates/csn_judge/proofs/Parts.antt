@@ -1,11 +1,10 @@
 -- The parts of a sequence: the first of them, and what is left behind it.
-use Rattle.std.proofs.Common.{◌≡◌, ℕ, zero, suc, ◌+◌, ◌*◌, ◌<◌, ◌≤◌, ◌⊎◌, inl, inr, List, [], ◌∷◌, ◌++◌, length, drop, map, refl, sym, ◌∙◌, ap, subst, arith, append_assoc, append-nil, length-append, Some, slice_get}
+use Rattle.std.proofs.Common.{◌≡◌, ℕ, ◌+◌, List, [], ◌∷◌, ◌++◌, length, refl, sym, ◌∙◌, ap, subst, append_assoc, length-append, Some, slice_get}
 use Rattle.std.proofs.Math.Seq.{drop-append_seam}
 use Rattle.csn_desc.specs.declared.moves.Move.{Move}
-use Rattle.csn_desc.specs.declared.moves.Move.TheVariants.{Enter, Bit, Leave}
-use Rattle.csn_desc.specs.declared.node.Node.{Node}
+use Rattle.csn_desc.specs.declared.moves.Move.TheVariants.{Enter, Leave}
 use Rattle.csn_desc.specs.declared.node.Node.TheVariants.{Seq}
-use Rattle.csn_desc.specs.TreeV.{TreeV, Trees, row, none, more}
+use Rattle.csn_desc.specs.TreeV.{TreeV, Trees, row, more}
 use Rattle.csn_desc.specs.Nodes.{DescV}
 use Rattle.csn_desc.specs.Values.{Values, with_value}
 use Rattle.csn_desc.specs.Laws.{TreesHaveMoves, TreesHaveOneListOfMoves}
@@ -13,10 +12,9 @@ use Rattle.csn_desc.specs.Means.{NMeans, NodeMeans, PartsMean, means_at, means_s
 use Rattle.csn_desc.specs.Follows.{NFollow, NodeFollows, PartsFollow, follows_at, follows_whole, follows_seq, parts_here, parts_later}
 use Rattle.csn_desc.specs.Walks.{bits_of, Walk, NodeWalk, PartsWalk, walk_at, walk_seq}
 use Rattle.csn_desc.specs.Walks as walk
-use Rattle.csn_judge.specs.Left.{Left, all_left, parts_left, none_left, behind, Completes, completes_all, completes_parts, completes_none, Begins, begins_whole, begins_all, begins_parts}
-use Rattle.csn_judge.specs.Remains.{IsUpTo}
-use Rattle.csn_judge.proofs.StepFacts.{Both, BeginsBoth, begins_inner, begins_left, Splits, Alike}
-use Rattle.csn_judge.proofs.Entering.{Told, Outer, opened, closed, follows_node}
+use Rattle.csn_judge.specs.Left.{Left, all_left, parts_left, behind, Completes, completes_all, completes_parts, Begins, begins_whole, begins_all, begins_parts}
+use Rattle.csn_judge.proofs.StepFacts.{Both, BeginsBoth, begins_inner, begins_left, Splits}
+use Rattle.csn_judge.proofs.Entering.{Told, opened, closed, follows_node}
 
 -- the laws of moves that are used
 pub record Moving : Type 0 where
@@ -58,39 +56,38 @@ module _ (d : DescV) (laws : Moving) where
   sees_behind : (j : ℕ) (v : Values) (done b1 : List ℕ) → behind d j (length done) v (done ++ b1) ≡ with_value d.nodes j b1 v
   sees_behind j v done b1 = ap (λ l. with_value d.nodes j l v) (drop-append_seam done b1)
 
-  parts_on : (parts : List ℕ) (j : ℕ) (v : Values) (done b1 : List ℕ) {b2 : List ℕ} {ts : Trees} → PartsMean d parts (length done + length b1) (with_value d.nodes j b1 v) b2 ts → PartsMean d parts (length (done ++ b1)) (behind d j (length done) v (done ++ b1)) b2 ts
-  parts_on parts j v done b1 {b2} {ts} h =
-      let P : ℕ → Type 0 = λ o. PartsMean d parts o (with_value d.nodes j b1 v) b2 ts in
-      let Q : Values → Type 0 = λ w. PartsMean d parts (length (done ++ b1)) w b2 ts in
-      subst Q (sym (sees_behind j v done b1)) (subst P (sym (length-append done b1)) h)
+  pub later_on : (P : ℕ → Values → Type 0) (j : ℕ) (v : Values) (done b1 : List ℕ) → P (length done + length b1) (with_value d.nodes j b1 v) → P (length (done ++ b1)) (behind d j (length done) v (done ++ b1))
+  later_on P j v done b1 h =
+      let Q : ℕ → Type 0 = λ o. P o (with_value d.nodes j b1 v) in
+      subst (P (length (done ++ b1))) (sym (sees_behind j v done b1)) (subst Q (sym (length-append done b1)) h)
 
-  parts_off : (parts : List ℕ) (j : ℕ) (v : Values) (done b1 : List ℕ) {b2 : List ℕ} {ts : Trees} → PartsMean d parts (length (done ++ b1)) (behind d j (length done) v (done ++ b1)) b2 ts → PartsMean d parts (length done + length b1) (with_value d.nodes j b1 v) b2 ts
-  parts_off parts j v done b1 {b2} {ts} h =
-      let P : ℕ → Type 0 = λ o. PartsMean d parts o (with_value d.nodes j b1 v) b2 ts in
-      let Q : Values → Type 0 = λ w. PartsMean d parts (length (done ++ b1)) w b2 ts in
-      subst P (length-append done b1) (subst Q (sees_behind j v done b1) h)
+  pub later_off : (P : ℕ → Values → Type 0) (j : ℕ) (v : Values) (done b1 : List ℕ) → P (length (done ++ b1)) (behind d j (length done) v (done ++ b1)) → P (length done + length b1) (with_value d.nodes j b1 v)
+  later_off P j v done b1 h =
+      let Q : ℕ → Type 0 = λ o. P o (with_value d.nodes j b1 v) in
+      subst Q (length-append done b1) (subst (P (length (done ++ b1))) (sees_behind j v done b1) h)
 
-  follow_on : (parts : List ℕ) (j : ℕ) (v : Values) (done b1 : List ℕ) {b2 : List ℕ} → PartsFollow d parts (length done + length b1) (with_value d.nodes j b1 v) b2 → PartsFollow d parts (length (done ++ b1)) (behind d j (length done) v (done ++ b1)) b2
-  follow_on parts j v done b1 {b2} h =
-      let P : ℕ → Type 0 = λ o. PartsFollow d parts o (with_value d.nodes j b1 v) b2 in
-      let Q : Values → Type 0 = λ w. PartsFollow d parts (length (done ++ b1)) w b2 in
-      subst Q (sym (sees_behind j v done b1)) (subst P (sym (length-append done b1)) h)
+  -- and where they begin, told by the moves of the part
+  pub walk_on : (P : ℕ → Type 0) (done b1 : List ℕ) (first : List Move) → bits_of first ≡ b1 → P (length done + length (bits_of first)) → P (length (done ++ b1))
+  walk_on P done b1 first takes w = subst P (ap (λ l. length done + length l) takes ∙ sym (length-append done b1)) w
 
-  follow_off : (parts : List ℕ) (j : ℕ) (v : Values) (done b1 : List ℕ) {b2 : List ℕ} → PartsFollow d parts (length (done ++ b1)) (behind d j (length done) v (done ++ b1)) b2 → PartsFollow d parts (length done + length b1) (with_value d.nodes j b1 v) b2
-  follow_off parts j v done b1 {b2} h =
-      let P : ℕ → Type 0 = λ o. PartsFollow d parts o (with_value d.nodes j b1 v) b2 in
-      let Q : Values → Type 0 = λ w. PartsFollow d parts (length (done ++ b1)) w b2 in
-      subst P (length-append done b1) (subst Q (sees_behind j v done b1) h)
+  pub walk_off : (P : ℕ → Type 0) (done b1 : List ℕ) (first : List Move) → bits_of first ≡ b1 → P (length (done ++ b1)) → P (length done + length (bits_of first))
+  walk_off P done b1 first takes w = subst P (length-append done b1 ∙ ap (λ l. length done + length l) (sym takes)) w
 
-  walk_on : (parts : List ℕ) (done b1 : List ℕ) (first : List Move) {ts : Trees} {rest : List Move} → bits_of first ≡ b1 → PartsWalk d parts (length done + length (bits_of first)) ts rest → PartsWalk d parts (length (done ++ b1)) ts rest
-  walk_on parts done b1 first {ts} {rest} takes w =
-      let P : ℕ → Type 0 = λ o. PartsWalk d parts o ts rest in
-      subst P (ap (λ l. length done + length l) takes ∙ sym (length-append done b1)) w
-
-  walk_off : (parts : List ℕ) (done b1 : List ℕ) (first : List Move) {ts : Trees} {rest : List Move} → bits_of first ≡ b1 → PartsWalk d parts (length (done ++ b1)) ts rest → PartsWalk d parts (length done + length (bits_of first)) ts rest
-  walk_off parts done b1 first {ts} {rest} takes w =
-      let P : ℕ → Type 0 = λ o. PartsWalk d parts o ts rest in
-      subst P (length-append done b1 ∙ ap (λ l. length done + length l) (sym takes)) w
+  -- a part that has its moves, and what is left behind it
+  pub part_apart : {j : ℕ} {v : Values} {t u : TreeV} {left : Left} {done b b1 b2 : List ℕ} {inside first moves : List Move} (rest : List Move) → b ≡ b1 ++ b2 → NMeans d j (length done) v b1 t → Walk d j (length done) u first → t ≡ u → moves ≡ inside ++ Leave ∷ [] → inside ≡ first ++ rest → (bits_of first ≡ b1 → Completes d left (done ++ b1) b2 (rest ++ Leave ∷ [])) → Both d (all_left j v) left done b moves
+  part_apart {j} {v} {u = u} {done = done} {b1 = b1} {b2 = b2} {first = first} rest cut h w same leave is outside =
+      let P : TreeV → Type 0 = λ k. NMeans d j (length done) v b1 k in
+      let means = subst P same h in
+      record {
+        b1 = b1;
+        b2 = b2;
+        first = first;
+        others = rest ++ Leave ∷ [];
+        cut = cut;
+        is = leave ∙ ap (λ l. l ++ Leave ∷ []) is ∙ append_assoc first rest (Leave ∷ []);
+        inside = completes_all u means w;
+        outside = outside (walk_takes laws d means w);
+      }
 
   -- ---- the first part, and those behind it
 
@@ -101,19 +98,8 @@ module _ (d : DescV) (laws : Moving) where
       by (parts_next {t = t} {ts = ts} b1 b2 cut h others) (walk.parts_next {t = u} {ts = us} first rest is w ws) e =
           let tree : t ≡ u = cc in
           let trees : ts ≡ us = cc in
-          let P : TreeV → Type 0 = λ k. NMeans d j (length done) v b1 k in
           let Q : Trees → Type 0 = λ k. PartsMean d ps (length done + length b1) (with_value d.nodes j b1 v) b2 k in
-          let means = subst P tree h in
-          record {
-            b1 = b1;
-            b2 = b2;
-            first = first;
-            others = rest ++ Leave ∷ [];
-            cut = cut;
-            is = ap (λ l. l ++ Leave ∷ []) is ∙ append_assoc first rest (Leave ∷ []);
-            inside = completes_all u means w;
-            outside = completes_parts us (parts_on ps j v done b1 (subst Q trees others)) (walk_on ps done b1 first (walk_takes laws d means w) ws) refl;
-          }
+          part_apart rest cut h w tree refl is (λ takes. completes_parts us (later_on (λ o w. PartsMean d ps o w b2 us) j v done b1 (subst Q trees others)) (walk_on (λ o. PartsWalk d ps o us rest) done b1 first takes ws) refl)
 
   -- some parts with their moves, and then a leaving
   pub record PartsWhole (parts : List ℕ) (o : ℕ) (v : Values) (b : List ℕ) (moves : List Move) : Type 0 where
@@ -130,8 +116,8 @@ module _ (d : DescV) (laws : Moving) where
             inside = first ++ rest;
             told = record {
               trees = more t ts;
-              means = parts_next b1 b2 cut h (parts_off ps j v done b1 means);
-              walks = walk.parts_next first rest refl w (walk_off ps done b1 first (walk_takes laws d h w) ws);
+              means = parts_next b1 b2 cut h (later_off (λ o w. PartsMean d ps o w b2 ts) j v done b1 means);
+              walks = walk.parts_next first rest refl w (walk_off (λ o. PartsWalk d ps o ts rest) done b1 first (walk_takes laws d h w) ws);
             };
             is = is ∙ ap (λ l. first ++ l) is_others ∙ sym (append_assoc first rest (Leave ∷ []));
           }
@@ -140,7 +126,7 @@ module _ (d : DescV) (laws : Moving) where
   follow_apart j ps v done (parts_here f) = begins_inner (begins_all f) tt
   follow_apart j ps v done (parts_later b1 b2 cut h rest) =
       let first = ended h in
-      begins_left b1 b2 first.moves cut (completes_all first.tree first.means first.walks) (begins_parts (follow_on ps j v done b1 rest)) tt
+      begins_left b1 b2 first.moves cut (completes_all first.tree first.means first.walks) (begins_parts (later_on (λ o w. PartsFollow d ps o w b2) j v done b1 rest)) tt
 
   pub whole_apart : (j : ℕ) (ps : List ℕ) (v : Values) (done : List ℕ) {b : List ℕ} {moves : List Move} → Both d (all_left j v) (parts_left j (length done) ps v) done b moves → BeginsBoth d (all_left j v) (parts_left j (length done) ps v) done b
   whole_apart j ps v done both = begins_left both.b1 both.b2 both.first both.cut both.inside (begins_whole both.others both.outside) tt
@@ -155,7 +141,7 @@ module _ (d : DescV) (laws : Moving) where
   follow_together j ps v done {b} (begins_left b1 b2 first cut h rest up) = by h rest
     where
       by : Completes d (all_left j v) done b1 first → Begins d (parts_left j (length done) ps v) (done ++ b1) b2 → PartsBegun (j ∷ ps) (length done) v b
-      by (completes_all t means w) (begins_parts f) = parts_follow (parts_later b1 b2 cut means (follow_off ps j v done b1 f))
+      by (completes_all t means w) (begins_parts f) = parts_follow (parts_later b1 b2 cut means (later_off (λ o w. PartsFollow d ps o w b2) j v done b1 f))
       by h (begins_whole others k) =
           let whole = parts_together j ps v done (record { b1 = b1; b2 = b2; first = first; others = others; cut = cut; is = refl; inside = h; outside = k }) in
           parts_whole whole.inside whole.told

@@ -1,19 +1,17 @@
 -- Steps are paid for by credit.
-use Rattle.std.proofs.Common.{◌≡◌, ℕ, suc, ◌+◌, ◌-◌, ◌*◌, ◌<◌, ◌≤◌, ◌⊎◌, inl, inr, ◌||◌, nat_lt, Bool, true, false, if◌then◌else◌, List, [], ◌∷◌, ◌++◌, length, refl, sym, ◌∙◌, ap, subst, arith, Option, Some, None}
-use Rattle.std.proofs.lemmas.Bool.{ltb-true, ltb-false}
+use Rattle.std.proofs.Common.{◌≡◌, ℕ, suc, ◌+◌, ◌-◌, ◌*◌, ◌<◌, ◌≤◌, ◌⊎◌, inl, inr, ◌||◌, nat_lt, Bool, true, false, if◌then◌else◌, List, ◌∷◌, length, refl, sym, ◌∙◌, ap, subst, arith, Some, None}
+use Rattle.std.proofs.lemmas.Bool.{ltb-false}
 use Rattle.csn_judge.specs.declared.frame.Frame.{Frame}
 use Rattle.csn_judge.specs.declared.frame.Frame.TheVariants as frame
 use Rattle.csn_judge.specs.declared.pace.Pace.{Pace}
-use Rattle.csn_judge.specs.declared.turn.Turn.{Turn}
-use Rattle.csn_judge.specs.declared.turn.Turn.TheVariants.{Moved, Waits, Refused}
+use Rattle.csn_judge.specs.declared.turn.Turn.TheVariants.{Moved}
 use Rattle.csn_judge.specs.Credit.{weight_of, weights_of, credit_of, Pays}
-use Rattle.csn_judge.specs.Coming.{Coming}
 use Rattle.csn_desc.specs.Nodes.{DescV}
 use Rattle.csn_desc.specs.Values.{Values}
 use Rattle.csn_judge.specs.Known.{Known}
 use Rattle.csn_judge.specs.Left.{Left, turns_left, free_left}
 use Rattle.csn_judge.specs.Inside.{Inside, IsStack, stack_node, of_turns, of_free}
-use Rattle.csn_judge.specs.Turns.{begun_by, fresh_at, IsStopped}
+use Rattle.csn_judge.specs.Turns.{begun_by, fresh_at}
 use Rattle.csn_judge.proofs.Stacks.{no_second_jump}
 
 -- the nodes that may begin are fewer where one has begun by a rising number, or goes back for the first time
@@ -82,13 +80,6 @@ left_pays_on {steps_after = steps_after} {frames = frames} {frames_after} {pace}
     let P : ℕ → Type 0 = λ b. Pays (credit_of nodes (top ∷ frames) pace bits) (credit_of nodes frames_after pace_after b) steps steps_after Moved in
     subst P (sym same) (left_pays nodes steps bits spent top frames_is pace_is steps_is enough some)
 
--- where nothing takes a bit and the frame is put back no more than two steps are taken
-pub stopped_pays : (steps : ℕ) (coming : Coming) (turn : Turn) (spent credit : ℕ) → IsStopped coming turn → spent ≤ 2 → spent ≤ credit
-    → Pays credit credit steps (steps + spent) turn
-stopped_pays steps coming Moved spent credit stopped few enough = absurd stopped
-stopped_pays steps coming Waits spent credit stopped few enough = (omega (arith, few), omega arith)
-stopped_pays steps coming (Refused place) spent credit stopped few enough = omega (arith, enough)
-
 -- each frame has some credit
 pub weighs : (top : Frame) → 0 < weight_of top
 weighs (frame.Begin i) = omega arith
@@ -102,40 +93,6 @@ weighs (frame.Times i part left) = omega arith
 weighs (frame.Many i part) = omega arith
 weighs (frame.Window i end outer) = omega arith
 weighs (frame.Named i) = omega arith
-
--- the node that is entered has taken a step, and is heavier than what it goes on with
-pub entered_pays : {steps_entered : ℕ} (nodes bits after steps steps_after : ℕ) (frames : List Frame) (pace : Pace) (turn : Turn) (top behind : Frame)
-    → steps_entered ≡ steps + 1 → 1 + weight_of behind ≤ weight_of top → (turn ≡ Waits → steps_after ≤ steps_entered + 1)
-    → Pays (credit_of nodes (behind ∷ frames) pace bits) after steps_entered steps_after turn
-    → Pays (credit_of nodes (top ∷ frames) pace bits) after steps steps_after turn
-entered_pays {steps_entered} nodes bits after steps steps_after frames pace turn top behind one lighter few pays =
-    by (credit_of nodes (top ∷ frames) pace bits) (credit_of nodes (behind ∷ frames) pace bits) turn (heavier (weight_of top) (weight_of behind) (weights_of frames) (4 * (nodes - pace.next)) (if pace.again then 0 else 4 * nodes) (6 * nodes * bits) lighter) few pays
-  where
-    heavier : (top behind frames next again bits : ℕ) → 1 + behind ≤ top → 1 + (behind + frames + next + again + bits) ≤ top + frames + next + again + bits
-    heavier top behind frames next again bits less = omega (arith, less)
-
-    by : (before middle : ℕ) (turn : Turn) → 1 + middle ≤ before → (turn ≡ Waits → steps_after ≤ steps_entered + 1)
-        → Pays middle after steps_entered steps_after turn → Pays before after steps steps_after turn
-    by before middle Moved less few pays = (omega (arith, one, less, pays.0), omega (arith, less, pays.1))
-    by before middle Waits less few pays = (omega (arith, one, few refl), omega (arith, less, pays.1))
-    by before middle (Refused place) less few pays = omega (arith, one, less, pays)
-
--- the same, where one step more was paid for
-pub entered_pays_one : {steps_entered : ℕ} (nodes bits after steps steps_after : ℕ) (frames : List Frame) (pace : Pace) (turn : Turn) (top behind : Frame)
-    → steps_entered ≡ steps + 1 → weight_of behind ≤ weight_of top
-    → Pays (credit_of nodes (behind ∷ frames) pace bits) after steps_entered (steps_after + 1) turn
-    → Pays (credit_of nodes (top ∷ frames) pace bits) after steps steps_after turn
-entered_pays_one {steps_entered} nodes bits after steps steps_after frames pace turn top behind one lighter pays =
-    by (credit_of nodes (top ∷ frames) pace bits) (credit_of nodes (behind ∷ frames) pace bits) turn (heavier (weight_of top) (weight_of behind) (weights_of frames) (4 * (nodes - pace.next)) (if pace.again then 0 else 4 * nodes) (6 * nodes * bits) lighter) pays
-  where
-    heavier : (top behind frames next again bits : ℕ) → behind ≤ top → behind + frames + next + again + bits ≤ top + frames + next + again + bits
-    heavier top behind frames next again bits less = omega (arith, less)
-
-    by : (before middle : ℕ) (turn : Turn) → middle ≤ before
-        → Pays middle after steps_entered (steps_after + 1) turn → Pays before after steps steps_after turn
-    by before middle Moved less pays = (omega (arith, one, less, pays.0), omega (arith, less, pays.1))
-    by before middle Waits less pays = (omega (arith, one, pays.0), omega (arith, less, pays.1))
-    by before middle (Refused place) less pays = omega (arith, one, less, pays)
 
 -- a turn of a repetition begins by a rising number, or it is the first since the last bit that goes back
 module _ (d : DescV) where

@@ -19,7 +19,7 @@ use Rattle.csn_judge.specs.Known.{Known}
 use Rattle.csn_judge.specs.Left.{Left}
 use Rattle.csn_judge.specs.Reads.{ReadsLeaf}
 use Rattle.csn_judge.proofs.Paying.{begun_credit}
-use Rattle.csn_judge.specs.Turns.{begun_by, IsStopped, fresh_at, Stands}
+use Rattle.csn_judge.specs.Turns.{begun_by, fresh_at, Stands}
 use Rattle.csn_judge.proofs.LeafReads.{Given, taken_of, split, size}
 use Rattle.csn_judge.proofs.TurningLeaves.{paced, leaf_stands, at_leaf, leaf_state}
 
@@ -70,28 +70,6 @@ same_pays {old_bits} nodes new_bits {frames_after} {next} steps spent frames oth
   where
     by : (a b c e w v : ℕ) → e + w ≡ c + v → a ≡ c → b ≡ e → spent + v ≤ w → v < w → (steps + spent + b ≤ steps + a) × (b < a)
     by a b c e w v same before after enough lighter = (omega (arith, same, before, after, enough), omega (arith, same, before, after, lighter))
-
--- a refusal is paid for by the frame
-pub refused_pays : (nodes bits steps spent : ℕ) (frames : List Frame) (pace : Pace) → spent ≤ weights_of frames → steps + spent ≤ steps + credit_of nodes frames pace bits
-refused_pays nodes bits steps spent frames pace enough = by (weights_of frames) (4 * (nodes - pace.next)) (if pace.again then 0 else 4 * nodes) (6 * nodes * bits) enough
-  where
-    by : (w next again bits : ℕ) → spent ≤ w → steps + spent ≤ steps + (w + next + again + bits)
-    by w next again bits enough = omega (arith, enough)
-
--- the frame stays as heavy as it was
-pub waiting_pays : {old_bits : ℕ} (nodes new_bits : ℕ) {frames_after : List Frame} {next : Pace} (steps spent : ℕ) (frames others : List Frame) (pace : Pace) (coming : Coming) (turn : Turn) → IsStopped coming turn
-    → frames_after ≡ others → next ≡ pace → old_bits ≡ new_bits → weights_of others ≡ weights_of frames → spent ≤ 2 → spent ≤ weights_of frames
-    → Pays (credit_of nodes frames pace old_bits) (credit_of nodes frames_after next new_bits) steps (steps + spent) turn
-waiting_pays nodes new_bits steps spent frames others pace coming Moved stopped frames_is pace_is bits_are heavy few enough = absurd stopped
-waiting_pays {old_bits} nodes new_bits {frames_after} {next} steps spent frames others pace coming Waits stopped frames_is pace_is bits_are heavy few enough =
-    let same = same_credit nodes new_bits frames others pace in
-    let before = ap (λ b. credit_of nodes frames pace b) bits_are in
-    let after = ap (λ l. credit_of nodes l next new_bits) frames_is ∙ ap (λ p. credit_of nodes others p new_bits) pace_is in
-    (omega (arith, few), by (credit_of nodes frames pace old_bits) (credit_of nodes frames_after next new_bits) (credit_of nodes frames pace new_bits) (credit_of nodes others pace new_bits) (weights_of frames) (weights_of others) same before after heavy)
-  where
-    by : (a b c e w v : ℕ) → e + w ≡ c + v → a ≡ c → b ≡ e → v ≡ w → b ≤ a
-    by a b c e w v same before after heavy = omega (arith, same, before, after, heavy)
-waiting_pays {old_bits} nodes new_bits steps spent frames others pace coming (Refused place) stopped frames_is pace_is bits_are heavy few enough = refused_pays nodes old_bits steps spent frames pace enough
 
 -- one step was paid for that is taken before, or besides
 pub paid_before : (before after steps steps_after : ℕ) (turn : Turn) → Pays before after (steps + 1) (steps_after + 1) turn → Pays before after steps steps_after turn

@@ -1,38 +1,23 @@
 -- Which bits can be followed from what is open, and at which bit that ends.
-use Rattle.std.proofs.Common.{◌≡◌, ℕ, zero, suc, ◌+◌, ◌-◌, ◌%◌, ◌<◌, ◌≤◌, Bool, true, false, List, [], ◌∷◌, ◌++◌, length, drop, take, map, refl, sym, ◌∙◌, ap, subst, arith, append_assoc, append-nil, length-append, Some, slice_get}
+use Rattle.std.proofs.Common.{◌≡◌, ℕ, suc, ◌+◌, ◌<◌, Bool, false, List, [], ◌∷◌, ◌++◌, length, refl, sym, ◌∙◌, ap, subst, arith, append_assoc, Some, slice_get}
 use Rattle.std.proofs.lemmas.List.{append_cancel_left}
-use Rattle.std.specs.Prelude.{replicate}
-use Rattle.csn_bits.specs.Octets.{IsBits}
 use Rattle.csn_desc.specs.declared.reading.Reading.{Reading}
 use Rattle.csn_desc.specs.declared.reading.Reading.TheVariants.{Received, Sent}
 use Rattle.csn_desc.specs.declared.symbol.Symbol.{Symbol}
 use Rattle.csn_desc.specs.declared.symbol.Symbol.TheVariants.{Low}
 use Rattle.csn_desc.specs.declared.moves.Move.{Move}
-use Rattle.csn_desc.specs.declared.moves.Move.TheVariants.{Bit, Leave}
-use Rattle.csn_desc.specs.declared.node.Node.{Node}
+use Rattle.csn_desc.specs.declared.moves.Move.TheVariants.{Leave}
 use Rattle.csn_desc.specs.declared.node.Node.TheVariants.{Choice}
-use Rattle.csn_desc.specs.TreeV.{TreeV}
 use Rattle.csn_desc.specs.Nodes.{DescV}
 use Rattle.csn_desc.specs.Spelled.{symbol_bit, spelled, IsSpare}
 use Rattle.csn_desc.specs.Values.{Values}
-use Rattle.csn_desc.specs.Means.{NMeans, NodeMeans, means_at, means_choice}
-use Rattle.csn_desc.specs.Follows.{NFollow, NodeFollows, follows_at, follows_whole, follows_choice}
-use Rattle.csn_desc.specs.Formed.{IsDescription}
+use Rattle.csn_desc.specs.Means.{means_choice}
+use Rattle.csn_desc.specs.Follows.{NFollow, NodeFollows, follows_whole, follows_choice}
 use Rattle.csn_desc.proofs.Nodewise.{follow_at}
-use Rattle.csn_look.specs.Reached.{MayStandBehind}
-use Rattle.csn_certify.specs.declared.pick.Pick.TheVariants.{Take, Wait, Refuse}
-use Rattle.csn_certify.specs.Conflicts.{Certified}
-use Rattle.csn_certify.specs.Picks.{Picks}
-use Rattle.csn_certify.specs.Ahead.{LiesAhead}
-use Rattle.csn_certify.specs.Laws.{ChoicesRefuseNone, FollowedRefuseNone, WaitingEndsInRefusal, RefusedHasNoEmptyTree}
-use Rattle.csn_judge.specs.Left.{Left, all_left, bits_left, symbols_left, spare_left, pad_left, rest_left, choice_left, none_left, window_left, free_left, cut_left, Completes, completes_bits, completes_symbols, completes_spare, completes_pad, completes_rest, completes_choice, completes_window, Begins, begins_whole, begins_bits, begins_symbols, begins_spare, begins_pad, begins_choice, begins_window}
-use Rattle.csn_judge.specs.Remains.{IsUpTo, Within, Rest, Goes, goes_end, goes_next, goes_here}
-use Rattle.csn_judge.specs.Inside.{IsReady, Inside}
-use Rattle.csn_judge.proofs.StepFacts.{goes_from}
-use Rattle.csn_judge.proofs.Leaves.{length-spelled, spelled-append, spare_front, spare_back, spare_at, no_bits_if}
+use Rattle.csn_judge.specs.Left.{Left, bits_left, symbols_left, spare_left, pad_left, rest_left, choice_left, window_left, Completes, completes_bits, completes_symbols, completes_spare, completes_pad, completes_rest, completes_window, Begins, begins_whole, begins_bits, begins_symbols, begins_spare, begins_pad, begins_choice, begins_window}
+use Rattle.csn_judge.specs.Remains.{Within, Goes, goes_end, goes_next, goes_here}
+use Rattle.csn_judge.proofs.Leaves.{spelled-append, spare_front}
 use Rattle.csn_judge.proofs.Parts.{Moving, follow_whole}
-use Rattle.csn_judge.proofs.Standing.{Standing, goes_stands, choice_width}
-use Rattle.csn_judge.proofs.LookAhead.{reaches, within_less}
 use Rattle.csn_judge.proofs.Closing.{Full, goes_within, no_bits_full}
 
 module _ (d : DescV) where

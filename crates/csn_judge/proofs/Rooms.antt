@@ -1,28 +1,25 @@
 -- Where no bit is ready, and what is known of what look-ahead answers.
-use Rattle.std.proofs.Common.{◌≡◌, ℕ, zero, suc, ◌+◌, ◌-◌, ◌++◌, take, ap, ◌<◌, ◌≤◌, ◌⊎◌, inl, inr, Bool, true, false, List, [], ◌∷◌, length, min, refl, sym, ◌∙◌, arith, Option}
+use Rattle.std.proofs.Common.{◌≡◌, ℕ, zero, suc, ◌-◌, ◌++◌, take, ap, ◌<◌, ◌≤◌, ◌⊎◌, inl, inr, Bool, true, false, List, [], ◌∷◌, length, min, refl, ◌∙◌, arith, Option, subst}
 use Rattle.std.proofs.lemmas.Bool.Decides.{leb_tells}
 use Rattle.csn_desc.specs.Nodes.{DescV}
 use Rattle.csn_judge.specs.declared.frame.Frame.{Frame}
 use Rattle.csn_judge.specs.declared.frame.Frame.TheVariants as frame
 use Rattle.csn_judge.specs.declared.values.Value.{Value}
 use Rattle.csn_judge.specs.Known.{Known}
-use Rattle.csn_judge.specs.Left.{Left}
+use Rattle.csn_judge.specs.Left.{Left, turns_left}
 use Rattle.csn_judge.specs.Inside.{IsStack}
 use Rattle.csn_judge.specs.Shown.{Shows, shows_begin}
-use Rattle.csn_judge.proofs.Turning.{room, round_length, begun_within}
+use Rattle.csn_judge.proofs.Turning.{room, round_length, begun_within, turns_stand, turn_stack}
 use Rattle.csn_judge.specs.Coming.{Coming, IsGood}
-use Rattle.csn_judge.proofs.LookAhead.{Deciding}
-use Rattle.csn_judge.proofs.Choosing.{Refusing}
+use Rattle.std.proofs.lemmas.List.{nil_from_length}
+use Rattle.csn_judge.specs.Turns.{fresh_at}
+use Rattle.csn_judge.specs.declared.pace.Pace.{Pace}
 
 -- no bit is ready, though one might be taken: none comes
 pub no_bits_ready : (coming : Coming) (most : ℕ) → 0 < most → min most (min (length coming.bits) (coming.limit - coming.place)) ≡ 0 → IsGood coming
     → ¬ ((coming.ended ≡ true) ⊎ (coming.place ≡ coming.limit)) → coming.bits ≡ []
-no_bits_ready coming most some none good unclosed = by coming.bits (omega (arith, some, none, good.inside, away coming.place coming.limit good.inside (λ full. unclosed (inr full))))
+no_bits_ready coming most some none good unclosed = nil_from_length coming.bits (omega (arith, some, none, good.inside, away coming.place coming.limit good.inside (λ full. unclosed (inr full))))
   where
-    by : (bits : List ℕ) → length bits ≡ 0 → bits ≡ []
-    by [] few = refl
-    by (bit ∷ bits) few = absurd (omega (arith, few))
-
     away : (a b : ℕ) → a ≤ b → ¬ (a ≡ b) → a < b
     away a b less not = elim (leb_tells b a) [ inl over ↦ absurd (not (omega (arith, less, over.1))) | inr under ↦ under.1 ]
 
@@ -64,27 +61,6 @@ pub going_on : (ended : Bool) → ¬ (ended ≡ true) → ended ≡ false
 going_on true not = absurd (not refl)
 going_on false not = refl
 
-pub deciding : {d : DescV} → Known d → Deciding
-deciding known =
-    record {
-      takes = known.takes;
-      takes_followed = known.takes_followed;
-      goes_on = known.goes_on;
-      stops = known.stops;
-      stops_followed = known.stops_followed;
-      turns = known.free_turns;
-    }
-
-pub refusing : {d : DescV} → Known d → Refusing
-refusing known =
-    record {
-      refuses = known.refuses;
-      refuses_followed = known.refuses_followed;
-      waits = known.waits;
-      waits_end = known.waits_end;
-      never_empty = known.never_empty;
-    }
-
 -- a node that begins is one of the description, and there is room for the frame round it
 pub begin_room : {d : DescV} {next j : ℕ} {fresh : Option ℕ} {top : Frame} {frames : List Frame} {values : List Value} {stack : List Left} {done : List ℕ} → Known d
     → Shows d (frame.Begin j ∷ top ∷ frames) values stack done → IsStack d next fresh stack done → (j < 16384) × (length frames < 63)
@@ -94,3 +70,11 @@ begin_room {d} known (shows_begin seen kept round) is =
 pub begin_within : {d : DescV} {next j : ℕ} {fresh : Option ℕ} {frames : List Frame} {values : List Value} {stack : List Left} {done : List ℕ}
     → Shows d (frame.Begin j ∷ frames) values stack done → IsStack d next fresh stack done → j < length d.nodes
 begin_within {d} (shows_begin seen kept round) is = begun_within d is
+
+pub turn_room : {d : DescV} {k i m : ℕ} {frames : List Frame} {values : List Value} {stack : List Left} {done : List ℕ} (pace : Pace) (n : ℕ) → Known d → m ≡ suc n
+    → Shows d (frame.Times k i m ∷ frames) values stack done → IsStack d pace.next (fresh_at pace (length done)) stack done → (i < length d.nodes) × (length frames < 63)
+turn_room {d} {i = i} {done = done} pace n known some shows is =
+    let t = turns_stand d shows in
+    let stack = subst (λ (l : List Left). IsStack d pace.next (fresh_at pace (length done)) l done) (t.is ∙ ap (λ j. turns_left j i t.v ∷ t.outer) some) is in
+    let begun = turn_stack d pace known stack in
+    (begun_within d begun, omega (arith, room d begun, round_length d t.round))

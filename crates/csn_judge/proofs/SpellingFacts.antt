@@ -1,9 +1,8 @@
 -- The numbers that the bits of symbols write, and where bits differ from those of symbols.
-use Rattle.std.proofs.Common.{◌≡◌, ℕ, zero, suc, ◌+◌, ◌-◌, ◌*◌, ◌/◌, ◌%◌, ◌^◌, ◌<◌, ◌≤◌, List, [], ◌∷◌, ◌++◌, length, take, drop, refl, sym, ap, subst, ◌∙◌, arith, Some, slice_get}
+use Rattle.std.proofs.Common.{◌≡◌, ℕ, zero, suc, ◌+◌, ◌*◌, ◌/◌, ◌%◌, ◌^◌, ◌<◌, ◌≤◌, List, [], ◌∷◌, ◌++◌, length, take, drop, refl, sym, ap, subst, ◌∙◌, arith, Some, slice_get}
 use Rattle.std.specs.Prelude.{replicate}
 use Rattle.std.proofs.Math.Nat.{pow-succ'}
-use Rattle.std.proofs.Math.Pow.{pow_mono}
-use Rattle.std.proofs.lemmas.List.{take_all, length-take-le}
+use Rattle.std.proofs.lemmas.List.{take_all, length-take-le, length-replicate, replicate_more}
 use Rattle.csn_bits.specs.Octets.{IsBits}
 use Rattle.csn_desc.specs.declared.reading.Reading.{Reading}
 use Rattle.csn_desc.specs.declared.reading.Reading.TheVariants.{Received, Sent}
@@ -11,7 +10,8 @@ use Rattle.csn_desc.specs.declared.symbol.Symbol.{Symbol}
 use Rattle.csn_desc.specs.Spelled.{symbol_bit, spelled, IsSpare}
 use Rattle.csn_bits.specs.Numbers.{low_bits}
 use Rattle.csn_bits.proofs.NumberFacts.{low_bits-join}
-use Rattle.csn_judge.proofs.Leaves.{spelled-append, length-spelled}
+use Rattle.csn_judge.proofs.Leaves.{spelled-append}
+use Rattle.csn_desc.proofs.BitFacts.{length-spelled}
 
 -- ---- one symbol more
 
@@ -28,12 +28,6 @@ pub small-more : (k v b : ℕ) → b < 2 → v < 2 ^ k → 2 * v + b < 2 ^ (k + 
 small-more k v b bit small =
     let e : k + 1 ≡ suc k = omega arith in
     omega (arith, bit, small, pow-succ' 2 k, ap (λ (n : ℕ). 2 ^ n) e)
-
--- so many bits are a number that is far below the greatest
-pub small_number : (k : ℕ) (v : ℕ) → k ≤ 56 → v < 2 ^ k → v < 72057594037927937
-small_number k v few small =
-    let most : 2 ^ 56 ≡ 72057594037927936 = refl in
-    omega (arith, small, pow_mono few, most)
 
 take_next : (l : List Symbol) (k : ℕ) (s : Symbol) → slice_get l k ≡ Some s → take (suc k) l ≡ take k l ++ s ∷ []
 take_next [] k s at = absurd (cc)
@@ -68,27 +62,17 @@ run-more run at k place v bit s here within is small so_far =
     ∙ ap (λ b. spelled (take k (drop at run)) place ++ b ∷ []) is
     ∙ sym (spelled-more (drop at run) k place s (sym (from_drop run at k) ∙ here) within)
 
-repeat_more : (k : ℕ) (s : Symbol) → replicate (suc k) s ≡ replicate k s ++ s ∷ []
-repeat_more zero s = refl
-repeat_more (suc k) s = ap (λ l. s ∷ l) (repeat_more k s)
-
-pub length-repeated : (k : ℕ) (s : Symbol) → length (replicate k s) ≡ k
-length-repeated zero s = refl
-length-repeated (suc k) s = ap suc (length-repeated k s)
-
 -- once more the same symbol
 pub repeated-more : (k place v bit : ℕ) (s : Symbol) → bit ≡ symbol_bit s (place + k) → bit ≤ 1
     → low_bits k v ≡ spelled (replicate k s) place
     → low_bits (k + 1) (2 * v + bit) ≡ spelled (replicate (k + 1) s) place
 repeated-more k place v bit s is small so_far =
-    let e : suc k ≡ k + 1 = omega arith in
     low_bits-more k v bit (omega (arith, small))
     ∙ ap (λ l. l ++ bit ∷ []) so_far
     ∙ ap (λ b. spelled (replicate k s) place ++ b ∷ []) is
-    ∙ ap (λ n. spelled (replicate k s) place ++ symbol_bit s (place + n) ∷ []) (sym (length-repeated k s))
+    ∙ ap (λ n. spelled (replicate k s) place ++ symbol_bit s (place + n) ∷ []) (sym (length-replicate k s))
     ∙ sym (spelled-append (replicate k s) (s ∷ []) place)
-    ∙ ap (λ l. spelled l place) (sym (repeat_more k s))
-    ∙ ap (λ n. spelled (replicate n s) place) e
+    ∙ ap (λ l. spelled l place) (replicate_more k s)
 
 -- ---- where bits differ from those of symbols
 
@@ -174,7 +158,7 @@ pub spare_mismatch : (s : Symbol) (n place : ℕ) (bits : List ℕ) (k : ℕ) �
     → take k bits ≡ take k (spelled (replicate n s) place) → ¬ (take (k + 1) bits ≡ take (k + 1) (spelled (replicate n s) place))
     → SpareMismatch s place bits k
 spare_mismatch s n place bits k less few same not =
-    let m = mismatch (replicate n s) place bits k (omega (arith, less, length-repeated n s)) few same not in
+    let m = mismatch (replicate n s) place bits k (omega (arith, less, length-replicate n s)) few same not in
     let r = repeats n s m.s m.run m.more m.split in
     let size = length-spelled m.run place in
     record {

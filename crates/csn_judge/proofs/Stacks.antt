@@ -1,5 +1,5 @@
 -- The nodes that are open stay where they are: what is kept by each step.
-use Rattle.std.proofs.Common.{◌≡◌, ℕ, zero, suc, ◌+◌, ◌-◌, ◌*◌, ◌%◌, ◌<◌, ◌≤◌, ◌==◌, ◌⊎◌, inl, inr, Bool, true, false, if◌then◌else◌, eqb-true, List, [], ◌∷◌, ◌++◌, length, drop, map, refl, sym, ◌∙◌, ap, subst, arith, append_assoc, append-nil, length-append, mul-suc, Option, Some, None, option_map, slice_get, Contains}
+use Rattle.std.proofs.Common.{◌≡◌, ℕ, zero, suc, ◌+◌, ◌*◌, ◌%◌, ◌<◌, ◌≤◌, ◌==◌, ◌⊎◌, inl, inr, Bool, true, false, if◌then◌else◌, List, [], ◌∷◌, ◌++◌, length, drop, refl, sym, ◌∙◌, ap, subst, arith, append_assoc, mul-suc, Option, Some, None, option_map, slice_get, Contains}
 use Rattle.std.specs.Prelude.{IsSome}
 use Rattle.std.specs.List.{slice_index_or}
 use Rattle.csn_bits.specs.Octets.{IsBits}
@@ -11,7 +11,7 @@ use Rattle.csn_desc.specs.declared.node.Node.{Node}
 use Rattle.csn_desc.specs.declared.node.Node.TheVariants.{Lits, Spare, Pad, Null, Field, Rest, Seq, Choice, Times, Many, Trunc, Window, Named}
 use Rattle.csn_desc.specs.Nodes.{DescV, head_of, parts_of}
 use Rattle.csn_desc.specs.Values.{Values, value_of, count_of, with_value, is_named}
-use Rattle.csn_desc.specs.Formed.{value_width, width_of, shows_earlier, with_seen, Spans, PartsSpan, span_next, IsCount, IsHead, Formed, PartsFormed, formed, formed_end, formed_next, HaveValues, FitWidths, IsDescription}
+use Rattle.csn_desc.specs.Formed.{width_of, shows_earlier, with_seen, Spans, PartsSpan, span_next, IsHead, Formed, PartsFormed, formed, formed_end, formed_next, HaveValues, FitWidths, IsDescription}
 use Rattle.std.proofs.lemmas.Bool.Decides.{leb_tells}
 use Rattle.std.proofs.lemmas.Option.{slice_get_within}
 use Rattle.csn_desc.specs.Laws.{NodesAreWellFormed}
@@ -19,16 +19,16 @@ use Rattle.csn_desc.proofs.Empties.{nothing_seen}
 use Rattle.csn_desc.proofs.Placed.{node_placed}
 use Rattle.csn_desc.proofs.ValuesKept.{no_values_fit, fits_kept}
 use Rattle.csn_desc.proofs.Numbering.{span_grows, parts_span_grow, part_from, span_inside, span_parts}
-use Rattle.csn_look.specs.Nullable.{Nullable, nullable_at, nullable_null, nullable_rest, nullable_many, nullable_trunc, nullable_field, nullable_times, nullable_no_times, nullable_window, nullable_seq, nullable_choice, nullable_named, AllNullable, all_end, all_next}
-use Rattle.csn_look.specs.Ends.{MayCount, may_fixed, may_counted, InEnds, ends_at, ends_lits, ends_spare, ends_null, ends_pad, ends_rest, ends_field, ends_window, ends_seq, ends_choice, ends_times, ends_counted, ends_many, ends_trunc, ends_named, PartsEnd, parts_end, parts_next, TimesEnd, ManyEnd, many_end, LeadEnd, lead_end, lead_next}
-use Rattle.csn_look.specs.Reached.{Reached, Turn, turn_fixed, turn_counted}
+use Rattle.csn_look.specs.Nullable.{Nullable, nullable_at, nullable_null, nullable_rest, nullable_many, nullable_trunc, nullable_field, nullable_no_times, nullable_window, nullable_seq, nullable_choice, nullable_named, AllNullable, all_end, all_next}
+use Rattle.csn_look.specs.Ends.{InEnds, ends_at, ends_lits, ends_spare, ends_null, ends_pad, ends_rest, ends_field, ends_window, ends_seq, ends_choice, ends_times, ends_counted, ends_many, ends_trunc, ends_named, PartsEnd, parts_end, parts_next, TimesEnd, ManyEnd, many_end, LeadEnd, lead_end, lead_next}
+use Rattle.csn_look.specs.Reached.{Turn, turn_fixed, turn_counted}
 use Rattle.csn_look.proofs.Meaning.ReachFacts.{parts_end_more, many_end_more, turn_first, turn_next, seq_reached, lead_reached, choice_reached, window_reached, named_reached, many_reached, turn_reached}
 use Rattle.csn_look.proofs.Meaning.FollowFacts.{cuts}
 use Rattle.csn_look.proofs.Meaning.ShapeFacts.{CountIs, NodeIs, shaped, may_count}
 use Rattle.csn_certify.specs.declared.conflict.Conflict.TheVariants.{NotFirm}
 use Rattle.csn_certify.specs.Conflicts.{times_not_firm, many_not_firm, Certified}
 use Rattle.csn_judge.specs.Left.{Left, all_left, bits_left, symbols_left, spare_left, pad_left, rest_left, choice_left, none_left, window_left, parts_left, turns_left, free_left, cut_left, lead_left, behind}
-use Rattle.csn_judge.specs.Inside.{seen_of, IsReady, Inside, inside_none, inside_choice, inside_label, inside_window, inside_parts, inside_turns, inside_free, inside_lead, HasWidth, IsRead, IsFresh, fresh_as, fresh_turn, UpTo, IsLeftOf, of_all, of_field, of_literal, of_spare, of_pad, of_pad_begun, of_rest, of_read, of_choice, of_window, of_parts, of_turns, of_free, of_cut, of_lead, IsStack, stack_end, stack_node}
+use Rattle.csn_judge.specs.Inside.{seen_of, IsReady, Inside, inside_none, inside_choice, inside_label, inside_window, inside_parts, inside_turns, inside_free, inside_lead, IsRead, IsFresh, fresh_as, fresh_turn, UpTo, of_all, of_field, of_literal, of_spare, of_pad, of_rest, of_read, of_choice, of_window, of_parts, of_turns, of_free, of_cut, of_lead, IsStack, stack_end, stack_node}
 use Rattle.csn_judge.proofs.Standing.{sequence_width, choice_width, times_width, many_width, truncation_width, window_width, label_width, fits_behind}
 
 -- ---- values
@@ -228,9 +228,6 @@ module _ (d : DescV) (most : ℕ) (is : IsDescription d) (certified : Certified 
   pub rest_stack : {fresh : Option ℕ} {i : ℕ} {v : Values} {outer : List Left} {done : List ℕ} → slice_get d.nodes i ≡ Some Rest → Begun d fresh i v outer done → IsStack d (suc i) fresh (rest_left ∷ outer) done
   rest_stack {i = i} {v = v} {done = done} at b = stack_node i (length done) v b.good b.ready (of_rest at (omega arith) (up_here d i)) b.inner
 
-  no_width_of : {i : ℕ} {n : Node} {b : List ℕ} → slice_get d.nodes i ≡ Some n → width_of (Some n) ≡ None → is_named d.nodes i ≡ false → HasWidth d i b
-  no_width_of at none unlabelled = record { field = λ w e. absurd (grind (arith, at, e, none)); label = λ w e. absurd (grind (arith, at, e, none, unlabelled)) }
-
   pub null_stack : {fresh : Option ℕ} {i : ℕ} {v : Values} {outer : List Left} {done : List ℕ} → slice_get d.nodes i ≡ Some Null → Begun d fresh i v outer done → IsStack d (suc i) fresh (none_left ∷ outer) done
   null_stack {i = i} {v = v} {done = done} at b =
       stack_node i (length done) v b.good b.ready (of_read (record { order = omega arith; ends = ends_at Null at (ends_null refl); empty = λ e. nullable_at Null at nullable_null; width = record { field = λ w e. absurd (grind (arith, at, e)); label = λ w e. absurd (grind (arith, at, e)) } }) (up_here d i)) b.inner
@@ -291,18 +288,30 @@ module _ (d : DescV) (most : ℕ) (is : IsDescription d) (certified : Certified 
       let longer = read.order in
       all_more (none (omega (arith, order, longer, e))) (read.empty (omega (arith, order, longer, e)))
 
+  -- the parts behind one that is read, which began at a place
+  record PartsOn (parts before ps : List ℕ) (part at_part j from round : ℕ) (w : Values) (done : List ℕ) : Type 0 where
+    pub cut : parts ≡ (before ++ part ∷ []) ++ (j ∷ ps)
+    pub ended : PartsEnd d (before ++ part ∷ []) (from % 8) (length done % 8)
+    pub fits : FitWidths d (behind d part at_part w done)
+    pub formed : PartsFormed d.nodes true (seen_of (behind d part at_part w done)) round (j ∷ ps)
+
+  parts_on : {parts ps : List ℕ} {part at_part j from round : ℕ} {w : Values} {done : List ℕ} (before : List ℕ) → parts ≡ before ++ part ∷ (j ∷ ps) → PartsEnd d before (from % 8) (at_part % 8) → FitWidths d w → PartsFormed d.nodes true (with_seen d.nodes true part (seen_of w)) round (j ∷ ps) → IsRead d part at_part done → PartsOn parts before ps part at_part j from round w done
+  parts_on {ps = ps} {part} {at_part} {j} {w = w} {done = done} before split so_far fits well read =
+      record {
+        cut = split ∙ sym (append_assoc before (part ∷ []) (j ∷ ps));
+        ended = parts_end_more d so_far read.ends;
+        fits = fits_behind d part (drop at_part done) w read.width fits;
+        formed = seen_along d (j ∷ ps) (sym (seen_behind d part (drop at_part done) w)) well;
+      }
+
   -- the next part of a sequence
   pub next_begun : {fresh : Option ℕ} {i part at_part j : ℕ} {ps : List ℕ} {w v0 : Values} {from : ℕ} {outer : List Left} {done : List ℕ} (parts before : List ℕ) → slice_get d.nodes i ≡ Some (Seq parts) → parts ≡ before ++ part ∷ (j ∷ ps) → PartsEnd d before (from % 8) (at_part % 8) → from ≤ at_part → (from ≡ at_part → AllNullable d before) → FitWidths d w → PartsFormed d.nodes true (with_seen d.nodes true part (seen_of w)) (suc (length outer)) (j ∷ ps) → IsRead d part at_part done → IsBits done → IsReady d i from (length outer) v0 → Inside d fresh outer i from v0 → Begun d fresh j (behind d part at_part w done) (parts_left j (length done) ps (behind d part at_part w done) ∷ outer) done
   next_begun {fresh} {i} {part} {at_part} {j} {ps} {w} {v0} {from} {outer} {done} parts before at split so_far order none fits well read good ready inner =
-      let seen = seen_behind d part (drop at_part done) w in
-      let later = seen_along d (j ∷ ps) (sym seen) well in
-      let fits_more = fits_behind d part (drop at_part done) w read.width fits in
-      let more_parts = split ∙ sym (append_assoc before (part ∷ []) (j ∷ ps)) in
-      let ended = parts_end_more d so_far read.ends in
+      let on = parts_on before split so_far fits well read in
       record {
         good = good;
-        ready = record { reached = seq_reached d ps at more_parts ready.reached ended; widths = fits_more; formed = first_formed d later };
-        inner = inside_parts i from v0 parts (before ++ part ∷ []) at more_parts ended (omega (arith, order, read.order)) (λ e. none_more none read order e) fits_more (rest_formed d later) ready inner;
+        ready = record { reached = seq_reached d ps at on.cut ready.reached on.ended; widths = on.fits; formed = first_formed d on.formed };
+        inner = inside_parts i from v0 parts (before ++ part ∷ []) at on.cut on.ended (omega (arith, order, read.order)) (λ e. none_more none read order e) on.fits (rest_formed d on.formed) ready inner;
       }
 
   -- a turn; it goes back where one was there before it
@@ -339,15 +348,11 @@ module _ (d : DescV) (most : ℕ) (is : IsDescription d) (certified : Certified 
 
   pub next_component_begun : {fresh : Option ℕ} {i part at_part j : ℕ} {ps : List ℕ} {w v0 : Values} {from : ℕ} {outer : List Left} {done : List ℕ} (parts before : List ℕ) → slice_get d.nodes i ≡ Some (Trunc parts) → parts ≡ before ++ part ∷ (j ∷ ps) → PartsEnd d before (from % 8) (at_part % 8) → from ≤ at_part → FitWidths d w → PartsFormed d.nodes true (with_seen d.nodes true part (seen_of w)) (suc (length outer)) (j ∷ ps) → IsRead d part at_part done → IsBits done → IsReady d i from (length outer) v0 → Inside d fresh outer i from v0 → Begun d fresh j (behind d part at_part w done) (lead_left j (length done) ps (behind d part at_part w done) ∷ outer) done
   next_component_begun {fresh} {i} {part} {at_part} {j} {ps} {w} {v0} {from} {outer} {done} parts before at split so_far order fits well read good ready inner =
-      let seen = seen_behind d part (drop at_part done) w in
-      let later = seen_along d (j ∷ ps) (sym seen) well in
-      let fits_more = fits_behind d part (drop at_part done) w read.width fits in
-      let more_parts = split ∙ sym (append_assoc before (part ∷ []) (j ∷ ps)) in
-      let ended = parts_end_more d so_far read.ends in
+      let on = parts_on before split so_far fits well read in
       record {
         good = good;
-        ready = record { reached = lead_reached d ps at more_parts ready.reached ended; widths = fits_more; formed = first_formed d later };
-        inner = inside_lead i from v0 parts (before ++ part ∷ []) at more_parts ended (omega (arith, order, read.order)) fits_more (rest_formed d later) ready inner;
+        ready = record { reached = lead_reached d ps at on.cut ready.reached on.ended; widths = on.fits; formed = first_formed d on.formed };
+        inner = inside_lead i from v0 parts (before ++ part ∷ []) at on.cut on.ended (omega (arith, order, read.order)) on.fits (rest_formed d on.formed) ready inner;
       }
 
   -- ---- a node is left

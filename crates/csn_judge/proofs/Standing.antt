@@ -1,37 +1,19 @@
 -- What stands behind a node that is read inside others: the first of the bits there, up to the end of each window
 -- that is open, may follow the node.
-use Rattle.std.proofs.Common.{◌≡◌, ℕ, zero, suc, ◌+◌, ◌-◌, ◌*◌, ◌^◌, ◌%◌, ◌<◌, ◌≤◌, ◌==◌, ◌⊎◌, Bool, true, false, if◌then◌else◌, eqb-true, inl, inr, List, [], ◌∷◌, ◌++◌, length, drop, take, refl, sym, ◌∙◌, ap, subst, arith, append_assoc, append-nil, length-append, Option, Some, None, slice_get}
-use Rattle.std.specs.Prelude.{⊤}
-use Rattle.csn_bits.specs.Octets.{IsBits}
+use Rattle.std.proofs.Common.{◌≡◌, ℕ, zero, suc, ◌+◌, ◌-◌, ◌^◌, ◌%◌, ◌<◌, ◌≤◌, ◌==◌, Bool, true, false, if◌then◌else◌, eqb-true, List, [], ◌∷◌, ◌++◌, length, drop, take, refl, sym, ◌∙◌, ap, subst, arith, append-nil, length-append, Option, Some, slice_get}
 use Rattle.csn_bits.specs.Numbers.{number_of}
 use Rattle.csn_desc.specs.declared.moves.Move.{Move}
 use Rattle.csn_desc.specs.declared.node.Count.{Count}
-use Rattle.csn_desc.specs.declared.node.Node.{Node}
 use Rattle.csn_desc.specs.declared.node.Node.TheVariants.{Seq, Choice, Times, Many, Trunc, Window, Named}
-use Rattle.csn_desc.specs.TreeV.{TreeV, Trees}
 use Rattle.csn_desc.specs.Nodes.{DescV}
 use Rattle.csn_desc.specs.Values.{Values, value_of, with_value, is_named}
 use Rattle.csn_desc.specs.Formed.{value_width, width_of, IsDescription, FitWidths}
 use Rattle.csn_bits.proofs.NumberFacts.{number_of-lt}
 use Rattle.csn_look.specs.Reached.{MayStandBehind}
-use Rattle.csn_look.specs.Laws.{BehindPartsOfSequences, FollowedBehindPartsOfSequences, BehindPartsOfTruncations, BehindLastOfTruncations, FollowedBehindPartsOfTruncations, BehindTurns, FollowedBehindTurns, BehindFreeTurns, FollowedBehindFreeTurns, BehindAlternatives, BehindLabelledParts}
-use Rattle.csn_judge.specs.Left.{Left, all_left, none_left, window_left, parts_left, turns_left, free_left, cut_left, lead_left, behind, Completes, completes_none, completes_window, completes_parts, completes_turns, completes_free, completes_cut_behind, completes_lead_behind, Begins, begins_whole, begins_window, begins_parts, begins_turns, begins_free, begins_lead, begins_lead_none}
-use Rattle.csn_judge.specs.Remains.{IsUpTo, Within, Rest, rest_end, rest_next, Goes, goes_end, goes_next, goes_here}
-use Rattle.csn_judge.specs.Inside.{IsReady, Inside, inside_none, inside_choice, inside_label, inside_window, inside_parts, inside_turns, inside_free, inside_lead, HasWidth, IsRead}
-
--- the laws of what stands behind parts
-pub record Standing : Type 0 where
-  pub sequence : BehindPartsOfSequences
-  pub sequence_followed : FollowedBehindPartsOfSequences
-  pub truncation : BehindPartsOfTruncations
-  pub truncation_last : BehindLastOfTruncations
-  pub truncation_followed : FollowedBehindPartsOfTruncations
-  pub turns : BehindTurns
-  pub turns_followed : FollowedBehindTurns
-  pub free : BehindFreeTurns
-  pub free_followed : FollowedBehindFreeTurns
-  pub alternative : BehindAlternatives
-  pub label : BehindLabelledParts
+use Rattle.csn_judge.specs.Left.{Left, behind, completes_none, completes_window, completes_parts, completes_turns, completes_free, completes_cut_behind, completes_lead_behind, begins_whole, begins_window, begins_parts, begins_turns, begins_free, begins_lead, begins_lead_none}
+use Rattle.csn_judge.specs.Remains.{Within, Rest, rest_end, rest_next, Goes, goes_end, goes_next, goes_here}
+use Rattle.csn_judge.specs.Inside.{Inside, inside_none, inside_choice, inside_label, inside_window, inside_parts, inside_turns, inside_free, inside_lead, HasWidth}
+use Rattle.csn_judge.specs.Known.{Known}
 
 -- ---- first bits
 
@@ -121,7 +103,7 @@ module _ (d : DescV) where
   width_along : {i : ℕ} {b c : List ℕ} → b ≡ c → HasWidth d i b → HasWidth d i c
   width_along {i} e h = let P : List ℕ → Type 0 = λ l. HasWidth d i l in subst P e h
 
-module _ (d : DescV) (is : IsDescription d) (laws : Standing) where
+module _ (d : DescV) (is : IsDescription d) (laws : Known d) where
   no_stand : (i o : ℕ) (b : List ℕ) → b ≡ [] → MayStandBehind d i o b
   no_stand i o b none bit rest e = absurd (cc)
 

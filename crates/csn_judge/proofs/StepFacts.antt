@@ -1,13 +1,13 @@
 -- Steps from some open nodes to others: what they are made of, and one after another.
-use Rattle.std.proofs.Common.{◌≡◌, ℕ, ◌+◌, ◌≤◌, ◌⊎◌, inl, inr, List, [], ◌∷◌, ◌++◌, length, refl, sym, ◌∙◌, ap, subst, arith, append_assoc, append-nil, length-append}
-use Rattle.std.specs.Prelude.{⊤}
+use Rattle.std.proofs.Common.{◌≡◌, ℕ, ◌+◌, ◌≤◌, List, [], ◌∷◌, ◌++◌, length, refl, sym, ◌∙◌, ap, subst, arith, append_assoc, append-nil, length-append, Bool}
 use Rattle.csn_desc.specs.declared.moves.Move.{Move}
 use Rattle.csn_desc.specs.declared.moves.Move.TheVariants.{Leave}
 use Rattle.csn_desc.specs.Nodes.{DescV}
 use Rattle.csn_desc.specs.Follows.{NFollow}
 use Rattle.csn_desc.proofs.Splits.{splits, inside, behind}
 use Rattle.csn_judge.specs.Left.{Left, none_left, Completes, completes_none, Begins, begins_whole}
-use Rattle.csn_judge.specs.Remains.{IsUpTo, Within, Rest, rest_end, rest_next, Goes, goes_end, goes_next, goes_here, IsBlock, Agrees, shorter, longer, StandsFor, Steps}
+use Rattle.csn_judge.specs.Remains.{IsUpTo, Within, Rest, rest_next, Goes, goes_next, goes_here, IsBlock, Agrees, shorter, longer, StandsFor, Steps, Passes}
+use Rattle.std.proofs.lemmas.List.{nil_from_length}
 
 pub agrees_behind : (x : List ℕ) {b ahead : List ℕ} → Agrees b ahead → Agrees (x ++ b) (x ++ ahead)
 agrees_behind x {b} (shorter rest e) = shorter rest (ap (λ l. x ++ l) e ∙ sym (append_assoc x b rest))
@@ -58,23 +58,25 @@ module _ (d : DescV) where
       }
 
   -- two steps are one
-  pub steps_then : {old middle new : List Left} {done ahead : List ℕ} {made more : List Move} (taken also : List ℕ) → Steps d old middle done taken (also ++ ahead) made → Steps d middle new (done ++ taken) also ahead more → Steps d old new done (taken ++ also) ahead (made ++ more)
+  pub steps_then : {ended : Bool} {old middle new : List Left} {done ahead : List ℕ} {made more : List Move} (taken also : List ℕ)
+      → Passes d ended old middle done taken (also ++ ahead) made → Passes d ended middle new (done ++ taken) also ahead more
+      → Passes d ended old new done (taken ++ also) ahead (made ++ more)
   steps_then {done = done} {ahead = ahead} {made = made} {more = more} taken also first second =
       record {
-        ends = λ later rest h.
-            let middle = first.ends later rest (rest_along (append_assoc taken also (ahead ++ later) ∙ ap (λ l. taken ++ l) (sym (append_assoc also ahead later))) h) in
-            let after = second.ends later middle.0 (rest_along (append_assoc also ahead later) middle.2) in
+        ends = λ later rest e h.
+            let middle = first.ends later rest e (rest_along (append_assoc taken also (ahead ++ later) ∙ ap (λ l. taken ++ l) (sym (append_assoc also ahead later))) h) in
+            let after = second.ends later middle.0 e (rest_along (append_assoc also ahead later) middle.2) in
             (after.0, middle.1 ∙ ap (λ l. made ++ l) after.1 ∙ sym (append_assoc made more after.0), rest_from (append_assoc done taken also) after.2);
-        ended = λ later rest h.
-            let middle = second.ended later rest (rest_from (sym (append_assoc done taken also)) h) in
-            let before = first.ended later (more ++ rest) (rest_along (sym (append_assoc also ahead later)) middle) in
+        ended_by = λ later rest e h.
+            let middle = second.ended_by later rest e (rest_from (sym (append_assoc done taken also)) h) in
+            let before = first.ended_by later (more ++ rest) e (rest_along (sym (append_assoc also ahead later)) middle) in
             rest_by (sym (append_assoc made more rest)) (rest_along (ap (λ l. taken ++ l) (append_assoc also ahead later) ∙ sym (append_assoc taken also (ahead ++ later))) before);
-        goes = λ b agrees g.
-            let middle = first.goes (also ++ b) (agrees_behind also agrees) (goes_along (append_assoc taken also b) g) in
-            goes_from (append_assoc done taken also) (second.goes b agrees middle);
-        went = λ b agrees g.
-            let middle = second.went b agrees (goes_from (sym (append_assoc done taken also)) g) in
-            goes_along (sym (append_assoc taken also b)) (first.went (also ++ b) (agrees_behind also agrees) middle);
+        goes = λ b going agrees g.
+            let middle = first.goes (also ++ b) going (agrees_behind also agrees) (goes_along (append_assoc taken also b) g) in
+            goes_from (append_assoc done taken also) (second.goes b going agrees middle);
+        went = λ b going agrees g.
+            let middle = second.went b going agrees (goes_from (sym (append_assoc done taken also)) g) in
+            goes_along (sym (append_assoc taken also b)) (first.went (also ++ b) going (agrees_behind also agrees) middle);
       }
 
   -- no step
@@ -85,6 +87,22 @@ module _ (d : DescV) where
         ended = λ later rest h. rest_from (append-nil done) h;
         goes = λ b agrees g. goes_from (sym (append-nil done)) g;
         went = λ b agrees g. goes_from (append-nil done) g;
+      }
+
+  -- a step that takes no bits and makes no moves
+  pub steps_quietly : {old new : List Left} {done ahead : List ℕ}
+      → ((later : List ℕ) (rest : List Move) → Rest d old done (ahead ++ later) rest → Rest d new done (ahead ++ later) rest)
+      → ((x : List ℕ) (rest : List Move) → Rest d new done x rest → Rest d old done x rest)
+      → ((b : List ℕ) → Agrees b ahead → Goes d old done b → Goes d new done b)
+      → ((b : List ℕ) → Agrees b ahead → Goes d new done b → Goes d old done b)
+      → Steps d old new done [] ahead []
+  steps_quietly {done = done} {ahead = ahead} on back forth home =
+      let same : done ≡ done ++ [] = sym (append-nil done) in
+      record {
+        ends = λ later rest h. (rest, refl, rest_from same (on later rest h));
+        ended = λ later rest h. back (ahead ++ later) rest (rest_from (sym same) h);
+        goes = λ b agrees g. goes_from same (forth b agrees g);
+        went = λ b agrees g. home b agrees (goes_from (sym same) g);
       }
 
   pub completes_along : {left : Left} {done b c : List ℕ} {moves : List Move} → b ≡ c → Completes d left done b moves → Completes d left done c moves
@@ -149,16 +167,12 @@ module _ (d : DescV) where
     pub is : b1 ≡ taken ++ more
     pub others : x ≡ more ++ b2
 
-  none_if : (m : List ℕ) → length m ≡ 0 → m ≡ []
-  none_if [] e = refl
-  none_if (a ∷ m) e = absurd (omega arith)
-
   cut_at : (taken x b1 b2 : List ℕ) → taken ++ x ≡ b1 ++ b2 → length taken ≤ length b1 → Cut taken x b1 b2
   cut_at taken x b1 b2 e long =
       elim (splits taken x b1 b2 e) [
         | behind m p q ↦ record { more = m; is = p; others = q }
         | inside m p q ↦
-            let none = none_if m (omega (arith, ap length p, length-append b1 m, long)) in
+            let none = nil_from_length m (omega (arith, ap length p, length-append b1 m, long)) in
             record { more = []; is = sym (append-nil b1) ∙ ap (λ l. b1 ++ l) (sym none) ∙ sym p ∙ sym (append-nil taken); others = ap (λ l. l ++ x) (sym none) ∙ sym q }
       ]
 
@@ -264,11 +278,25 @@ module _ (d : DescV) where
       behind_it b1 b2 first cut h (goes_next c1 c2 others cut_more rest g) =
           gone_on (b1 ++ c1) c2 (first ++ others) (cut ∙ ap (λ l. b1 ++ l) cut_more ∙ sym (append_assoc b1 c1 c2)) (record { b1 = b1; b2 = c1; first = first; others = others; cut = refl; is = refl; inside = h; outside = rest }) (goes_from (append_assoc done b1 c1) g)
 
+  -- what ends the block, or can be followed, behind two forms that are completed
+  pub both_rest : {inner left : Left} {outer : List Left} {done b1 b2 x : List ℕ} {first others rest : List Move} → x ≡ b1 ++ b2 → rest ≡ first ++ others → Both inner left done b1 first → Rest d outer (done ++ b1) b2 others → Rest d (inner ∷ left ∷ outer) done x rest
+  both_rest {done = done} {b2 = b2} {others = others} cut made both o =
+      rest_next both.b1 (both.b2 ++ b2) both.first (both.others ++ others) (cut ∙ ap (λ l. l ++ b2) both.cut ∙ append_assoc both.b1 both.b2 b2) (made ∙ ap (λ l. l ++ others) both.is ∙ append_assoc both.first both.others others) both.inside (rest_next both.b2 b2 both.others others refl refl both.outside (rest_from (ap (λ l. done ++ l) both.cut ∙ sym (append_assoc done both.b1 both.b2)) o))
+
+  pub both_goes : {inner left : Left} {outer : List Left} {done b1 b2 x : List ℕ} {first : List Move} → x ≡ b1 ++ b2 → Both inner left done b1 first → Goes d outer (done ++ b1) b2 → Goes d (inner ∷ left ∷ outer) done x
+  both_goes {done = done} {b2 = b2} cut both g =
+      goes_next both.b1 (both.b2 ++ b2) both.first (cut ∙ ap (λ l. l ++ b2) both.cut ∙ append_assoc both.b1 both.b2 b2) both.inside (goes_next both.b2 b2 both.others refl both.outside (goes_from (ap (λ l. done ++ l) both.cut ∙ sym (append_assoc done both.b1 both.b2)) g))
+
+  -- what ends the block completes two forms first, and so the one that they were made of
+  pub rest_both : {old inner left : Left} {outer : List Left} {done x : List ℕ} {rest : List Move} (made : List Move) → ((b : List ℕ) (moves : List Move) → Both inner left done b moves → Completes d old done b (made ++ moves)) → Rest d (inner ∷ left ∷ outer) done x rest → Rest d (old ∷ outer) done x (made ++ rest)
+  rest_both {done = done} made whole (rest_next b1 y first others cut is h (rest_next c1 c2 second last cut_more is_more h2 o)) =
+      rest_next (b1 ++ c1) c2 (made ++ (first ++ second)) last (cut ∙ ap (λ l. b1 ++ l) cut_more ∙ sym (append_assoc b1 c1 c2)) (ap (λ l. made ++ l) (is ∙ ap (λ l. first ++ l) is_more ∙ sym (append_assoc first second last)) ∙ sym (append_assoc made (first ++ second) last)) (whole (b1 ++ c1) (first ++ second) (record { b1 = b1; b2 = c1; first = first; others = second; cut = refl; is = refl; inside = h; outside = h2 })) (rest_from (append_assoc done b1 c1) o)
+
   pub split : {old inner left : Left} {done : List ℕ} {made : List Move} (outer : List Left) (ahead : List ℕ) → Splits old inner left done made → Steps d (old ∷ outer) (inner ∷ left ∷ outer) done [] ahead made
   split {old} {inner} {left} {done} {made} outer ahead s =
       record {
         ends = λ later rest h. on (ahead ++ later) rest h;
-        ended = λ later more h. back (ahead ++ later) more (rest_from (append-nil done) h);
+        ended = λ later more h. rest_both made s.completed (rest_from (append-nil done) h);
         goes = λ b agrees g. goes_from (sym (append-nil done)) (forth b g);
         went = λ b agrees g. home b (both_gone (goes_from (append-nil done) g));
       }
@@ -276,26 +304,11 @@ module _ (d : DescV) where
       on : (x : List ℕ) (rest : List Move) → Rest d (old ∷ outer) done x rest → (more : List Move) × (rest ≡ made ++ more) × Rest d (inner ∷ left ∷ outer) (done ++ []) x more
       on x rest (rest_next b1 b2 first others cut is h o) =
           let found = s.completes b1 first h in
-          let both = found.2 in
-          let start : done ≡ done ++ [] = sym (append-nil done) in (
-            found.0 ++ others,
-            is ∙ ap (λ l. l ++ others) found.1 ∙ append_assoc made found.0 others,
-            rest_from start (rest_next both.b1 (both.b2 ++ b2) both.first (both.others ++ others) (cut ∙ ap (λ l. l ++ b2) both.cut ∙ append_assoc both.b1 both.b2 b2) (ap (λ l. l ++ others) both.is ∙ append_assoc both.first both.others others) both.inside (rest_next both.b2 b2 both.others others refl refl both.outside (rest_from (ap (λ l. done ++ l) both.cut ∙ sym (append_assoc done both.b1 both.b2)) o))),
-          )
-
-      inner_back : (x : List ℕ) (more : List Move) (b1 y : List ℕ) (first others : List Move) → x ≡ b1 ++ y → more ≡ first ++ others → Completes d inner done b1 first → Rest d (left ∷ outer) (done ++ b1) y others → Rest d (old ∷ outer) done x (made ++ more)
-      inner_back x more b1 y first others cut is h (rest_next c1 c2 second last cut_more is_more h2 o) =
-          rest_next (b1 ++ c1) c2 (made ++ (first ++ second)) last (cut ∙ ap (λ l. b1 ++ l) cut_more ∙ sym (append_assoc b1 c1 c2)) (ap (λ l. made ++ l) (is ∙ ap (λ l. first ++ l) is_more ∙ sym (append_assoc first second last)) ∙ sym (append_assoc made (first ++ second) last)) (s.completed (b1 ++ c1) (first ++ second) (record { b1 = b1; b2 = c1; first = first; others = second; cut = refl; is = refl; inside = h; outside = h2 })) (rest_from (append_assoc done b1 c1) o)
-
-      back : (x : List ℕ) (more : List Move) → Rest d (inner ∷ left ∷ outer) done x more → Rest d (old ∷ outer) done x (made ++ more)
-      back x more (rest_next b1 y first others cut is h o) = inner_back x more b1 y first others cut is h o
+          (found.0 ++ others, is ∙ ap (λ l. l ++ others) found.1 ∙ append_assoc made found.0 others, rest_from (sym (append-nil done)) (both_rest cut refl found.2 o))
 
       forth : (x : List ℕ) → Goes d (old ∷ outer) done x → Goes d (inner ∷ left ∷ outer) done x
       forth x (goes_here h within) = both_go outer s.up_inner (s.begins x h) within.1
-      forth x (goes_next b1 b2 first cut h g) =
-          let found = s.completes b1 first h in
-          let both = found.2 in
-          goes_next both.b1 (both.b2 ++ b2) both.first (cut ∙ ap (λ l. l ++ b2) both.cut ∙ append_assoc both.b1 both.b2 b2) both.inside (goes_next both.b2 b2 both.others refl both.outside (goes_from (ap (λ l. done ++ l) both.cut ∙ sym (append_assoc done both.b1 both.b2)) g))
+      forth x (goes_next b1 b2 first cut h g) = both_goes cut (s.completes b1 first h).2 g
 
       home : (x : List ℕ) → BothGone inner left outer done x → Goes d (old ∷ outer) done x
       home x (gone_here h within) = goes_here (s.begun x h) (s.up_old (length done + length x), within)

@@ -1,8 +1,7 @@
 -- Truncations: a component is read where a bit is at hand, and behind the last one nothing is left.
-use Rattle.std.proofs.Common.{◌≡◌, ℕ, zero, suc, ◌+◌, ◌-◌, ◌*◌, ◌%◌, ◌<◌, ◌≤◌, ◌⊎◌, inl, inr, List, [], ◌∷◌, ◌++◌, length, drop, take, refl, sym, ◌∙◌, ap, subst, arith, append_assoc, append-nil, length-append, Option, Some, slice_get}
-use Rattle.std.proofs.Math.Seq.{drop-append_seam}
+use Rattle.std.proofs.Common.{◌≡◌, ℕ, suc, ◌+◌, ◌-◌, ◌%◌, ◌<◌, ◌⊎◌, inl, inr, List, [], ◌∷◌, ◌++◌, length, take, refl, sym, ◌∙◌, ap, subst, arith, append_assoc, append-nil, length-append, Option, Some, slice_get}
 use Rattle.csn_desc.specs.declared.moves.Move.{Move}
-use Rattle.csn_desc.specs.declared.moves.Move.TheVariants.{Enter, Bit, Leave}
+use Rattle.csn_desc.specs.declared.moves.Move.TheVariants.{Leave}
 use Rattle.csn_desc.specs.declared.node.Node.TheVariants.{Trunc}
 use Rattle.csn_desc.specs.TreeV.{TreeV, Trees}
 use Rattle.csn_desc.specs.TreeV as tree
@@ -14,55 +13,18 @@ use Rattle.csn_desc.specs.Walks.{bits_of, Walk, LeadWalk}
 use Rattle.csn_desc.specs.Walks as walk
 use Rattle.csn_desc.specs.Formed.{IsDescription}
 use Rattle.csn_look.specs.Ends.{PartsEnd}
-use Rattle.csn_look.specs.Reached.{Reached, InFollow, MayStandBehind}
+use Rattle.csn_look.specs.Reached.{MayStandBehind}
 use Rattle.csn_certify.specs.Conflicts.{Certified}
-use Rattle.csn_certify.specs.Laws.{NoBitFollowsComponents}
 use Rattle.csn_judge.specs.Left.{Left, all_left, none_left, cut_left, lead_left, behind, Completes, completes_all, completes_none, completes_cut, completes_lead, completes_cut_behind, completes_lead_behind, Begins, begins_whole, begins_all, begins_cut, begins_lead, begins_lead_none}
-use Rattle.csn_judge.specs.Remains.{IsUpTo, Within, Rest, rest_next, Goes, goes_next, goes_here, Agrees, Steps}
-use Rattle.csn_judge.specs.Inside.{IsReady, Inside, HasWidth}
-use Rattle.csn_judge.proofs.StepFacts.{rest_from, rest_along, goes_from, goes_along, Both, BeginsBoth, begins_inner, begins_left, BothGone, gone_here, gone_on, both_gone, both_go, within_along, Alike}
-use Rattle.csn_judge.proofs.Parts.{Moving, walk_takes, follow_whole, followed_all, ended}
-use Rattle.csn_judge.proofs.Standing.{Standing, rest_stands, goes_stands, truncation_width}
+use Rattle.csn_judge.specs.Remains.{IsUpTo, Within, Rest, rest_next, Goes, goes_next, goes_here, Steps}
+use Rattle.csn_judge.specs.Inside.{IsReady, Inside}
+use Rattle.csn_judge.proofs.StepFacts.{rest_from, goes_from, Both, BeginsBoth, begins_inner, begins_left, BothGone, gone_here, gone_on, both_gone, both_go, Alike, both_rest, both_goes, rest_both, steps_quietly}
+use Rattle.csn_judge.proofs.Parts.{Moving, walk_takes, follow_whole, followed_all, ended, later_on, later_off, walk_on, walk_off, part_apart}
+use Rattle.csn_judge.proofs.Standing.{rest_stands, goes_stands, truncation_width}
 use Rattle.csn_judge.proofs.LookAhead.{Against, beyond, before, against_of, within_less}
+use Rattle.csn_judge.specs.Known.{Known}
 
 module _ (d : DescV) (laws : Moving) where
-  sees_behind : (j : ℕ) (v : Values) (done b1 : List ℕ) → behind d j (length done) v (done ++ b1) ≡ with_value d.nodes j b1 v
-  sees_behind j v done b1 = ap (λ l. with_value d.nodes j l v) (drop-append_seam done b1)
-
-  lead_on : (parts : List ℕ) (j : ℕ) (v : Values) (done b1 : List ℕ) {b2 : List ℕ} {ts : Trees} → LeadMean d parts (length done + length b1) (with_value d.nodes j b1 v) b2 ts → LeadMean d parts (length (done ++ b1)) (behind d j (length done) v (done ++ b1)) b2 ts
-  lead_on parts j v done b1 {b2} {ts} h =
-      let P : ℕ → Type 0 = λ o. LeadMean d parts o (with_value d.nodes j b1 v) b2 ts in
-      let Q : Values → Type 0 = λ w. LeadMean d parts (length (done ++ b1)) w b2 ts in
-      subst Q (sym (sees_behind j v done b1)) (subst P (sym (length-append done b1)) h)
-
-  lead_off : (parts : List ℕ) (j : ℕ) (v : Values) (done b1 : List ℕ) {b2 : List ℕ} {ts : Trees} → LeadMean d parts (length (done ++ b1)) (behind d j (length done) v (done ++ b1)) b2 ts → LeadMean d parts (length done + length b1) (with_value d.nodes j b1 v) b2 ts
-  lead_off parts j v done b1 {b2} {ts} h =
-      let P : ℕ → Type 0 = λ o. LeadMean d parts o (with_value d.nodes j b1 v) b2 ts in
-      let Q : Values → Type 0 = λ w. LeadMean d parts (length (done ++ b1)) w b2 ts in
-      subst P (length-append done b1) (subst Q (sees_behind j v done b1) h)
-
-  follow_on : (parts : List ℕ) (j : ℕ) (v : Values) (done b1 : List ℕ) {b2 : List ℕ} → PartsFollow d parts (length done + length b1) (with_value d.nodes j b1 v) b2 → PartsFollow d parts (length (done ++ b1)) (behind d j (length done) v (done ++ b1)) b2
-  follow_on parts j v done b1 {b2} h =
-      let P : ℕ → Type 0 = λ o. PartsFollow d parts o (with_value d.nodes j b1 v) b2 in
-      let Q : Values → Type 0 = λ w. PartsFollow d parts (length (done ++ b1)) w b2 in
-      subst Q (sym (sees_behind j v done b1)) (subst P (sym (length-append done b1)) h)
-
-  follow_off : (parts : List ℕ) (j : ℕ) (v : Values) (done b1 : List ℕ) {b2 : List ℕ} → PartsFollow d parts (length (done ++ b1)) (behind d j (length done) v (done ++ b1)) b2 → PartsFollow d parts (length done + length b1) (with_value d.nodes j b1 v) b2
-  follow_off parts j v done b1 {b2} h =
-      let P : ℕ → Type 0 = λ o. PartsFollow d parts o (with_value d.nodes j b1 v) b2 in
-      let Q : Values → Type 0 = λ w. PartsFollow d parts (length (done ++ b1)) w b2 in
-      subst P (length-append done b1) (subst Q (sees_behind j v done b1) h)
-
-  walk_on : (parts : List ℕ) (done b1 : List ℕ) (first : List Move) {ts : Trees} {rest : List Move} → bits_of first ≡ b1 → LeadWalk d parts (length done + length (bits_of first)) ts rest → LeadWalk d parts (length (done ++ b1)) ts rest
-  walk_on parts done b1 first {ts} {rest} takes w =
-      let P : ℕ → Type 0 = λ o. LeadWalk d parts o ts rest in
-      subst P (ap (λ l. length done + length l) takes ∙ sym (length-append done b1)) w
-
-  walk_off : (parts : List ℕ) (done b1 : List ℕ) (first : List Move) {ts : Trees} {rest : List Move} → bits_of first ≡ b1 → LeadWalk d parts (length (done ++ b1)) ts rest → LeadWalk d parts (length done + length (bits_of first)) ts rest
-  walk_off parts done b1 first {ts} {rest} takes w =
-      let P : ℕ → Type 0 = λ o. LeadWalk d parts o ts rest in
-      subst P (length-append done b1 ∙ ap (λ l. length done + length l) (sym takes)) w
-
   -- the components of which the first is j have some bits
   pub record LeadTold (j : ℕ) (ps : List ℕ) (v : Values) (done b : List ℕ) (moves : List Move) : Type 0 where
     pub trees : Trees
@@ -103,19 +65,8 @@ module _ (d : DescV) (laws : Moving) where
       by (lead_next {t = t} {ts = ts} b1 b2 cut h others) (walk.lead_next {t = u} {ts = us} first rest made w ws) e =
           let trees : t ≡ u = cc in
           let later : ts ≡ us = cc in
-          let P : TreeV → Type 0 = λ x. NMeans d j (length done) v b1 x in
           let Q : Trees → Type 0 = λ x. LeadMean d ps (length done + length b1) (with_value d.nodes j b1 v) b2 x in
-          let means = subst P trees h in
-          record {
-            b1 = b1;
-            b2 = b2;
-            first = first;
-            others = rest ++ Leave ∷ [];
-            cut = cut;
-            is = told.leave ∙ ap (λ l. l ++ Leave ∷ []) made ∙ append_assoc first rest (Leave ∷ []);
-            inside = completes_all u means w;
-            outside = completes_lead_behind us (lead_on ps j v done b1 (subst Q later others)) (walk_on ps done b1 first (walk_takes laws d means w) ws) refl;
-          }
+          part_apart d laws rest cut h w trees told.leave made (λ takes. completes_lead_behind us (later_on d laws (λ o w. LeadMean d ps o w b2 us) j v done b1 (subst Q later others)) (walk_on d laws (λ o. LeadWalk d ps o us rest) done b1 first takes ws) refl)
 
   pub lead_together : (j : ℕ) (ps : List ℕ) (v : Values) (done : List ℕ) {b : List ℕ} {moves : List Move} → Both d (all_left j v) (lead_left j (length done) ps v) done b moves → LeadTold j ps v done b moves
   lead_together j ps v done {b} {moves} both = by both.b1 both.b2 both.first both.others both.cut both.is both.inside both.outside
@@ -136,8 +87,8 @@ module _ (d : DescV) (laws : Moving) where
           record {
             trees = tree.more t ts;
             inside = first ++ rest;
-            means = lead_next b1 b2 cut h (lead_off ps j v done b1 means);
-            walks = walk.lead_next first rest refl w (walk_off ps done b1 first (walk_takes laws d h w) ws);
+            means = lead_next b1 b2 cut h (later_off d laws (λ o w. LeadMean d ps o w b2 ts) j v done b1 means);
+            walks = walk.lead_next first rest refl w (walk_off d laws (λ o. LeadWalk d ps o ts rest) done b1 first (walk_takes laws d h w) ws);
             leave = is ∙ ap (λ l. first ++ l) leave ∙ sym (append_assoc first rest (Leave ∷ []));
           }
 
@@ -145,7 +96,7 @@ module _ (d : DescV) (laws : Moving) where
   follow_apart j ps v done (parts_here f) = begins_inner (begins_all f) tt
   follow_apart j ps v done (parts_later b1 b2 cut h rest) =
       let first = ended d laws h in
-      begins_left b1 b2 first.moves cut (completes_all first.tree first.means first.walks) (begins_lead (follow_on ps j v done b1 rest)) tt
+      begins_left b1 b2 first.moves cut (completes_all first.tree first.means first.walks) (begins_lead (later_on d laws (λ o w. PartsFollow d ps o w b2) j v done b1 rest)) tt
 
   pub whole_apart : (j : ℕ) (ps : List ℕ) (v : Values) (done : List ℕ) {b : List ℕ} {moves : List Move} → Both d (all_left j v) (lead_left j (length done) ps v) done b moves → BeginsBoth d (all_left j v) (lead_left j (length done) ps v) done b
   whole_apart j ps v done both = begins_left both.b1 both.b2 both.first both.cut both.inside (begins_whole both.others both.outside) tt
@@ -159,7 +110,7 @@ module _ (d : DescV) (laws : Moving) where
   follow_together j ps v done {b} (begins_left b1 b2 first cut h rest up) = by h rest
     where
       by : Completes d (all_left j v) done b1 first → Begins d (lead_left j (length done) ps v) (done ++ b1) b2 → LeadBegun j ps v done b
-      by (completes_all t means w) (begins_lead f) = lead_follow (parts_later b1 b2 cut means (follow_off ps j v done b1 f))
+      by (completes_all t means w) (begins_lead f) = lead_follow (parts_later b1 b2 cut means (later_off d laws (λ o w. PartsFollow d ps o w b2) j v done b1 f))
       by (completes_all t means w) (begins_lead_none nothing) =
           let same : b1 ≡ b = sym (append-nil b1) ∙ ap (λ l. b1 ++ l) (sym nothing) ∙ sym cut in
           let P : List ℕ → Type 0 = λ l. NMeans d j (length done) v l t in
@@ -177,24 +128,27 @@ pub record AtHand (d : DescV) (k start : ℕ) (parts before after : List ℕ) (v
   pub inner : Inside d fresh outer k start v0
   pub within : Within outer (suc (length done))
 
-module _ (d : DescV) (most : ℕ) (is : IsDescription d) (certified : Certified d most) (moving : Moving) (standing : Standing) (last : NoBitFollowsComponents) where
+behind_none : (done : List ℕ) {b1 : List ℕ} → b1 ≡ [] → done ++ b1 ≡ done
+behind_none done none = ap (λ l. done ++ l) none ∙ append-nil done
+
+module _ (d : DescV) (most : ℕ) (is : IsDescription d) (certified : Certified d most) (moving : Moving) (known : Known d) where
   module _ {k start : ℕ} {parts before after : List ℕ} {v0 : Values} {outer : List Left} {done : List ℕ} (how : AtHand d k start parts before after v0 outer done) where
     -- the truncation does not end before the bit
     no_end : (bit : ℕ) (rest : List ℕ) → MayStandBehind d k (length done % 8) (take (suc (length done) - length done) (bit ∷ rest)) → ⊥
     no_end bit rest stands =
         let one : suc (length done) - length done ≡ 1 = omega arith in
-        last d most k (start % 8) (length done % 8) bit parts before after certified how.at how.split how.ready.reached how.so_far (stands bit [] (ap (λ n. take n (bit ∷ rest)) one))
+        known.components d most k (start % 8) (length done % 8) bit parts before after certified how.at how.split how.ready.reached how.so_far (stands bit [] (ap (λ n. take n (bit ∷ rest)) one))
 
     -- of bits that end what is open, and of bits that can be followed
     pub rest_not_here : (bit : ℕ) {rest b2 : List ℕ} {others : List Move} → bit ∷ rest ≡ b2 → Rest d outer done b2 others → ⊥
     rest_not_here bit {rest} {b2} {others} e o =
         let P : List ℕ → Type 0 = λ l. Rest d outer done l others in
-        no_end bit rest (rest_stands d is standing (suc (length done)) how.inner (truncation_width d how.at) how.within (subst P (sym e) o))
+        no_end bit rest (rest_stands d is known (suc (length done)) how.inner (truncation_width d how.at) how.within (subst P (sym e) o))
 
     pub goes_not_here : (bit : ℕ) {rest b2 : List ℕ} → bit ∷ rest ≡ b2 → Goes d outer done b2 → ⊥
     goes_not_here bit {rest} {b2} e g =
         let P : List ℕ → Type 0 = λ l. Goes d outer done l in
-        no_end bit rest (goes_stands d is standing (suc (length done)) how.inner (truncation_width d how.at) how.within (subst P (sym e) g))
+        no_end bit rest (goes_stands d is known (suc (length done)) how.inner (truncation_width d how.at) how.within (subst P (sym e) g))
 
   -- ---- a component begins
 
@@ -209,30 +163,14 @@ module _ (d : DescV) (most : ℕ) (is : IsDescription d) (certified : Certified 
   module _ {k start : ℕ} {parts earlier : List ℕ} {v0 : Values} {outer : List Left} {done : List ℕ} {old : Left} (j : ℕ) (ps : List ℕ) (v : Values) (how : AtHand d k start parts earlier (j ∷ ps) v0 outer done) (form : Opens old j ps v done) where
     component : (bit : ℕ) (more : List ℕ) → NFollow d j (length done) v [] → Steps d (old ∷ outer) (all_left j v ∷ lead_left j (length done) ps v ∷ outer) done [] (bit ∷ more) []
     component bit more empty =
-        record {
-          ends = λ later rest g. on later rest g;
-          ended = λ later rest g. back _ rest (rest_from d (append-nil done) g);
-          goes = λ b agrees g. goes_from d (sym (append-nil done)) (forth b (against_of b (bit ∷ []) more agrees) g);
-          went = λ b agrees g. home b (both_gone d (goes_from d (append-nil done) g));
-        }
+        steps_quietly d on (λ x rest g. rest_both d [] (λ b moves both. form.whole b moves (lead_together d moving j ps v done both)) g) (λ b agrees g. forth b (against_of b (bit ∷ []) more agrees) g) (λ b agrees g. home b (both_gone d g))
       where
-        same_place : {b1 : List ℕ} → b1 ≡ [] → done ++ b1 ≡ done
-        same_place none = ap (λ l. done ++ l) none ∙ append-nil done
-
-        join : (b1 b2 : List ℕ) (first others : List Move) (x : List ℕ) (rest : List Move) → x ≡ b1 ++ b2 → rest ≡ first ++ others → Both d (all_left j v) (lead_left j (length done) ps v) done b1 first → Rest d outer (done ++ b1) b2 others → Rest d (all_left j v ∷ lead_left j (length done) ps v ∷ outer) done x rest
-        join b1 b2 first others x rest cut made both o =
-            rest_next both.b1 (both.b2 ++ b2) both.first (both.others ++ others) (cut ∙ ap (λ l. l ++ b2) both.cut ∙ append_assoc both.b1 both.b2 b2) (made ∙ ap (λ l. l ++ others) both.is ∙ append_assoc both.first both.others others) both.inside (rest_next both.b2 b2 both.others others refl refl both.outside (rest_from d (ap (λ l. done ++ l) both.cut ∙ sym (append_assoc done both.b1 both.b2)) o))
-
-        on : (later : List ℕ) (rest : List Move) → Rest d (old ∷ outer) done ([] ++ ((bit ∷ more) ++ later)) rest → (final : List Move) × (rest ≡ [] ++ final) × Rest d (all_left j v ∷ lead_left j (length done) ps v ∷ outer) (done ++ []) ((bit ∷ more) ++ later) final
+        on : (later : List ℕ) (rest : List Move) → Rest d (old ∷ outer) done ((bit ∷ more) ++ later) rest → Rest d (all_left j v ∷ lead_left j (length done) ps v ∷ outer) done ((bit ∷ more) ++ later) rest
         on later rest (rest_next b1 b2 first others cut made c o) =
             elim (form.told b1 first c) [
-              | inl none ↦ absurd (rest_not_here how bit (cut ∙ ap (λ l. l ++ b2) none) (rest_from d (same_place none) o))
-              | inr told ↦ (rest, refl, rest_from d (sym (append-nil done)) (join b1 b2 first others _ rest cut made (lead_apart d moving j ps v done told) o))
+              | inl none ↦ absurd (rest_not_here how bit (cut ∙ ap (λ l. l ++ b2) none) (rest_from d (behind_none done none) o))
+              | inr told ↦ both_rest d cut made (lead_apart d moving j ps v done told) o
             ]
-
-        back : (x : List ℕ) (rest : List Move) → Rest d (all_left j v ∷ lead_left j (length done) ps v ∷ outer) done x rest → Rest d (old ∷ outer) done x rest
-        back x rest (rest_next b1 y first others cut made c (rest_next c1 c2 second final cut_more made_more n o)) =
-            rest_next (b1 ++ c1) c2 (first ++ second) final (cut ∙ ap (λ l. b1 ++ l) cut_more ∙ sym (append_assoc b1 c1 c2)) (made ∙ ap (λ l. first ++ l) made_more ∙ sym (append_assoc first second final)) (form.whole (b1 ++ c1) (first ++ second) (lead_together d moving j ps v done (record { b1 = b1; b2 = c1; first = first; others = second; cut = refl; is = refl; inside = c; outside = n }))) (rest_from d (append_assoc done b1 c1) o)
 
         forth : (b : List ℕ) → Against b (bit ∷ []) → Goes d (old ∷ outer) done b → Goes d (all_left j v ∷ lead_left j (length done) ps v ∷ outer) done b
         forth [] against_it g = goes_here (begins_all empty) (tt, (tt, within_less outer _ _ (omega arith) how.within))
@@ -247,12 +185,9 @@ module _ (d : DescV) (most : ℕ) (is : IsDescription d) (certified : Certified 
             ]
         forth (a ∷ b) (beyond later e) (goes_next b1 b2 first cut c g) =
             elim (form.told b1 first c) [
-              | inl none ↦ absurd (goes_not_here how a (cut ∙ ap (λ l. l ++ b2) none) (goes_from d (same_place none) g))
-              | inr told ↦ through (lead_apart d moving j ps v done told)
+              | inl none ↦ absurd (goes_not_here how a (cut ∙ ap (λ l. l ++ b2) none) (goes_from d (behind_none done none) g))
+              | inr told ↦ both_goes d cut (lead_apart d moving j ps v done told) g
             ]
-          where
-            through : Both d (all_left j v) (lead_left j (length done) ps v) done b1 first → Goes d (all_left j v ∷ lead_left j (length done) ps v ∷ outer) done (a ∷ b)
-            through both = goes_next both.b1 (both.b2 ++ b2) both.first (cut ∙ ap (λ l. l ++ b2) both.cut ∙ append_assoc both.b1 both.b2 b2) both.inside (goes_next both.b2 b2 both.others refl both.outside (goes_from d (ap (λ l. done ++ l) both.cut ∙ sym (append_assoc done both.b1 both.b2)) g))
 
         home : (b : List ℕ) → BothGone d (all_left j v) (lead_left j (length done) ps v) outer done b → Goes d (old ∷ outer) done b
         home b (gone_on b1 b2 moves cut both g) = goes_next b1 b2 moves cut (form.whole b1 moves (lead_together d moving j ps v done both)) g
@@ -321,15 +256,12 @@ module _ (d : DescV) (most : ℕ) (is : IsDescription d) (certified : Certified 
         went = λ b agrees g. home b (against_of b (bit ∷ []) more agrees) (goes_from d (append-nil done) g);
       }
     where
-      same_place : {b1 : List ℕ} → b1 ≡ [] → done ++ b1 ≡ done
-      same_place none = ap (λ l. done ++ l) none ∙ append-nil done
-
       old_rest : (x : List ℕ) (rest : List Move) → Rest d (lead_left i from [] v ∷ outer) done (bit ∷ x) rest → ⊥
-      old_rest x rest (rest_next b1 b2 first others cut made (completes_cut_behind some none leave) o) = rest_not_here how bit (cut ∙ ap (λ l. l ++ b2) none) (rest_from d (same_place none) o)
+      old_rest x rest (rest_next b1 b2 first others cut made (completes_cut_behind some none leave) o) = rest_not_here how bit (cut ∙ ap (λ l. l ++ b2) none) (rest_from d (behind_none done none) o)
       old_rest x rest (rest_next b1 b2 first others cut made (completes_lead_behind ts h ws leave) o) = elim h [ ]
 
       new_rest : (x : List ℕ) (rest : List Move) → Rest d (none_left ∷ outer) done (bit ∷ x) rest → ⊥
-      new_rest x rest (rest_next b1 b2 first others cut made (completes_none none leave) o) = rest_not_here how bit (cut ∙ ap (λ l. l ++ b2) none) (rest_from d (same_place none) o)
+      new_rest x rest (rest_next b1 b2 first others cut made (completes_none none leave) o) = rest_not_here how bit (cut ∙ ap (λ l. l ++ b2) none) (rest_from d (behind_none done none) o)
 
       forth : (b : List ℕ) → Against b (bit ∷ []) → Goes d (lead_left i from [] v ∷ outer) done b → Goes d (none_left ∷ outer) done b
       forth [] against_it g = goes_here (begins_whole (Leave ∷ []) (completes_none refl refl)) (tt, within_less outer _ _ (omega arith) how.within)
@@ -337,10 +269,10 @@ module _ (d : DescV) (most : ℕ) (is : IsDescription d) (certified : Certified 
       forth (a ∷ b) against_it (goes_here (begins_lead_none none) within) = absurd (cc)
       forth (a ∷ b) against_it (goes_here (begins_whole moves (completes_cut_behind some none leave)) within) = absurd (cc)
       forth (a ∷ b) against_it (goes_here (begins_whole moves (completes_lead_behind ts h ws leave)) within) = elim h [ ]
-      forth (a ∷ b) against_it (goes_next b1 b2 first cut (completes_cut_behind some none leave) g) = absurd (goes_not_here how a (cut ∙ ap (λ l. l ++ b2) none) (goes_from d (same_place none) g))
+      forth (a ∷ b) against_it (goes_next b1 b2 first cut (completes_cut_behind some none leave) g) = absurd (goes_not_here how a (cut ∙ ap (λ l. l ++ b2) none) (goes_from d (behind_none done none) g))
       forth (a ∷ b) against_it (goes_next b1 b2 first cut (completes_lead_behind ts h ws leave) g) = elim h [ ]
 
       home : (b : List ℕ) → Against b (bit ∷ []) → Goes d (none_left ∷ outer) done b → Goes d (lead_left i from [] v ∷ outer) done b
       home [] against_it g = goes_here (begins_lead_none refl) (tt, within_less outer _ _ (omega arith) how.within)
       home (a ∷ b) against_it (goes_here (begins_whole moves (completes_none none leave)) within) = absurd (cc)
-      home (a ∷ b) against_it (goes_next b1 b2 first cut (completes_none none leave) g) = absurd (goes_not_here how a (cut ∙ ap (λ l. l ++ b2) none) (goes_from d (same_place none) g))
+      home (a ∷ b) against_it (goes_next b1 b2 first cut (completes_none none leave) g) = absurd (goes_not_here how a (cut ∙ ap (λ l. l ++ b2) none) (goes_from d (behind_none done none) g))

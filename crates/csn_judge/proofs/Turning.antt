@@ -1,5 +1,5 @@
 -- Turns of the frames of nodes with parts.
-use Rattle.std.proofs.Common.{inl, inr, ◌≡◌, ℕ, suc, ◌+◌, ◌<◌, ◌≤◌, ◌||◌, nat_lt, Bool, true, false, if◌then◌else◌, List, drop, [], ◌∷◌, ◌++◌, length, reverse, refl, sym, ◌∙◌, ap, subst, arith, append-nil, Option, Some, None, slice_get}
+use Rattle.std.proofs.Common.{inr, ◌≡◌, ℕ, suc, ◌+◌, ◌<◌, ◌≤◌, ◌⊎◌, ◌||◌, nat_lt, Bool, true, false, if◌then◌else◌, List, drop, [], ◌∷◌, ◌++◌, length, reverse, refl, sym, ◌∙◌, ap, subst, arith, append-nil, Option, Some, None, slice_get}
 use Rattle.std.proofs.lemmas.List.{reverse-append}
 use Rattle.std.proofs.lemmas.Option.{slice_get_within}
 use Rattle.std.proofs.lemmas.Bool.{ltb-true}
@@ -8,7 +8,7 @@ use Rattle.csn_desc.specs.declared.moves.Move.TheVariants.{Leave}
 use Rattle.csn_desc.specs.declared.node.Node.{Node}
 use Rattle.csn_desc.specs.Nodes.{DescV}
 use Rattle.csn_desc.specs.Values.{Values, count_of}
-use Rattle.csn_desc.specs.Formed.{Formed, formed, IsDescription}
+use Rattle.csn_desc.specs.Formed.{Formed, formed}
 use Rattle.csn_judge.specs.declared.frame.Frame.{Frame}
 use Rattle.csn_judge.specs.declared.frame.Frame.TheVariants as frame
 use Rattle.csn_judge.specs.declared.values.Value.{Value}
@@ -20,12 +20,12 @@ use Rattle.csn_judge.specs.Coming.{Coming}
 use Rattle.csn_judge.specs.Told.{Tells, tells_none, tells_leave}
 use Rattle.csn_desc.specs.Values.{is_named, is_labelled}
 use Rattle.csn_desc.specs.Formed.{is_counted}
-use Rattle.csn_judge.specs.Left.{Left, bits_left, symbols_left, spare_left, pad_left, rest_left, choice_left, free_left, cut_left, parts_left, lead_left, window_left, completes_window, all_left, none_left, turns_left, behind}
+use Rattle.csn_judge.specs.Left.{Left, bits_left, symbols_left, spare_left, pad_left, rest_left, choice_left, free_left, cut_left, parts_left, lead_left, window_left, completes_window, all_left, none_left, turns_left}
 use Rattle.csn_judge.specs.Remains.{Passes, Within, Goes, Rest, rest_next}
-use Rattle.csn_judge.specs.Inside.{IsStack, stack_node, IsReady, AreOwed, IsFresh, fresh_as, fresh_turn, of_all, of_turns, of_read, of_window}
-use Rattle.csn_judge.specs.Shown.{kept_of, seen_in, seen_behind, limit_in, Round, Repeats, Cuts, round_none, round_choice, round_named, round_window, round_seq, round_trunc, round_times, round_many, Shows, shows_none, shows_begin, shows_turns, shows_free, shows_taken, shows_labelled, shows_window, shows_parts, shows_lead}
-use Rattle.csn_judge.specs.Turns.{IsStopped, Turns, IsPassed, passed_choice, passed_label, fresh_at, begun_by, StateV, state_of, state_with, Stands, GoesOn, around_of}
-use Rattle.csn_judge.proofs.StepFacts.{steps_none, goes_along, rest_from, goes_from, split, popped, replaced, none_taken, alike}
+use Rattle.csn_judge.specs.Inside.{IsStack, stack_node, AreOwed, IsFresh, fresh_as, fresh_turn, of_all, of_turns, of_read, of_window}
+use Rattle.csn_judge.specs.Shown.{kept_of, seen_in, seen_behind, limit_in, Round, Repeats, Cuts, round_none, round_choice, round_named, round_window, round_seq, round_trunc, round_times, round_many, Shows, shows_none, shows_begin, shows_turns, shows_free, shows_taken, shows_labelled, shows_window, shows_parts, shows_lead, shows_leaf, shows_counted, shows_open, shows_cut}
+use Rattle.csn_judge.specs.Turns.{IsStopped, Turns, IsPassed, passed_choice, passed_label, fresh_at, begun_by, StateV, Stands, GoesOn, around_of, RefusesAt}
+use Rattle.csn_judge.proofs.StepFacts.{steps_none, goes_along, goes_from, split, popped, replaced, none_taken, alike, steps_then}
 use Rattle.csn_judge.proofs.Refusing.{window_stuck}
 use Rattle.csn_judge.proofs.Parts.{Moving}
 use Rattle.csn_judge.proofs.Choosing.{nothing_goes}
@@ -66,6 +66,22 @@ module _ (d : DescV) where
   round_length (round_times is round) = ap suc (round_length round)
   round_length (round_many is round) = ap suc (round_length round)
 
+  -- and there is room for a frame that is put back
+  pub frames_room : {next : ℕ} {fresh : Option ℕ} {top : Frame} {frames : List Frame} {values : List Value} {stack : List Left} {done : List ℕ}
+      → Shows d (top ∷ frames) values stack done → IsStack d next fresh stack done → length frames < 64
+  frames_room (shows_begin seen kept round) is = omega (arith, room is, round_length round)
+  frames_room (shows_leaf shows kept round) is = omega (arith, room is, round_length round)
+  frames_room (shows_counted label unit width from at field counts began number order sum some n kept round) is = omega (arith, room is, round_length round)
+  frames_room (shows_open at seen kept round) is = omega (arith, room is, round_length round)
+  frames_room (shows_cut at seen kept count round) is = omega (arith, room is, round_length round)
+  frames_room (shows_lead parts has kept round) is = omega (arith, room is, round_length round)
+  frames_room (shows_parts parts has kept round) is = omega (arith, room is, round_length round)
+  frames_room (shows_turns is_of kept round) is = omega (arith, room is, round_length round)
+  frames_room (shows_free is_of kept round) is = omega (arith, room is, round_length round)
+  frames_room (shows_taken i is_of kept round) is = omega (arith, room is, round_length round)
+  frames_room (shows_labelled i is_of kept round) is = omega (arith, room is, round_length round)
+  frames_room (shows_window i is_of kept round) is = omega (arith, room is, round_length round)
+
   -- behind a node the frames round it show what is left of theirs
   pub shown_behind : {frames : List Frame} {outer : List Left} {k : ℕ} {values : List Value} (done : List ℕ)
       → Round d frames outer k → values ≡ kept_of d (seen_behind d outer done) → Shows d frames values outer done
@@ -78,42 +94,35 @@ module _ (d : DescV) where
   shown_behind done (round_times is round) kept = shows_turns is kept round
   shown_behind done (round_many is round) kept = shows_free is kept round
 
-  -- a node that no count stands on adds no value
-  kept_alone : (i : ℕ) (b : List ℕ) (v : Values) (labelled : Bool) → is_counted d.nodes i ≡ false
-      → kept_of d (if labelled then (i, b) ∷ v else v) ≡ kept_of d v
-  kept_alone i b v true alone = rw alone refl
-  kept_alone i b v false alone = refl
+  -- behind a node that adds no value the same are kept
+  kept_plain : {frames : List Frame} {outer : List Left} {k : ℕ} (done : List ℕ) → Round d frames outer k
+      → ((b : List ℕ) (v : Values) → kept_of d (if is_named d.nodes k then (k, b) ∷ v else v) ≡ kept_of d v)
+      → kept_of d (seen_behind d outer done) ≡ kept_of d (seen_in outer)
+  kept_plain done (round_none first) plain = refl
+  kept_plain done (round_choice is round) plain = refl
+  kept_plain done (round_named is round) plain = refl
+  kept_plain done (round_window is round) plain = refl
+  kept_plain done (round_seq {from = from} {v = v} parts is round) plain = plain (drop from done) v
+  kept_plain done (round_trunc {from = from} {v = v} parts is round) plain = plain (drop from done) v
+  kept_plain done (round_times is round) plain = refl
+  kept_plain done (round_many is round) plain = refl
 
+  -- as one that no count stands on
   pub kept_behind : {frames : List Frame} {outer : List Left} {k : ℕ} (done : List ℕ)
       → Round d frames outer k → is_counted d.nodes k ≡ false → kept_of d (seen_behind d outer done) ≡ kept_of d (seen_in outer)
-  kept_behind done (round_none first) alone = refl
-  kept_behind done (round_choice is round) alone = refl
-  kept_behind done (round_named is round) alone = refl
-  kept_behind done (round_window is round) alone = refl
-  kept_behind done (round_seq {i = i} {from = from} {v = v} parts is round) alone = kept_alone i (drop from done) v (is_named d.nodes i) alone
-  kept_behind done (round_trunc {i = i} {from = from} {v = v} parts is round) alone = kept_alone i (drop from done) v (is_named d.nodes i) alone
-  kept_behind done (round_times is round) alone = refl
-  kept_behind done (round_many is round) alone = refl
+  kept_behind {k = k} done round alone = kept_plain done round (λ b v. by b v (is_named d.nodes k))
+    where
+      by : (b : List ℕ) (v : Values) (labelled : Bool) → kept_of d (if labelled then (k, b) ∷ v else v) ≡ kept_of d v
+      by b v true = rw alone refl
+      by b v false = refl
 
-  -- nor does one that is no label
+  -- and one that is no label
   pub unnamed : (k : ℕ) {node : Node} → slice_get d.nodes k ≡ Some node → is_labelled (Some node) ≡ false → is_named d.nodes k ≡ false
   unnamed k at plain = ap (λ n. is_labelled n) at ∙ plain
 
-  kept_same : (i : ℕ) (b : List ℕ) (v : Values) (labelled : Bool) → labelled ≡ false
-      → kept_of d (if labelled then (i, b) ∷ v else v) ≡ kept_of d v
-  kept_same i b v true plain = absurd (cc)
-  kept_same i b v false plain = refl
-
   pub kept_unnamed : {frames : List Frame} {outer : List Left} {k : ℕ} (done : List ℕ)
       → Round d frames outer k → is_named d.nodes k ≡ false → kept_of d (seen_behind d outer done) ≡ kept_of d (seen_in outer)
-  kept_unnamed done (round_none first) plain = refl
-  kept_unnamed done (round_choice is round) plain = refl
-  kept_unnamed done (round_named is round) plain = refl
-  kept_unnamed done (round_window is round) plain = refl
-  kept_unnamed done (round_seq {i = i} {from = from} {v = v} parts is round) plain = kept_same i (drop from done) v (is_named d.nodes i) plain
-  kept_unnamed done (round_trunc {i = i} {from = from} {v = v} parts is round) plain = kept_same i (drop from done) v (is_named d.nodes i) plain
-  kept_unnamed done (round_times is round) plain = refl
-  kept_unnamed done (round_many is round) plain = refl
+  kept_unnamed done round plain = kept_plain done round (λ b v. rw plain refl)
 
   -- ---- a repetition by number
 
@@ -139,6 +148,10 @@ module _ (d : DescV) where
       by true back = fresh_as refl
       by false true = fresh_turn refl
       by false false = fresh_as refl
+
+  -- as the code counts
+  pub begun_again : {next : Pace} (pace : Pace) (i : ℕ) → next ≡ record { next = i + 1; again = pace.again || nat_lt i pace.next } → next ≡ begun_by i pace
+  begun_again pace i e = let one : i + 1 ≡ suc i = omega arith in e ∙ ap (λ (k : ℕ). record { next = k; again = pace.again || nat_lt i pace.next }) one
 
   -- it is as it was where the number rises
   pub begun_rising : (i place : ℕ) (pace : Pace) → pace.next ≤ i → fresh_at (begun_by i pace) place ≡ fresh_at pace place
@@ -238,17 +251,9 @@ module _ (d : DescV) where
   pub passes_then : {ended : Bool} {old middle new : List Left} {done ahead : List ℕ} {made : List Move}
       → Passes d ended old middle done [] ahead [] → Passes d ended middle new done [] ahead made
       → Passes d ended old new done [] ahead made
-  passes_then {done = done} first second =
-      record {
-        ends = λ later rest e h.
-            let middle = first.ends later rest e h in
-            let after = second.ends later middle.0 e (rest_from d (append-nil done) middle.2) in
-            (after.0, middle.1 ∙ after.1, after.2);
-        ended_by = λ later more e h.
-            first.ended_by later (_ ++ more) e (rest_from d (sym (append-nil done)) (second.ended_by later more e h));
-        goes = λ b going agrees g. second.goes b going agrees (goes_from d (append-nil done) (first.goes b going agrees g));
-        went = λ b going agrees g. first.went b going agrees (goes_from d (sym (append-nil done)) (second.went b going agrees g));
-      }
+  passes_then {ended} {middle = middle} {new} {done} {ahead} {made} first second =
+      let P : List ℕ → Type 0 = λ l. Passes d ended middle new l [] ahead made in
+      steps_then d [] [] first (subst P (sym (append-nil done)) second)
 
   -- where no turn is left
   pub turns_done : {next : ℕ} {fresh : Option ℕ} → Known d → {i : ℕ} {v : Values} {outer : List Left} {done : List ℕ}
@@ -256,33 +261,26 @@ module _ (d : DescV) where
   turns_done known (stack_node k from w bits ready (of_turns at same turn order none up turned) inside) =
       stack_node k from w bits ready (of_read (turns_read d 12 known.description known.certified at turn order _ none) (up_part d [] _ [] at refl up)) inside
 
+  -- a state stays as it is
+  abbrev pub stays_as : {S : Type 0} (takes : S → Move → Node → S → Type 0) (s : S) (state : StateV) {stack : List Left} {done : List ℕ}
+      → Stands d state stack done → GoesOn d takes state state s s stack done
+  stays_as takes s state {stack} {done} stands =
+      record {
+        now = stack;
+        taken = [];
+        made = [];
+        stands = subst (λ (l : List ℕ). Stands d state stack l) (sym (append-nil done)) stands;
+        bits = refl;
+        ended = refl;
+        steps = passes_of state.coming.ended (steps_none d stack done state.coming.bits);
+        tells = tells_none refl refl;
+      }
+
   module _ {S : Type 0} (takes : S → Move → Node → S → Type 0) (before : S) (values : List Value) (pace : Pace) (coming : Coming) where
     abbrev pub state : List Frame → StateV
     state frames = record { frames = frames; values = values; pace = pace; coming = coming }
 
-    -- no bits are taken
-    pub still :
-        {frames others : List Frame} {more : List Value} {after : S} {stack now : List Left} {done : List ℕ} {made : List Move} (next : Pace)
-        → coming.place ≡ length done → Shows d others more now done → IsStack d next.next (fresh_at next (length done)) now done → coming.limit ≡ limit_in now
-        → AreOwed now done coming.bits → Passes d coming.ended stack now done [] coming.bits made
-        → Tells d takes (around_of frames) made (around_of others) before after
-        → GoesOn d takes (state frames) (record { frames = others; values = more; pace = next; coming = coming }) before after stack done
-    still {others = others} {more = more} {now = now} {done = done} next place shows is limit owed passes told =
-        let same : done ++ [] ≡ done = append-nil done in
-        record {
-          now = now;
-          taken = [];
-          made = _;
-          stands =
-              subst (λ (l : List ℕ). Stands d (record { frames = others; values = more; pace = next; coming = coming }) now l) (sym same)
-              (record { shows = shows; stack_is = is; place = place; limit = limit; owed = owed });
-          bits = refl;
-          ended = refl;
-          steps = passes;
-          tells = told;
-        }
-
-    -- the same where the innermost window ends elsewhere
+    -- no bits are taken, and the innermost window may end elsewhere
     pub still_until :
         {frames others : List Frame} {more : List Value} {after : S} {stack now : List Left} {done : List ℕ} {made : List Move} (next : Pace) (later : Coming)
         → later.bits ≡ coming.bits → later.ended ≡ coming.ended
@@ -305,48 +303,57 @@ module _ (d : DescV) where
           tells = told;
         }
 
-    -- what is open takes no bit here: it stays as it is
-    pub stops :
-        (frames : List Frame) (turn : Turn) → IsStopped coming turn → Known d
-        → ((stack : List Left) (done : List ℕ) → Stands d (state frames) stack done → (bit : ℕ) (rest : List ℕ) → ¬ Goes d stack done (bit ∷ rest))
-        → ((stack : List Left) (done : List ℕ) → Stands d (state frames) stack done → (rest : List Move) → ¬ Rest d stack done [] rest)
-        → Turns d takes (state frames) (state frames) before before turn
-    stops frames Moved stopped known stuck unended = absurd stopped
-    stops frames Waits (none, held, inside) known stuck unended = λ stack done stands.
-        let within = within_limit stack (length done) (rw (← stands.place, ← stands.limit) inside) in
-        let same : done ++ [] ≡ done = append-nil done in
-        record {
-          on =
-              record {
-                now = stack;
-                taken = [];
-                made = [];
-                stands = subst (λ (l : List ℕ). Stands d (state frames) stack l) (sym same) stands;
-                bits = refl;
-                ended = refl;
-                steps = passes_of coming.ended (steps_none d stack done coming.bits);
-                tells = tells_none refl refl;
-              };
-          few = omega (arith, ap (λ (l : List ℕ). length l) none);
-          held = omega (arith, held, ap (λ (l : List ℕ). length l) none);
-          followed = λ going. goes_from d (sym same) (goes_along d (sym none) (nothing_goes d (moving known) known.empties stands.stack_is within));
-          held_ends = λ some. absurd (omega (arith, some, ap (λ (l : List ℕ). length l) none));
-          over = λ ended. inr (λ rest h. unended stack done stands rest (rest_from d same h));
-        }
-    stops frames (Refused place) (bit, rest, is, here, inside) known stuck unended = λ stack done stands.
-        let within = within_limit stack (length done) (rw (← stands.place, ← stands.limit) inside) in
+    -- the same where it ends there too
+    pub still :
+        {frames others : List Frame} {more : List Value} {after : S} {stack now : List Left} {done : List ℕ} {made : List Move} (next : Pace)
+        → coming.place ≡ length done → Shows d others more now done → IsStack d next.next (fresh_at next (length done)) now done → coming.limit ≡ limit_in now
+        → AreOwed now done coming.bits → Passes d coming.ended stack now done [] coming.bits made
+        → Tells d takes (around_of frames) made (around_of others) before after
+        → GoesOn d takes (state frames) (record { frames = others; values = more; pace = next; coming = coming }) before after stack done
+    still next place shows is limit owed passes told = still_until next coming refl refl place shows is limit owed passes told
+
+    -- the bits that come can be followed up to a place and no further, and no move is made
+    pub refuses_behind :
+        {frames : List Frame} {stack : List Left} {done : List ℕ} {place : ℕ} (new : StateV) (alike : List ℕ) (bit : ℕ) (later : List ℕ)
+        → Stands d (state frames) stack done → coming.bits ≡ alike ++ bit ∷ later → place ≡ coming.place + length alike
+        → Goes d stack done alike → ¬ Goes d stack done (alike ++ bit ∷ [])
+        → RefusesAt d takes (state frames) new before before stack done place
+    refuses_behind new alike bit later stands bits there followed no_further =
         record {
           made = [];
           around = _;
-          alike = [];
+          alike = alike;
           bit = bit;
-          later = rest;
-          bits = is;
-          place_is = omega (arith, here, stands.place);
-          followed = nothing_goes d (moving known) known.empties stands.stack_is within;
-          no_further = stuck stack done stands bit [];
+          later = later;
+          bits = bits;
+          place_is = there ∙ ap (λ k. k + length alike) stands.place;
+          followed = followed;
+          no_further = no_further;
           tells = tells_none refl refl;
         }
+
+    -- what is open takes no bit here: it stays as it is
+    pub stops :
+        (frames : List Frame) (turn : Turn) → IsStopped coming turn → Known d
+        → ((stack : List Left) (done : List ℕ) → Stands d (state frames) stack done → (bit : ℕ) (rest : List ℕ) → coming.bits ≡ bit ∷ rest → ¬ Goes d stack done (bit ∷ []))
+        → ((stack : List Left) (done : List ℕ) → Stands d (state frames) stack done → coming.ended ≡ true → (frames ≡ []) ⊎ ((rest : List Move) → ¬ Rest d stack done [] rest))
+        → Turns d takes (state frames) (state frames) before before turn
+    stops frames Moved stopped known stuck over = absurd stopped
+    stops frames Waits (none, held, inside) known stuck over = λ stack done stands.
+        let within = within_limit stack (length done) (rw (← stands.place, ← stands.limit) inside) in
+        let same : done ≡ done ++ [] = sym (append-nil done) in
+        let P : List ℕ → Type 0 = λ l. (frames ≡ []) ⊎ ((rest : List Move) → ¬ Rest d stack l [] rest) in
+        record {
+          on = stays_as takes before (state frames) stands;
+          few = omega (arith, ap (λ (l : List ℕ). length l) none);
+          held = omega (arith, held, ap (λ (l : List ℕ). length l) none);
+          followed = λ going. goes_from d same (goes_along d (sym none) (nothing_goes d (moving known) known.empties stands.stack_is within));
+          held_ends = λ some. absurd (omega (arith, some, ap (λ (l : List ℕ). length l) none));
+          over = λ ended. subst P same (over stack done stands ended);
+        }
+    stops frames (Refused place) (bit, rest, is, here, inside) known stuck over = λ stack done stands.
+        let within = within_limit stack (length done) (rw (← stands.place, ← stands.limit) inside) in
+        refuses_behind (state frames) [] bit rest stands is (omega (arith, here)) (nothing_goes d (moving known) known.empties stands.stack_is within) (stuck stack done stands bit rest is)
 
     -- frames and values that are the same go on in the same way
     pub GoesOn-along :
@@ -392,10 +399,7 @@ module _ (d : DescV) where
         → coming.limit ≡ limit_in outer → AreOwed outer done coming.bits
         → Passes d coming.ended stack (none_left ∷ outer) done [] coming.bits []
         → GoesOn d takes (state (top ∷ frames)) (record { frames = frames; values = more; pace = pace; coming = coming }) before after stack done
-    leaves {frames = frames} {outer = outer} {done = done} node known at told around place is round kept limit owed passes =
-        still pace place (shown_behind done round kept) (left_stack pace known is) limit owed
-        (passes_then passes (passes_of coming.ended (popped d coming.bits (nothing_goes d (moving known) known.empties (left_stack pace known is)))))
-        (rw around (tells_leave node _ at told (tells_none refl refl)))
+    leaves node known at told around place is round kept limit owed passes = leaves_until coming refl refl node known at told around place is round kept limit owed passes
 
     -- a turn of a repetition begins
     pub begins_turn :
@@ -431,28 +435,27 @@ module _ (d : DescV) where
         (subst (λ (l : List Left). AreOwed l done coming.bits) is stands.owed)
         (passes_of coming.ended (replaced d coming.bits (none_taken d) (alike d (no_turns d (moving known) i t.v done)))))
 
+    leaves_taken :
+        {top : Frame} {k i : ℕ} {frames : List Frame} {after : S} {stack : List Left} {done : List ℕ}
+        (node : Node) → TakenStand k frames values stack → k ≡ i → around_of (top ∷ frames) ≡ k ∷ around_of frames → Known d → Stands d (state (top ∷ frames)) stack done
+        → slice_get d.nodes i ≡ Some node → takes before Leave node after
+        → GoesOn d takes (state (top ∷ frames)) (state frames) before after stack done
+    leaves_taken {top} {frames = frames} {after} {stack} {done} node t same around known stands at told =
+        let P : List Left → Type 0 = λ l. GoesOn d takes (state (top ∷ frames)) (state frames) before after l done in
+        subst P (sym t.is)
+        (leaves node known at told (around ∙ ap (λ j. j ∷ around_of frames) same) stands.place (subst (λ (l : List Left). IsStack d pace.next (fresh_at pace (length done)) l done) t.is stands.stack_is)
+        (subst (λ j. Round d frames t.outer j) same t.round) (t.kept ∙ sym (t.plain done)) (stands.limit ∙ ap (λ (l : List Left). limit_in l) t.is)
+        (subst (λ (l : List Left). AreOwed l done coming.bits) t.is stands.owed)
+        (passes_of coming.ended (steps_none d (none_left ∷ t.outer) done coming.bits)))
+
     -- a choice or a label is left behind its part
     pub passes_by :
         {top : Frame} {i : ℕ} {frames : List Frame} {after : S} {stack : List Left} {done : List ℕ}
         (node : Node) → IsPassed top i → Known d → Stands d (state (top ∷ frames)) stack done
         → slice_get d.nodes i ≡ Some node → takes before Leave node after
         → GoesOn d takes (state (top ∷ frames)) (state frames) before after stack done
-    passes_by {frames = frames} {after} {stack} {done} node (passed_choice {k} same) known stands at told =
-        let t = taken_stand stands.shows in
-        let P : List Left → Type 0 = λ l. GoesOn d takes (state (frame.Choice k ∷ frames)) (state frames) before after l done in
-        subst P (sym t.is)
-        (leaves node known at told (ap (λ j. j ∷ around_of frames) same) stands.place (subst (λ (l : List Left). IsStack d pace.next (fresh_at pace (length done)) l done) t.is stands.stack_is)
-        (subst (λ j. Round d frames t.outer j) same t.round) (t.kept ∙ sym (t.plain done)) (stands.limit ∙ ap (λ (l : List Left). limit_in l) t.is)
-        (subst (λ (l : List Left). AreOwed l done coming.bits) t.is stands.owed)
-        (passes_of coming.ended (steps_none d (none_left ∷ t.outer) done coming.bits)))
-    passes_by {frames = frames} {after} {stack} {done} node (passed_label {k} same) known stands at told =
-        let t = labelled_stand stands.shows in
-        let P : List Left → Type 0 = λ l. GoesOn d takes (state (frame.Named k ∷ frames)) (state frames) before after l done in
-        subst P (sym t.is)
-        (leaves node known at told (ap (λ j. j ∷ around_of frames) same) stands.place (subst (λ (l : List Left). IsStack d pace.next (fresh_at pace (length done)) l done) t.is stands.stack_is)
-        (subst (λ j. Round d frames t.outer j) same t.round) (t.kept ∙ sym (t.plain done)) (stands.limit ∙ ap (λ (l : List Left). limit_in l) t.is)
-        (subst (λ (l : List Left). AreOwed l done coming.bits) t.is stands.owed)
-        (passes_of coming.ended (steps_none d (none_left ∷ t.outer) done coming.bits)))
+    passes_by node (passed_choice same) known stands at told = leaves_taken node (taken_stand stands.shows) same refl known stands at told
+    passes_by node (passed_label same) known stands at told = leaves_taken node (labelled_stand stands.shows) same refl known stands at told
 
     -- a window is left behind its part
     pub ends_window :
@@ -480,14 +483,14 @@ module _ (d : DescV) where
         → Turns d takes (state (frame.Window k end limit ∷ frames)) (state (frame.Window k end limit ∷ frames)) before before turn
     window_stops k end limit frames turn stopped known not =
         stops (frame.Window k end limit ∷ frames) turn stopped known
-        (λ stack done stands bit rest g.
+        (λ stack done stands bit rest is g.
         let t = window_stands stands.shows in
-        let P : List Left → Type 0 = λ l. Goes d l done (bit ∷ rest) in
-        window_stuck d end bit rest (λ here. not (stands.place ∙ here)) (subst P t.is g))
-        (λ stack done stands rest h.
+        let P : List Left → Type 0 = λ l. Goes d l done (bit ∷ []) in
+        window_stuck d end bit [] (λ here. not (stands.place ∙ here)) (subst P t.is g))
+        (λ stack done stands ended. inr (λ rest h.
         let t = window_stands stands.shows in
         let P : List Left → Type 0 = λ l. Rest d l done [] rest in
-        window_unended (λ here. not (stands.place ∙ here)) (subst P t.is h))
+        window_unended (λ here. not (stands.place ∙ here)) (subst P t.is h)))
       where
         window_unended : {outer : List Left} {done b : List ℕ} {rest : List Move} → ¬ (length done ≡ end) → ¬ Rest d (window_left end ∷ outer) done b rest
         window_unended not (rest_next b1 b2 first others cut made (completes_window none here leave) o) = not here

@@ -1,5 +1,5 @@
 -- Turns of the frame of a choice that is not decided.
-use Rattle.std.proofs.Common.{inl, inr, ◌≡◌, ℕ, zero, suc, ◌+◌, ◌-◌, ◌%◌, ◌<◌, ◌≤◌, ◌⊎◌, Bool, true, false, List, take, drop, [], ◌∷◌, ◌++◌, length, min, refl, sym, ◌∙◌, ap, subst, arith, append-nil, append_assoc, length-append, Option, Some, slice_get}
+use Rattle.std.proofs.Common.{inl, inr, ◌≡◌, ℕ, zero, suc, ◌+◌, ◌-◌, ◌%◌, ◌<◌, ◌≤◌, ◌⊎◌, Bool, true, false, List, take, drop, [], ◌∷◌, ◌++◌, length, min, refl, sym, ◌∙◌, ap, subst, arith, append-nil, append_assoc, length-append, Some, slice_get}
 use Rattle.std.proofs.lemmas.List.{take_all, length-take-le, take-append-drop}
 use Rattle.csn_desc.specs.declared.moves.Move.{Move}
 use Rattle.csn_desc.specs.declared.node.Node.{Node}
@@ -14,25 +14,26 @@ use Rattle.csn_judge.specs.declared.frame.Frame.TheVariants as frame
 use Rattle.csn_judge.specs.declared.values.Value.{Value}
 use Rattle.csn_judge.specs.declared.pace.Pace.{Pace}
 use Rattle.csn_judge.specs.declared.turn.Turn.{Turn}
-use Rattle.csn_judge.specs.declared.turn.Turn.TheVariants.{Moved, Waits, Refused}
+use Rattle.csn_judge.specs.declared.turn.Turn.TheVariants.{Waits, Refused}
 use Rattle.csn_judge.specs.Known.{Known}
 use Rattle.csn_judge.specs.Picked.{IsNotRefused}
 use Rattle.csn_judge.specs.Coming.{Coming, IsGood}
 use Rattle.csn_judge.specs.Told.{tells_none}
 use Rattle.csn_judge.specs.Left.{Left, all_left, none_left, choice_left}
-use Rattle.csn_judge.specs.Remains.{Within, Goes, Rest, rest_next, Steps, Passes}
+use Rattle.csn_judge.specs.Remains.{Within, Goes, Rest, Steps, Passes}
 use Rattle.csn_judge.specs.Inside.{IsStack, AreOwed}
 use Rattle.csn_judge.specs.Shown.{kept_of, seen_in, limit_in, TakesAlternative, Round, round_choice, Shows, shows_begin, shows_open}
-use Rattle.csn_judge.specs.Turns.{fresh_at, begun_by, StateV, Stands, GoesOn, WaitsOn, RefusesAt, Turns, IsStopped}
-use Rattle.csn_judge.proofs.StepFacts.{steps_none, goes_along, goes_from, rest_from, completes_along}
+use Rattle.csn_judge.specs.Turns.{fresh_at, begun_by, StateV, Stands, GoesOn, Turns, IsStopped}
+use Rattle.csn_judge.proofs.StepFacts.{goes_along, goes_from, rest_from}
 use Rattle.csn_judge.proofs.Closing.{Full, passes_of, null_full, null_last}
 use Rattle.csn_judge.proofs.Choosing.{Undecided, nothing_goes, wait_goes, refused, wait_full, refused_empty, wait_ends, refused_never}
-use Rattle.csn_judge.proofs.LookAhead.{take_decided, within_less}
+use Rattle.csn_judge.proofs.LookAhead.{take_decided}
 use Rattle.csn_judge.proofs.Stacks.{Begun, of_begun, alternative_begun, alternative_rises}
-use Rattle.csn_judge.proofs.Decided.{choice_at, Decided, decided, part_empty, waits_or_refuses}
-use Rattle.csn_judge.proofs.LeafStacks.{full_at, limit_within, standing}
-use Rattle.csn_judge.proofs.Rooms.{first_of, IsCut, cut_behind, deciding, refusing}
-use Rattle.csn_judge.proofs.Turning.{moving, risen, room, round_length, begun_within, within_limit, state, still}
+use Rattle.csn_judge.proofs.Decided.{choice_at, decided, part_empty, waits_or_refuses}
+use Rattle.csn_judge.proofs.LeafStacks.{full_at, limit_within}
+use Rattle.csn_judge.proofs.Rooms.{first_of, IsCut, cut_behind}
+use Rattle.csn_judge.proofs.Turning.{moving, risen, room, round_length, begun_within, within_limit, state, still, stops, stays_as, refuses_behind}
+use Rattle.csn_judge.proofs.Verdicts.{never_ends}
 
 module _ (d : DescV) where
   pub record OpenStands (k : ℕ) (frames : List Frame) (values : List Value) (stack : List Left) : Type 0 where
@@ -58,11 +59,18 @@ module _ (d : DescV) where
       let at = choice_at d known t.at (subst (λ (l : List Left). IsStack d pace.next (fresh_at pace (length done)) l done) t.is is) in
       asked_choice t.parts t.at at.0.ready.reached
 
-  pub open_room : {k : ℕ} {frames : List Frame} {values : List Value} {stack : List Left} {done : List ℕ} (pace : Pace)
-      → Shows d (frame.Open k ∷ frames) values stack done → IsStack d pace.next (fresh_at pace (length done)) stack done → length frames < 64
-  open_room {done = done} pace shows is =
+  -- the part of one begins: it is a node of the description, and there is room for the frame round it
+  pub alternative_room : {k part : ℕ} {frames : List Frame} {values : List Value} {stack : List Left} {done : List ℕ} (pace : Pace) (j : ℕ) (parts : List ℕ) → Known d
+      → slice_get d.nodes k ≡ Some (Choice parts) → slice_get parts j ≡ Some part
+      → Shows d (frame.Open k ∷ frames) values stack done → IsStack d pace.next (fresh_at pace (length done)) stack done
+      → (part < length d.nodes) × (length frames < 63)
+  alternative_room {part = part} {done = done} pace j parts known here_k here shows is =
       let t = open_stands shows in
-      omega (arith, room d (subst (λ (l : List Left). IsStack d pace.next (fresh_at pace (length done)) l done) t.is is), round_length d t.round)
+      let same : parts ≡ t.parts = let a = t.at in cc in
+      let here_part : slice_get t.parts j ≡ Some part = ap (λ l. slice_get l j) (sym same) ∙ here in
+      let at = choice_at d known t.at (subst (λ (l : List Left). IsStack d pace.next (fresh_at pace (length done)) l done) t.is is) in
+      let begun = of_begun d (alternative_begun d 12 known.description known.certified j t.at here_part at.0) in
+      (begun_within d begun, omega (arith, room d begun, round_length d t.round))
 
   module _ {S : Type 0} (takes : S → Move → Node → S → Type 0) (before : S) (values : List Value) (pace : Pace) (coming : Coming) where
     -- where a choice stands
@@ -73,7 +81,7 @@ module _ (d : DescV) where
       pub place : coming.place ≡ length done
       pub limit : coming.limit ≡ limit_in stands.outer
       pub owed : AreOwed stands.outer done coming.bits
-      pub how : Undecided d 12 known.description known.certified (moving d known) (standing d known) (refusing known) k stands.parts stands.v stands.outer done
+      pub how : Undecided d 12 known.description known.certified (moving d known) known k stands.parts stands.v stands.outer done
 
     pub at_choice : {k : ℕ} {frames : List Frame} {stack : List Left} {done : List ℕ} (known : Known d)
         → Stands d (state d takes before values pace coming (frame.Open k ∷ frames)) stack done → AtChoice k frames stack done known
@@ -121,7 +129,7 @@ module _ (d : DescV) where
         let found = decided d known t.at here_part at.begun (within_limit d t.outer (length done + length (bit ∷ rest)) (omega (arith, less, at.place, at.limit))) (subst (λ o. Picks d 12 k (o % 8) (bit ∷ rest) false (Take j)) at.place picks) in
         let P : List ℕ → Type 0 = λ l. Steps d (choice_left t.parts t.v ∷ t.outer) (all_left part t.v ∷ none_left ∷ t.outer) done [] l [] in
         let cut : coming.bits ≡ found.word ++ (found.more ++ later) = e ∙ ap (λ l. l ++ later) found.is ∙ append_assoc found.word found.more later in
-        alternative_begins j known at here_part (passes_of coming.ended (subst P (sym cut) (take_decided d 12 known.description known.certified (moving d known) (standing d known) (deciding known) found.how (found.more ++ later))))
+        alternative_begins j known at here_part (passes_of coming.ended (subst P (sym cut) (take_decided d 12 known.description known.certified (moving d known) known found.how (found.more ++ later))))
 
     -- and where none may be taken
     pub takes_none :
@@ -169,21 +177,11 @@ module _ (d : DescV) where
         let P : List Left → Type 0 = λ l. Goes d l done coming.bits in
         let Q : List Left → List Move → Type 0 = λ l rest. Rest d l done coming.bits rest in
         record {
-          on =
-              record {
-                now = stack;
-                taken = [];
-                made = [];
-                stands = subst (λ (l : List ℕ). Stands d (state d takes before values pace coming (frame.Open k ∷ frames)) stack l) (sym same) stands;
-                bits = refl;
-                ended = refl;
-                steps = passes_of coming.ended (steps_none d stack done coming.bits);
-                tells = tells_none refl refl;
-              };
+          on = stays_as d takes before (state d takes before values pace coming (frame.Open k ∷ frames)) stands;
           few = known.waits_few d 12 k (length done % 8) coming.bits false (omega arith) here;
           held = held;
-          followed = λ going. goes_from d (sym same) (subst P (sym t.is) (wait_goes d 12 known.description known.certified (moving d known) (standing d known) (refusing known) at.how false here within));
-          held_ends = λ some rest h. wait_ends d 12 known.description known.certified (moving d known) (standing d known) (refusing known) at.how some_bits here within (subst (λ l. Q l rest) t.is (rest_from d same h));
+          followed = λ going. goes_from d (sym same) (subst P (sym t.is) (wait_goes d 12 known.description known.certified (moving d known) known at.how false here within));
+          held_ends = λ some rest h. wait_ends d 12 known.description known.certified (moving d known) known at.how some_bits here within (subst (λ l. Q l rest) t.is (rest_from d same h));
           over = λ ended. absurd (some_bits (good.nothing ended));
         }
 
@@ -201,21 +199,12 @@ module _ (d : DescV) where
         let some_bits : ¬ (held ≡ []) = λ none. omega (arith, some, ap (λ l. length l) none) in
         let P : List Left → List ℕ → Type 0 = λ l b. Goes d l done b in
         let small : limit_in t.outer < 4294967295 = omega (arith, at.limit, full, good.fits, ap (λ l. length l) e, length-append held (bit ∷ later)) in
-        record {
-          made = [];
-          around = _;
-          alike = held;
-          bit = bit;
-          later = later;
-          bits = e;
-          place_is = omega (arith, here_place, at.place);
-          followed = subst (λ l. P l held) (sym t.is) (wait_goes d 12 known.description known.certified (moving d known) (standing d known) (refusing known) at.how false here within);
-          no_further = λ g.
-              wait_full d 12 known.description known.certified (moving d known) (standing d known) (refusing known) at.how bit [] some_bits here within
-              (λ p inside. omega (arith, limit_within t.outer p small inside, at.limit, full, at.place))
-              (subst (λ l. P l (held ++ bit ∷ [])) t.is g);
-          tells = tells_none refl refl;
-        }
+        refuses_behind d takes before values pace coming new held bit later stands e here_place
+        (subst (λ l. P l held) (sym t.is) (wait_goes d 12 known.description known.certified (moving d known) known at.how false here within))
+        (λ g.
+        wait_full d 12 known.description known.certified (moving d known) known at.how bit [] some_bits here within
+        (λ p inside. omega (arith, limit_within t.outer p small inside, at.limit, full, at.place))
+        (subst (λ l. P l (held ++ bit ∷ [])) t.is g))
 
     -- ---- it refuses
 
@@ -232,18 +221,9 @@ module _ (d : DescV) where
         let here = subst (λ o. Picks d 12 k (o % 8) (alike ++ bit ∷ []) false Refuse) at.place picks in
         let within : Within t.outer (length done + length (alike ++ bit ∷ [])) = within_limit d t.outer _ (omega (arith, less, at.place, at.limit)) in
         let P : List Left → List ℕ → Type 0 = λ l b. Goes d l done b in
-        record {
-          made = [];
-          around = _;
-          alike = alike;
-          bit = bit;
-          later = later;
-          bits = e;
-          place_is = omega (arith, here_place, at.place);
-          followed = followed stack done stands at shorter;
-          no_further = λ g. refused d 12 known.description known.certified (moving d known) (standing d known) (refusing known) at.how here within (subst (λ l. P l (alike ++ bit ∷ [])) t.is g);
-          tells = tells_none refl refl;
-        }
+        refuses_behind d takes before values pace coming new alike bit later stands e here_place
+        (followed stack done stands at shorter)
+        (λ g. refused d 12 known.description known.certified (moving d known) known at.how here within (subst (λ l. P l (alike ++ bit ∷ [])) t.is g))
       where
         followed : (stack : List Left) (done : List ℕ) → Stands d (state d takes before values pace coming (frame.Open k ∷ frames)) stack done → AtChoice k frames stack done known
             → (alike ≡ []) ⊎ (Picks d 12 k (coming.place % 8) alike false answer × ¬ (answer ≡ Refuse)) → Goes d stack done alike
@@ -258,71 +238,30 @@ module _ (d : DescV) where
                 let waits = waits_or_refuses d alike bit (omega (arith, ap (λ l. length l) is)) t.at other.0 other.1 picks in
                 let here = subst (λ o. Picks d 12 k (o % 8) alike false Wait) at.place waits in
                 let P : List Left → Type 0 = λ l. Goes d l done alike in
-                subst P (sym t.is) (wait_goes d 12 known.description known.certified (moving d known) (standing d known) (refusing known) at.how false here (within_limit d t.outer _ (omega (arith, less, at.place, at.limit, length-append alike (bit ∷ [])))))
+                subst P (sym t.is) (wait_goes d 12 known.description known.certified (moving d known) known at.how false here (within_limit d t.outer _ (omega (arith, less, at.place, at.limit, length-append alike (bit ∷ [])))))
 
     -- nothing is taken where it refuses without bits
     pub stops_open :
         {k : ℕ} (frames : List Frame) (turn : Turn) → IsStopped coming turn → IsGood coming → (coming.ended ≡ true) ⊎ (coming.place ≡ coming.limit)
         → Picks d 12 k (coming.place % 8) [] true Refuse → Known d
         → Turns d takes (state d takes before values pace coming (frame.Open k ∷ frames)) (state d takes before values pace coming (frame.Open k ∷ frames)) before before turn
-    stops_open frames Moved stopped good closed picks known = absurd stopped
-    stops_open {k} frames Waits (none, held, inside) good closed picks known = λ stack done stands.
-        let within = within_limit d stack (length done) (omega (arith, inside, stands.place, stands.limit)) in
-        let same : done ++ [] ≡ done = append-nil done in
-        record {
-          on =
-              record {
-                now = stack;
-                taken = [];
-                made = [];
-                stands = subst (λ (l : List ℕ). Stands d (state d takes before values pace coming (frame.Open k ∷ frames)) stack l) (sym same) stands;
-                bits = refl;
-                ended = refl;
-                steps = passes_of coming.ended (steps_none d stack done coming.bits);
-                tells = tells_none refl refl;
-              };
-          few = omega (arith, ap (λ (l : List ℕ). length l) none);
-          held = omega (arith, held, ap (λ (l : List ℕ). length l) none);
-          followed = λ going. goes_from d (sym same) (goes_along d (sym none) (nothing_goes d (moving d known) known.empties stands.stack_is within));
-          held_ends = λ some. absurd (omega (arith, some, ap (λ (l : List ℕ). length l) none));
-          over = λ ended. inr (λ rest h. unended stack done (at_choice known stands) rest (rest_from d same h));
-        }
-      where
-        unended : (stack : List Left) (done : List ℕ) → AtChoice k frames stack done known → (rest : List Move) → ¬ Rest d stack done [] rest
-        unended stack done at rest h =
-            let P : List Left → Type 0 = λ l. Rest d l done [] rest in
-            by (subst P at.stands.is h)
-          where
-            front_none : (b1 b2 : List ℕ) → [] ≡ b1 ++ b2 → b1 ≡ []
-            front_none [] b2 e = refl
-            front_none (a ∷ b1) b2 e = absurd (cc)
-
-            by : ¬ Rest d (choice_left at.stands.parts at.stands.v ∷ at.stands.outer) done [] rest
-            by (rest_next b1 b2 first others cut made c o) =
-                refused_never d 12 known.description known.certified (moving d known) (standing d known) (refusing known) at.how
-                (subst (λ o. Picks d 12 k (o % 8) [] true Refuse) at.place picks) first (completes_along d (front_none b1 b2 cut) c)
-    stops_open {k} frames (Refused place) (bit, rest, is, here, inside) good closed picks known = λ stack done stands.
+    stops_open {k} frames turn stopped good closed picks known =
+        stops d takes before values pace coming (frame.Open k ∷ frames) turn stopped known
+        (λ stack done stands bit rest is g.
         let at = at_choice known stands in
-        let within = within_limit d stack (length done) (omega (arith, inside, stands.place, stands.limit)) in
         let P : List Left → Type 0 = λ l. Goes d l done (bit ∷ []) in
-        record {
-          made = [];
-          around = _;
-          alike = [];
-          bit = bit;
-          later = rest;
-          bits = is;
-          place_is = omega (arith, here, stands.place);
-          followed = nothing_goes d (moving d known) known.empties stands.stack_is within;
-          no_further = λ g.
-              refused_empty d 12 known.description known.certified (moving d known) (standing d known) (refusing known) at.how bit []
-              (subst (λ o. Picks d 12 k (o % 8) [] true Refuse) at.place picks) (full at.stands.outer done at.limit at.place closed) (subst P at.stands.is g);
-          tells = tells_none refl refl;
-        }
+        refused_empty d 12 known.description known.certified (moving d known) known at.how bit []
+        (subst (λ o. Picks d 12 k (o % 8) [] true Refuse) at.place picks) (full is closed at.stands.outer done at.limit at.place) (subst P at.stands.is g))
+        (λ stack done stands ended. inr (λ rest h.
+        let at = at_choice known stands in
+        let P : List Left → Type 0 = λ l. Rest d l done [] rest in
+        never_ends d
+        (refused_never d 12 known.description known.certified (moving d known) known at.how (subst (λ o. Picks d 12 k (o % 8) [] true Refuse) at.place picks))
+        (subst P at.stands.is h)))
       where
-        full : (outer : List Left) (done : List ℕ) → coming.limit ≡ limit_in outer → coming.place ≡ length done → (coming.ended ≡ true) ⊎ (coming.place ≡ coming.limit) → Full outer done
-        full outer done limit place (inl over) = absurd (omega (arith, ap (λ l. length l) (sym is ∙ good.nothing over)))
-        full outer done limit place (inr there) = full_at outer done (sym place ∙ there ∙ limit) (omega (arith, good.fits, place))
+        full : {bit : ℕ} {rest : List ℕ} → coming.bits ≡ bit ∷ rest → (coming.ended ≡ true) ⊎ (coming.place ≡ coming.limit) → (outer : List Left) (done : List ℕ) → coming.limit ≡ limit_in outer → coming.place ≡ length done → Full outer done
+        full is (inl over) outer done limit place = absurd (omega (arith, ap (λ l. length l) (sym is ∙ good.nothing over)))
+        full is (inr there) outer done limit place = full_at outer done (sym place ∙ there ∙ limit) (omega (arith, good.fits, place))
 
     -- look-ahead refuses the bits that are ready, and not so many of them
     pub refuses_open :

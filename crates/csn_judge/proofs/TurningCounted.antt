@@ -7,7 +7,7 @@ use Rattle.std.specs.Option.{option_and_then}
 use Rattle.std.specs.Int.Bits.{bit_or}
 use Rattle.std.proofs.Math.Pow.{pow_mono}
 use Rattle.std.proofs.lemmas.Nat.{or_shifted}
-use Rattle.std.proofs.lemmas.List.{drop-append-le, append_cancel_right}
+use Rattle.std.proofs.lemmas.List.{drop-append-le, append_cancel_right, nil_from_length}
 use Rattle.std.proofs.lemmas.Bool.Decides.{leb_tells}
 use Rattle.csn_bits.specs.Octets.{IsBits}
 use Rattle.csn_bits.specs.Numbers.{number_of}
@@ -36,15 +36,15 @@ use Rattle.csn_bits.proofs.NumberFacts.{number_of-append, number_of-lt}
 use Rattle.csn_judge.specs.Told.{BitsTold, Tells, tells_none, tells_leave}
 use Rattle.csn_judge.specs.Remains.{Passes}
 use Rattle.csn_judge.specs.Turns.{IsStopped, Turns, fresh_at, StateV, Stands, GoesOn, around_of}
-use Rattle.csn_judge.proofs.StepFacts.{popped, steps_none}
+use Rattle.csn_judge.proofs.StepFacts.{popped, steps_none, steps_then}
 use Rattle.csn_judge.proofs.Closing.{passes_of}
 use Rattle.csn_judge.proofs.Choosing.{nothing_goes}
 use Rattle.csn_judge.proofs.Refusing.{bits_wanted}
 use Rattle.csn_judge.proofs.Turning.{moving, shown_behind, left_stack}
-use Rattle.csn_judge.proofs.TurningOn.{passes_on, waits_then, refuses_then}
+use Rattle.csn_judge.proofs.TurningOn.{waits_then, refuses_then}
 use Rattle.csn_judge.proofs.LeafReads.{Given, IsReadied, taken_of, split, size, good_taken, field_all, field_some}
 use Rattle.csn_judge.proofs.TurningLeaves.{paced, paced_stack, tells_bits, IsShort, stops_short}
-use Rattle.csn_judge.proofs.Leaves.{bits_joined, no_bits_if}
+use Rattle.csn_bits.proofs.Packing.{IsBits-append}
 
 -- ---- a labelled field that some count stands on
 
@@ -171,7 +171,7 @@ number_more front back number bits n good more size few is_front is_back =
     let whole : number_of (front ++ back) ≡ number * 2 ^ n + bits =
     number_of-append front back ∙ ap (λ k. number_of front * 2 ^ k + number_of back) size ∙ ap (λ k. k * 2 ^ n + number_of back) (sym is_front) ∙ ap (λ k. number * 2 ^ n + k) (sym is_back) in
     let long : length (front ++ back) ≤ 16 = omega (arith, length-append front back, size, few) in
-    let all : number_of (front ++ back) < 65536 = omega (arith, number_of-lt (front ++ back) (bits_joined front back good more), pow_mono long, word) in
+    let all : number_of (front ++ back) < 65536 = omega (arith, number_of-lt (front ++ back) (IsBits-append front back good more), pow_mono long, word) in
     let high : number * 2 ^ n % 4294967296 ≡ number * 2 ^ n = below (number * 2 ^ n) (omega (arith, all, whole)) in
     ap (λ k. bit_or k bits) high ∙ or_shifted number n bits less ∙ sym whole
   where
@@ -247,7 +247,7 @@ module _ (d : DescV) where
   closed_of {most} {n} {old} {new} r none some =
       elim (leb_tells 1 (length new.bits)) [
         | inl there ↦ inr (omega (arith, there.1, some, none, r.count, r.good.inside))
-        | inr few ↦ inl (no_bits_if new.bits (omega (arith, few.1)))
+        | inr few ↦ inl (nil_from_length new.bits (omega (arith, few.1)))
       ]
 
   module _ {S : Type 0} (takes : S → Move → Node → S → Type 0) (before : S) (values : List Value) (pace : Pace) (old new : Coming) (counted : Counted) (frames : List Frame) (field : Node) where
@@ -347,7 +347,7 @@ module _ (d : DescV) where
           };
           bits = on.bits;
           ended = on.ended;
-          steps = subst P (sym t.is) (subst Q (append-nil on.taken) (passes_on d on.taken [] on.steps (passes_on d [] [] first second)));
+          steps = subst P (sym t.is) (subst Q (append-nil on.taken) (steps_then d on.taken [] on.steps (steps_then d [] [] first second)));
           tells =
               tells_bits d takes field counted.part (counted.node ∷ around_of frames) on.taken look on.told
               (tells_leave field left look leave_field (tells_leave label after label_at leave_label (tells_none refl refl)));
@@ -369,12 +369,12 @@ module _ (d : DescV) where
               (record {
                 shows = stands.shows;
                 stack_is = stands.stack_is;
-                place = r.place ∙ stands.place;
-                limit = r.limit ∙ stands.limit;
-                owed = subst (λ (l : List ℕ). AreOwed stack done l) (sym r.bits) stands.owed;
+                place = r.same.place ∙ stands.place;
+                limit = r.same.limit ∙ stands.limit;
+                owed = subst (λ (l : List ℕ). AreOwed stack done l) (sym r.same.bits) stands.owed;
               });
-          bits = sym r.bits;
-          ended = r.ended;
+          bits = sym r.same.bits;
+          ended = r.same.ended;
           steps = passes_of old.ended (steps_none d stack done new.bits);
           tells = tells_none refl refl;
         }

@@ -1,5 +1,5 @@
 -- A node is entered.
-use Rattle.std.proofs.Common.{inl, inr, ◌≡◌, ℕ, zero, suc, ◌+◌, ◌*◌, ◌%◌, ◌<◌, ◌≤◌, ◌⊎◌, Bool, true, false, List, take, drop, [], ◌∷◌, ◌++◌, length, min, refl, sym, ◌∙◌, ap, subst, arith, append-nil, append_assoc, length-append, Option, Some, slice_get}
+use Rattle.std.proofs.Common.{inl, inr, ◌≡◌, ℕ, suc, ◌+◌, ◌*◌, ◌<◌, ◌≤◌, ◌⊎◌, false, List, take, [], ◌∷◌, ◌++◌, length, min, refl, sym, ◌∙◌, ap, subst, arith, append-nil, Some, slice_get}
 use Rattle.std.proofs.lemmas.List.{take_all}
 use Rattle.std.proofs.lemmas.Option.{slice_get_within}
 use Rattle.csn_desc.specs.declared.moves.Move.{Move}
@@ -13,7 +13,6 @@ use Rattle.csn_desc.specs.Values.{Values, count_of}
 use Rattle.csn_desc.specs.Formed.{Formed, formed, HasParts}
 use Rattle.csn_judge.specs.declared.frame.Frame.{Frame}
 use Rattle.csn_judge.specs.declared.frame.Frame.TheVariants as frame
-use Rattle.csn_judge.specs.declared.leaf.Leaf.{Leaf}
 use Rattle.csn_judge.specs.declared.leaf.Leaf.TheVariants as leaf
 use Rattle.csn_judge.specs.declared.values.Value.{Value}
 use Rattle.csn_judge.specs.declared.pace.Pace.{Pace}
@@ -21,11 +20,11 @@ use Rattle.csn_judge.specs.Known.{Known}
 use Rattle.csn_judge.specs.Coming.{Coming}
 use Rattle.csn_judge.specs.Remains.{Passes}
 use Rattle.csn_judge.specs.Told.{tells_none, tells_enter, tells_leave}
-use Rattle.csn_judge.specs.Left.{Left, all_left, bits_left, symbols_left, spare_left, pad_left, rest_left, choice_left, none_left, window_left, parts_left, turns_left, free_left, cut_left}
-use Rattle.csn_judge.specs.Inside.{IsStack, stack_node, AreOwed, of_all}
-use Rattle.csn_judge.specs.Shown.{kept_of, seen_in, seen_behind, limit_in, KeepsCount, SeesMore, HasNext, Cuts, Repeats, RepeatsFreely, LeafShows, shows_lits, shows_spare, shows_pad, shows_field, shows_rest, Round, round_seq, round_window, Shows, shows_begin, shows_leaf, shows_open, shows_turns, shows_free, shows_cut}
+use Rattle.csn_judge.specs.Left.{Left, all_left, bits_left, symbols_left, spare_left, pad_left, rest_left, choice_left, none_left, window_left, turns_left, free_left, cut_left}
+use Rattle.csn_judge.specs.Inside.{IsStack, AreOwed}
+use Rattle.csn_judge.specs.Shown.{kept_of, seen_in, limit_in, KeepsCount, HasNext, Cuts, shows_lits, shows_spare, shows_pad, shows_field, shows_rest, Round, round_seq, round_window, Shows, shows_begin, shows_leaf, shows_open, shows_turns, shows_free, shows_cut}
 use Rattle.csn_judge.specs.Turns.{fresh_at, begun_by, around_of, StateV, Stands, StandsSomewhere, GoesOn}
-use Rattle.csn_judge.proofs.StepFacts.{Replaces, replaced, none_taken, split, steps_then, popped}
+use Rattle.csn_judge.proofs.StepFacts.{replaced, none_taken, split, popped, steps_then}
 use Rattle.csn_judge.proofs.Closing.{passes_of}
 use Rattle.csn_judge.proofs.Choosing.{nothing_goes}
 use Rattle.csn_judge.proofs.Entering.{Enters, enters, enter_literal, enter_null, enter_choice, enter_turns, enter_free, enter_cut, enter_field, enter_spare, enter_pad, enter_rest}
@@ -33,8 +32,7 @@ use Rattle.csn_judge.proofs.Parts.{enter_sequence}
 use Rattle.csn_judge.proofs.Wholes.{enter_window}
 use Rattle.csn_judge.proofs.Stacks.{head_formed, Begun, begun_of, just_begun, of_begun, first_next, field_stack, literal_stack, spare_stack, pad_stack, rest_stack, null_stack, choice_stack, turns_stack, free_stack, cut_stack, sequence_begun, window_begun}
 use Rattle.csn_judge.proofs.CountsKept.{has_number}
-use Rattle.csn_judge.proofs.TurningOn.{passes_on}
-use Rattle.csn_judge.proofs.Turning.{moving, room, round_length, risen, left_stack, shown_behind, kept_unnamed, unnamed, state, still, still_until}
+use Rattle.csn_judge.proofs.Turning.{moving, risen, left_stack, shown_behind, kept_unnamed, unnamed, state, still, still_until}
 
 module _ (d : DescV) where
   pub record BeginStands (i : ℕ) (frames : List Frame) (values : List Value) (stack : List Left) : Type 0 where
@@ -107,9 +105,6 @@ module _ (d : DescV) where
         where
           by : {seen : List ℕ} {round k : ℕ} → Formed d.nodes seen round k → k < length d.nodes
           by (formed n here few head have bound others) = slice_get_within d.nodes _ n here
-
-      pub frames_few : length frames < 64
-      frames_few = let a = at_begin stands in omega (arith, room d (of_begun d a.begun), round_length d a.stands.round)
 
       pub some_parts : (parts : List ℕ) → slice_get d.nodes i ≡ Some (Seq parts) → 0 < length parts
       some_parts parts here = omega (arith, has_parts parts here (at_begin stands).begun.ready.formed)
@@ -277,7 +272,7 @@ module _ (d : DescV) where
           (still d takes before values pace coming pace a.place
           (shown_behind d done a.stands.round (a.stands.kept ∙ ap (λ w. kept_of d w) a.stands.seen ∙ sym (kept_unnamed d done a.stands.round (unnamed d _ here refl))))
           behind a.limit a.owed
-          (passes_on d [] [] entered (subst Q (sym (append-nil done)) gone))
+          (steps_then d [] [] entered (subst Q (sym (append-nil done)) gone))
           (tells_enter Null _ here told (tells_leave Null _ here left (tells_none refl refl))))
 
 -- what stands behind a step stands somewhere

@@ -1,5 +1,5 @@
 -- Turns of the frame of a free repetition.
-use Rattle.std.proofs.Common.{inl, inr, ◌≡◌, ℕ, zero, suc, ◌+◌, ◌-◌, ◌%◌, ◌<◌, ◌≤◌, ◌⊎◌, Bool, true, false, List, take, [], ◌∷◌, ◌++◌, length, min, refl, sym, ◌∙◌, ap, subst, arith, append-nil, Option, Some, slice_get}
+use Rattle.std.proofs.Common.{◌≡◌, ℕ, zero, suc, ◌-◌, ◌%◌, ◌<◌, ◌≤◌, ◌⊎◌, true, false, List, take, [], ◌∷◌, length, min, refl, sym, ◌∙◌, ap, subst, arith, Option, Some, slice_get}
 use Rattle.csn_desc.specs.declared.moves.Move.{Move}
 use Rattle.csn_desc.specs.declared.moves.Move.TheVariants.{Leave}
 use Rattle.csn_desc.specs.declared.node.Node.{Node}
@@ -7,10 +7,8 @@ use Rattle.csn_desc.specs.declared.node.Node.TheVariants.{Many}
 use Rattle.csn_desc.specs.Nodes.{DescV}
 use Rattle.csn_desc.specs.Values.{Values}
 use Rattle.csn_look.specs.Starts.{InStart}
-use Rattle.csn_look.specs.Reached.{Reached}
 use Rattle.csn_certify.specs.declared.pick.Pick.{Pick}
 use Rattle.csn_certify.specs.declared.pick.Pick.TheVariants.{Take}
-use Rattle.csn_certify.specs.declared.pick.Pick.TheVariants as pick
 use Rattle.csn_certify.specs.Picks.{IsAsked, asked_many, Picks, pick_key, pick_none, pick_wait, pick_refuse, pick_again, pick_leave}
 use Rattle.csn_judge.specs.declared.frame.Frame.{Frame}
 use Rattle.csn_judge.specs.declared.frame.Frame.TheVariants as frame
@@ -22,14 +20,14 @@ use Rattle.csn_judge.specs.Told.{tells_none}
 use Rattle.csn_judge.specs.Left.{Left, all_left, none_left, free_left}
 use Rattle.csn_judge.specs.Remains.{Steps, Passes}
 use Rattle.csn_judge.specs.Inside.{IsStack, stack_node, AreOwed, of_free, of_read}
-use Rattle.csn_judge.specs.Shown.{kept_of, seen_in, limit_in, RepeatsFreely, Round, round_many, Shows, shows_begin, shows_free}
-use Rattle.csn_judge.specs.Turns.{fresh_at, begun_by, StateV, Stands, GoesOn}
-use Rattle.csn_judge.proofs.Closing.{passes_of, closed_full, closed_last, free_ends}
+use Rattle.csn_judge.specs.Shown.{kept_of, limit_in, RepeatsFreely, Round, round_many, Shows, shows_begin, shows_free}
+use Rattle.csn_judge.specs.Turns.{fresh_at, begun_by, Stands, GoesOn}
+use Rattle.csn_judge.proofs.Closing.{passes_of, free_ends}
 use Rattle.csn_judge.proofs.Choosing.{node_empty}
 use Rattle.csn_judge.proofs.LookAhead.{Repeats, take_turn, leave_free}
 use Rattle.csn_judge.proofs.Stacks.{Begun, of_begun, free_begun, free_read, up_part}
-use Rattle.csn_judge.proofs.LeafStacks.{full_at, standing}
-use Rattle.csn_judge.proofs.Rooms.{first_of, deciding}
+use Rattle.csn_judge.proofs.LeafStacks.{closed_passes}
+use Rattle.csn_judge.proofs.Rooms.{first_of}
 use Rattle.csn_judge.proofs.Turning.{moving, begun_fresh, kept_unnamed, unnamed, within_limit, state, still, leaves}
 
 module _ (d : DescV) where
@@ -89,9 +87,9 @@ module _ (d : DescV) where
 
   repeats_at : {i : ℕ} {v : Values} {outer : List Left} {done : List ℕ} (pace : Pace) (bit : ℕ) (known : Known d) → Begun d (fresh_at (begun_by i pace) (length done)) i v (free_left i v ∷ outer) done
       → IsStack d pace.next (fresh_at pace (length done)) (free_left i v ∷ outer) done → suc (length done) ≤ limit_in outer
-      → (k from : ℕ) × Repeats d 12 known.description known.certified (moving d known) (standing d known) (deciding known) k i from v outer done bit
+      → (k from : ℕ) × Repeats d 12 known.description known.certified (moving d known) known k i from v outer done bit
   repeats_at {i} {v} {outer} {done} pace bit known begun (stack_node k from w bits ready (of_free at same so_far order up turned) inside) room =
-      let P : Values → Type 0 = λ u. Repeats d 12 known.description known.certified (moving d known) (standing d known) (deciding known) k i from u outer done bit in
+      let P : Values → Type 0 = λ u. Repeats d 12 known.description known.certified (moving d known) known k i from u outer done bit in
       (k, from, subst P (sym same) (record { at = at; ready = ready; reached = begun.ready.reached; fresh = _; inner = inside; within = within_limit d outer (suc (length done)) room }))
 
   again_steps : {i : ℕ} {v : Values} {outer : List Left} {done : List ℕ} (pace : Pace) (bit : ℕ) (more : List ℕ) → Known d
@@ -101,7 +99,7 @@ module _ (d : DescV) where
   again_steps {i} {v} {outer} {done} pace bit more known is room start =
       let begun = free_begins pace known is in
       let how = repeats_at pace bit known begun is room in
-      take_turn d 12 known.description known.certified (moving d known) (standing d known) (deciding known) how.2 more (pick_again i how.2.at start)
+      take_turn d 12 known.description known.certified (moving d known) known how.2 more (pick_again i how.2.at start)
       (node_empty d (moving d known) known.empties (length done) v begun.ready.formed)
 
   leave_steps : {i : ℕ} {v : Values} {outer : List Left} {done : List ℕ} (pace : Pace) (bit : ℕ) (more : List ℕ) → Known d
@@ -110,7 +108,7 @@ module _ (d : DescV) where
       → Steps d (free_left i v ∷ outer) (none_left ∷ outer) done [] (bit ∷ more) []
   leave_steps {i} {v} {outer} {done} pace bit more known is room never =
       let how = repeats_at pace bit known (free_begins pace known is) is room in
-      leave_free d 12 known.description known.certified (moving d known) (standing d known) (deciding known) how.2 more (pick_leave i how.2.at never)
+      leave_free d 12 known.description known.certified (moving d known) known how.2 more (pick_leave i how.2.at never)
 
   module _ {S : Type 0} (takes : S → Move → Node → S → Type 0) (before : S) (values : List Value) (pace : Pace) (coming : Coming) where
     again_bits : {i : ℕ} {v : Values} {outer : List Left} {done : List ℕ} (bits : List ℕ) → Known d
@@ -148,15 +146,14 @@ module _ (d : DescV) where
         (passes_of coming.ended (again_bits coming.bits known is (omega (arith, room, limit, stands.place)) bit more e (subst (λ o. InStart d i (o % 8) bit) stands.place start)))
         (tells_none refl refl))
 
-    -- it is left, where the bit that comes does not begin its part
-    pub leaves_free :
-        {k i : ℕ} {frames : List Frame} {after : S} {stack : List Left} {done : List ℕ} (bit : ℕ) (more : List ℕ) (node : Node)
-        → coming.bits ≡ bit ∷ more → coming.place < coming.limit → ¬ InStart d i (coming.place % 8) bit
+    -- it is left where it passes with no bits
+    left_free :
+        {k i : ℕ} {frames : List Frame} {after : S} {stack : List Left} {done : List ℕ} (node : Node)
         → slice_get d.nodes k ≡ Some node → takes before Leave node after
-        → Known d → Stands d (state d takes before values pace coming (frame.Many k i ∷ frames)) stack done
+        → Known d → Stands d (state d takes before values pace coming (frame.Many k i ∷ frames)) stack done → (t : FreeStands k i frames values stack)
+        → (IsStack d pace.next (fresh_at pace (length done)) (free_left i t.v ∷ t.outer) done → coming.limit ≡ limit_in t.outer → Passes d coming.ended (free_left i t.v ∷ t.outer) (none_left ∷ t.outer) done [] coming.bits [])
         → GoesOn d takes (state d takes before values pace coming (frame.Many k i ∷ frames)) (state d takes before values pace coming frames) before after stack done
-    leaves_free {k} {i} {frames} {after} {stack} {done} bit more node e room never at told known stands =
-        let t = free_stands stands.shows in
+    left_free {k} {i} {frames} {after} {stack} {done} node at told known stands t passes =
         let P : List Left → Type 0 = λ l. GoesOn d takes (state d takes before values pace coming (frame.Many k i ∷ frames)) (state d takes before values pace coming frames) before after l done in
         let is = subst (λ (l : List Left). IsStack d pace.next (fresh_at pace (length done)) l done) t.is stands.stack_is in
         let limit = stands.limit ∙ ap (λ (l : List Left). limit_in l) t.is in
@@ -164,17 +161,18 @@ module _ (d : DescV) where
         (leaves d takes before values pace coming node known at told refl stands.place (free_done known is) t.round
         (t.kept ∙ ap (λ v. kept_of d v) t.repeats.seen ∙ sym (kept_unnamed d done t.round (unnamed d _ t.repeats.at refl)))
         limit (subst (λ (l : List Left). AreOwed l done coming.bits) t.is stands.owed)
-        (passes_of coming.ended (leave_bits coming.bits known is (omega (arith, room, limit, stands.place)) bit more e (subst (λ o. ¬ InStart d i (o % 8) bit) stands.place never))))
+        (passes is limit))
 
-    closed_passes : {i : ℕ} {v : Values} {outer : List Left} {done : List ℕ} → IsGood coming → (coming.ended ≡ true) ⊎ (coming.place ≡ coming.limit)
-        → coming.place ≡ length done → coming.limit ≡ limit_in outer
-        → Passes d coming.ended (free_left i v ∷ outer) (none_left ∷ outer) done [] coming.bits []
-    closed_passes {i} {v} {outer} {done} good (inl over) place limit =
-        let P : Bool → Type 0 = λ e. Passes d e (free_left i v ∷ outer) (none_left ∷ outer) done [] coming.bits [] in
-        let Q : List ℕ → Type 0 = λ l. Passes d true (free_left i v ∷ outer) (none_left ∷ outer) done [] l [] in
-        subst P (sym over) (subst Q (sym (good.nothing over)) (closed_last d (free_ends d i v done)))
-    closed_passes {i} {v} {outer} {done} good (inr full) place limit =
-        passes_of coming.ended (closed_full d coming.bits (free_ends d i v done) (full_at outer done (sym place ∙ full ∙ limit) (omega (arith, good.fits, place))))
+    -- it is left, where the bit that comes does not begin its part
+    pub leaves_free :
+        {k i : ℕ} {frames : List Frame} {after : S} {stack : List Left} {done : List ℕ} (bit : ℕ) (more : List ℕ) (node : Node)
+        → coming.bits ≡ bit ∷ more → coming.place < coming.limit → ¬ InStart d i (coming.place % 8) bit
+        → slice_get d.nodes k ≡ Some node → takes before Leave node after
+        → Known d → Stands d (state d takes before values pace coming (frame.Many k i ∷ frames)) stack done
+        → GoesOn d takes (state d takes before values pace coming (frame.Many k i ∷ frames)) (state d takes before values pace coming frames) before after stack done
+    leaves_free {i = i} {done = done} bit more node e room never at told known stands =
+        left_free node at told known stands (free_stands stands.shows)
+        (λ is limit. passes_of coming.ended (leave_bits coming.bits known is (omega (arith, room, limit, stands.place)) bit more e (subst (λ o. ¬ InStart d i (o % 8) bit) stands.place never)))
 
     -- and where no bit may be taken
     pub ends_free :
@@ -183,16 +181,9 @@ module _ (d : DescV) where
         → slice_get d.nodes k ≡ Some node → takes before Leave node after
         → Known d → Stands d (state d takes before values pace coming (frame.Many k i ∷ frames)) stack done
         → GoesOn d takes (state d takes before values pace coming (frame.Many k i ∷ frames)) (state d takes before values pace coming frames) before after stack done
-    ends_free {k} {i} {frames} {after} {stack} {done} node good closed at told known stands =
+    ends_free {i = i} {done = done} node good closed at told known stands =
         let t = free_stands stands.shows in
-        let P : List Left → Type 0 = λ l. GoesOn d takes (state d takes before values pace coming (frame.Many k i ∷ frames)) (state d takes before values pace coming frames) before after l done in
-        let is = subst (λ (l : List Left). IsStack d pace.next (fresh_at pace (length done)) l done) t.is stands.stack_is in
-        let limit = stands.limit ∙ ap (λ (l : List Left). limit_in l) t.is in
-        subst P (sym t.is)
-        (leaves d takes before values pace coming node known at told refl stands.place (free_done known is) t.round
-        (t.kept ∙ ap (λ v. kept_of d v) t.repeats.seen ∙ sym (kept_unnamed d done t.round (unnamed d _ t.repeats.at refl)))
-        limit (subst (λ (l : List Left). AreOwed l done coming.bits) t.is stands.owed)
-        (closed_passes good closed stands.place limit))
+        left_free node at told known stands t (λ is limit. closed_passes d good closed stands.place limit (free_ends d i t.v done))
 
     -- ---- by what look-ahead answers
 

@@ -21,19 +21,21 @@ use Rattle.csn_judge.specs.Known.{Known}
 use Rattle.csn_judge.specs.Coming.{Coming}
 use Rattle.csn_judge.specs.Told.{BitsTold, Tells, tells_none, tells_bit, tells_leave}
 use Rattle.csn_judge.specs.Left.{Left, none_left, Completes}
-use Rattle.csn_judge.specs.Remains.{Goes, Rest, rest_next, Passes}
+use Rattle.csn_judge.specs.Remains.{Goes, Rest, Passes}
 use Rattle.csn_judge.specs.Inside.{IsStack, stack_end, stack_node, AreOwed}
 use Rattle.csn_judge.specs.Shown.{kept_of, seen_in, limit_in, Round, LeafShows, shows_lits, shows_spare, shows_pad, shows_field, shows_rest, Shows, shows_leaf}
 use Rattle.csn_judge.specs.Reads.{MayBeLeft, may_lits, may_spare, may_pad, may_field, may_rest, AtLeaf, Takes, Stays, Keeps, Differs, ReadsLeaf}
 use Rattle.csn_judge.specs.Turns.{IsStopped, Turns, fresh_at, StateV, Stands, GoesOn, RefusesAt, around_of}
-use Rattle.csn_judge.proofs.StepFacts.{popped, steps_none, rest_from, goes_from, goes_along, completes_along}
+use Rattle.csn_judge.proofs.StepFacts.{popped, steps_then}
 use Rattle.csn_judge.proofs.Closing.{Full, passes_of}
 use Rattle.csn_judge.proofs.Refusing.{stuck}
 use Rattle.csn_judge.proofs.Choosing.{nothing_goes}
 use Rattle.csn_judge.proofs.Stacks.{stale}
 use Rattle.csn_judge.proofs.LeafStacks.{full_at}
-use Rattle.csn_judge.proofs.Turning.{moving, within_limit, shown_behind, unnamed, kept_unnamed, left_stack}
-use Rattle.csn_judge.proofs.TurningOn.{passes_on, waits_then, refuses_then}
+use Rattle.csn_judge.proofs.Turning.{moving, shown_behind, unnamed, kept_unnamed, left_stack, stops}
+use Rattle.csn_judge.proofs.TurningOn.{waits_then, refuses_then}
+use Rattle.std.proofs.lemmas.List.{nil_from_length}
+use Rattle.csn_judge.proofs.Verdicts.{never_ends}
 
 -- how far the nodes have been gone through, where bits were taken or none
 abbrev pub paced : Bool → Pace → Pace
@@ -140,7 +142,7 @@ module _ (d : DescV) where
           made = map Bit on.taken;
           stands = record {
             shows = shows_leaf k.shows t.kept t.round;
-            stack_is = paced_stack took pace done on.taken (λ e. none_taken on.taken (omega (arith, still e, on.place))) on.stack_is;
+            stack_is = paced_stack took pace done on.taken (λ e. nil_from_length on.taken (omega (arith, still e, on.place))) on.stack_is;
             place = on.place ∙ ap (λ p. p + length on.taken) stands.place ∙ sym (length-append done on.taken);
             limit = on.limit ∙ stands.limit ∙ ap (λ (l : List Left). limit_in l) t.is ∙ leaf_limit t.outer t.shows ∙ sym (leaf_limit t.outer k.shows);
             owed = subst (λ (X : Type 0). X) (sym (leaf_owes t.outer (done ++ on.taken) new.bits k.shows)) on.owed;
@@ -150,10 +152,6 @@ module _ (d : DescV) where
           steps = subst P (sym t.is) on.steps;
           tells = subst Q (append-nil (map Bit on.taken)) (tells_bits takes node i (around_of frames) on.taken at on.told (tells_none refl refl));
         }
-      where
-        none_taken : (taken : List ℕ) → length taken ≡ 0 → taken ≡ []
-        none_taken [] e = refl
-        none_taken (a ∷ taken) e = absurd (omega (arith, e))
 
     -- all of them, and it is left
     pub leaf_ends : {form : Leaf} {stack : List Left} {done : List ℕ} (told : S) (took : Bool) → slice_get d.nodes i ≡ Some node → Known d
@@ -164,7 +162,7 @@ module _ (d : DescV) where
         → GoesOn d takes (leaf_state form) (record { frames = frames; values = values; pace = paced took pace; coming = new }) before after stack done
     leaf_ends {form} {stack} {done} told took at known still stands t on leave =
         let here = done ++ on.taken in
-        let whole = paced_stack took pace done on.taken (λ e. none_taken on.taken (omega (arith, still e, on.place))) on.stack_is in
+        let whole = paced_stack took pace done on.taken (λ e. nil_from_length on.taken (omega (arith, still e, on.place))) on.stack_is in
         let left = left_stack d (paced took pace) known whole in
         let P : List Left → Type 0 = λ l. Passes d old.ended l t.outer done on.taken new.bits (map Bit on.taken ++ Leave ∷ []) in
         let Q : List ℕ → Type 0 = λ l. Passes d old.ended (t.left ∷ t.outer) t.outer done l new.bits (map Bit on.taken ++ Leave ∷ []) in
@@ -184,13 +182,9 @@ module _ (d : DescV) where
           steps =
               subst P (sym t.is)
               (subst Q (append-nil on.taken)
-              (passes_on d on.taken [] on.steps (passes_of old.ended (popped d new.bits (nothing_goes d (moving d known) known.empties left)))));
+              (steps_then d on.taken [] on.steps (passes_of old.ended (popped d new.bits (nothing_goes d (moving d known) known.empties left)))));
           tells = tells_bits takes node i (around_of frames) on.taken at on.told (tells_leave node _ at leave (tells_none refl refl));
         }
-      where
-        none_taken : (taken : List ℕ) → length taken ≡ 0 → taken ≡ []
-        none_taken [] e = refl
-        none_taken (a ∷ taken) e = absurd (omega (arith, e))
 
     -- its bits differ
     pub leaf_refuses : {form : Leaf} {stack : List Left} {done : List ℕ} {next : StateV} (place : ℕ)
@@ -225,14 +219,7 @@ module _ (d : DescV) where
     pub wants : (coming.ended ≡ true) ⊎ (coming.place ≡ coming.limit) → (moves : List Move) → ¬ Completes d left done [] moves
 
   short_unended : {stack : List Left} {done : List ℕ} {coming : Coming} {rest : List Move} → (t : IsShort stack done coming) → coming.ended ≡ true → ¬ Rest d stack done [] rest
-  short_unended {done = done} {rest = rest} t over h = let P : List Left → Type 0 = λ l. Rest d l done [] rest in by (t.wants (inl over)) (subst P t.is h)
-    where
-      front_none : (b1 b2 : List ℕ) → [] ≡ b1 ++ b2 → b1 ≡ []
-      front_none [] b2 e = refl
-      front_none (a ∷ b1) b2 e = absurd (cc)
-
-      by : {left : Left} {outer : List Left} {done : List ℕ} → ((moves : List Move) → ¬ Completes d left done [] moves) → ¬ Rest d (left ∷ outer) done [] rest
-      by never (rest_next b1 b2 first others cut made c o) = never first (completes_along d (front_none b1 b2 cut) c)
+  short_unended {done = done} {rest = rest} t over h = let P : List Left → Type 0 = λ l. Rest d l done [] rest in never_ends d (t.wants (inl over)) (subst P t.is h)
 
   short_stuck : {stack : List Left} {done : List ℕ} {coming : Coming} (bit : ℕ) (t : IsShort stack done coming) → Full t.outer done → coming.place ≡ coming.limit → ¬ Goes d stack done (bit ∷ [])
   short_stuck {done = done} bit t full closed g = let P : List Left → Type 0 = λ l. Goes d l done (bit ∷ []) in stuck d bit [] full (t.wants (inr closed)) (subst P t.is g)
@@ -244,47 +231,15 @@ module _ (d : DescV) where
     pub stops_short : (turn : Turn) → IsStopped coming turn → Known d → coming.place + length coming.bits < 4294967295
         → ((stack : List Left) (done : List ℕ) → Stands d stopped_state stack done → IsShort stack done coming)
         → Turns d takes stopped_state stopped_state before before turn
-    stops_short Moved stopped known small short = absurd stopped
-    stops_short Waits (none, held, inside) known small short = λ stack done stands.
+    stops_short turn stopped known small short =
+        stops d takes before values pace coming frames turn stopped known
+        (λ stack done stands bit rest is.
         let t = short stack done stands in
-        let within = within_limit d stack (length done) (rw (← stands.place, ← stands.limit) inside) in
-        let same : done ++ [] ≡ done = append-nil done in
-        record {
-          on =
-              record {
-                now = stack;
-                taken = [];
-                made = [];
-                stands = subst (λ (l : List ℕ). Stands d stopped_state stack l) (sym same) stands;
-                bits = refl;
-                ended = refl;
-                steps = passes_of coming.ended (steps_none d stack done coming.bits);
-                tells = tells_none refl refl;
-              };
-          few = omega (arith, ap (λ (l : List ℕ). length l) none);
-          held = omega (arith, held, ap (λ (l : List ℕ). length l) none);
-          followed = λ going. goes_from d (sym same) (goes_along d (sym none) (nothing_goes d (moving d known) known.empties stands.stack_is within));
-          held_ends = λ some. absurd (omega (arith, some, ap (λ (l : List ℕ). length l) none));
-          over = λ ended. inr (λ rest h. short_unended t ended (rest_from d same h));
-        }
-    stops_short (Refused place) (bit, rest, is, here, inside) known small short = λ stack done stands.
-        let t = short stack done stands in
-        let within = within_limit d stack (length done) (rw (← stands.place, ← stands.limit) inside) in
         let closed = at_limit t.stops is in
-        record {
-          made = [];
-          around = _;
-          alike = [];
-          bit = bit;
-          later = rest;
-          bits = is;
-          place_is = omega (arith, here, stands.place);
-          followed = nothing_goes d (moving d known) known.empties stands.stack_is within;
-          no_further = short_stuck bit t (full_at t.outer done (sym stands.place ∙ closed ∙ stands.limit ∙ t.limited) (omega (arith, small, stands.place))) closed;
-          tells = tells_none refl refl;
-        }
+        short_stuck bit t (full_at t.outer done (sym stands.place ∙ closed ∙ stands.limit ∙ t.limited) (omega (arith, small, stands.place))) closed)
+        (λ stack done stands ended. inr (λ rest h. short_unended (short stack done stands) ended h))
       where
-        at_limit : (coming.bits ≡ []) ⊎ (coming.place ≡ coming.limit) → coming.bits ≡ bit ∷ rest → coming.place ≡ coming.limit
+        at_limit : {bit : ℕ} {rest : List ℕ} → (coming.bits ≡ []) ⊎ (coming.place ≡ coming.limit) → coming.bits ≡ bit ∷ rest → coming.place ≡ coming.limit
         at_limit (inl none) is = absurd (cc)
         at_limit (inr full) is = full
 

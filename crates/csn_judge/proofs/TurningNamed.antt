@@ -1,5 +1,5 @@
 -- Labels are entered.
-use Rattle.std.proofs.Common.{◌≡◌, ℕ, ◌-◌, ◌*◌, ◌≤◌, true, false, List, [], ◌∷◌, length, drop, refl, sym, ◌∙◌, ap, subst, arith, append-nil, Option, Some, slice_get}
+use Rattle.std.proofs.Common.{◌≡◌, ℕ, ◌*◌, ◌≤◌, true, false, List, [], ◌∷◌, length, drop, refl, sym, ◌∙◌, ap, subst, arith, append-nil, Option, Some, slice_get, ◌<◌}
 use Rattle.std.proofs.lemmas.List.{drop_all}
 use Rattle.csn_bits.specs.Numbers.{number_of}
 use Rattle.csn_desc.specs.declared.moves.Move.{Move}
@@ -12,7 +12,6 @@ use Rattle.csn_desc.specs.Values.{Values}
 use Rattle.csn_desc.specs.Formed.{is_counted}
 use Rattle.csn_judge.specs.declared.frame.Frame.{Frame}
 use Rattle.csn_judge.specs.declared.frame.Frame.TheVariants as frame
-use Rattle.csn_judge.specs.declared.frame.Counted.{Counted}
 use Rattle.csn_judge.specs.declared.values.Value.{Value}
 use Rattle.csn_judge.specs.declared.pace.Pace.{Pace}
 use Rattle.csn_judge.specs.Known.{Known}
@@ -21,30 +20,19 @@ use Rattle.csn_judge.specs.Told.{tells_none, tells_enter}
 use Rattle.csn_judge.specs.Left.{Left, all_left, bits_left, none_left}
 use Rattle.csn_judge.specs.Remains.{Passes}
 use Rattle.csn_judge.specs.Inside.{IsStack, AreOwed}
-use Rattle.csn_judge.specs.Shown.{kept_of, seen_in, limit_in, Round, round_named, Shows, shows_begin, shows_counted}
+use Rattle.csn_judge.specs.Shown.{kept_of, limit_in, round_named, Shows, shows_begin, shows_counted}
 use Rattle.csn_judge.specs.Turns.{StateV, fresh_at, begun_by, Stands, GoesOn}
-use Rattle.csn_judge.proofs.StepFacts.{split, replaced, none_taken}
+use Rattle.csn_judge.proofs.StepFacts.{split, replaced, none_taken, steps_then}
 use Rattle.csn_judge.proofs.Closing.{passes_of}
 use Rattle.csn_judge.proofs.Entering.{enters, enter_field}
 use Rattle.csn_judge.proofs.Wholes.{enter_label}
 use Rattle.csn_judge.proofs.Stacks.{begun_of, of_begun, just_begun, first_next, label_begun, field_stack}
-use Rattle.csn_judge.proofs.Turning.{moving, risen, still}
-use Rattle.csn_judge.proofs.TurningOn.{passes_on}
+use Rattle.csn_judge.proofs.Turning.{moving, risen, still, begun_within, room, round_length}
 use Rattle.csn_judge.proofs.TurningCounted.{counted_width}
 use Rattle.csn_judge.proofs.CountedParents.{counted_began}
+use Rattle.csn_judge.proofs.TurningEntry.{begin_stands}
 
 module _ (d : DescV) where
-  pub record BeginStands (i : ℕ) (frames : List Frame) (values : List Value) (stack : List Left) : Type 0 where
-    pub outer : List Left
-    pub v : Values
-    pub is : stack ≡ all_left i v ∷ outer
-    pub seen : v ≡ seen_in outer
-    pub kept : values ≡ kept_of d v
-    pub round : Round d frames outer i
-
-  pub begin_stands : {i : ℕ} {frames : List Frame} {values : List Value} {stack : List Left} {done : List ℕ} → Shows d (frame.Begin i ∷ frames) values stack done → BeginStands i frames values stack
-  begin_stands (shows_begin seen kept round) = record { outer = _; v = _; is = refl; seen = seen; kept = kept; round = round }
-
   -- the part of a label begins by the next number
   pub part_rises : {next : ℕ} {fresh : Option ℕ} {i part : ℕ} {label : List ℕ} {v : Values} {outer : List Left} {done : List ℕ} → Known d → slice_get d.nodes i ≡ Some (Named label part)
       → IsStack d next fresh (all_left i v ∷ outer) done → next ≤ part
@@ -55,6 +43,20 @@ module _ (d : DescV) where
       → IsStack d (begun_by part pace).next (fresh_at (begun_by part pace) (length done)) (all_left part v ∷ none_left ∷ outer) done
   named_stack pace known at is =
       risen d pace (part_rises known at is) (of_begun d (label_begun d 12 known.description known.certified at (begun_of d is)))
+
+  -- the part of a label that begins is a node, which was not reached before, and there is room for the frame round it
+  pub record LabelBegins (part : ℕ) (frames : List Frame) (pace : Pace) : Type 0 where
+    pub within : part < length d.nodes
+    pub rises : pace.next ≤ part
+    pub room : length frames < 63
+
+  pub label_begins : {i part : ℕ} {label : List ℕ} {frames : List Frame} {values : List Value} {stack : List Left} {done : List ℕ} (pace : Pace) → Known d → slice_get d.nodes i ≡ Some (Named label part)
+      → Shows d (frame.Begin i ∷ frames) values stack done → IsStack d pace.next (fresh_at pace (length done)) stack done → LabelBegins part frames pace
+  label_begins {done = done} pace known at shows is =
+      let t = begin_stands d shows in
+      let here = subst (λ (l : List Left). IsStack d pace.next (fresh_at pace (length done)) l done) t.is is in
+      let begun = named_stack pace known at here in
+      record { within = begun_within d begun; rises = part_rises known at here; room = omega (arith, room d begun, round_length d t.round) }
 
   pub counted_stack : {i part unit width : ℕ} {label : List ℕ} {v : Values} {outer : List Left} {done : List ℕ} (pace : Pace) → Known d → slice_get d.nodes i ≡ Some (Named label part) → slice_get d.nodes part ≡ Some (Field unit (Fixed width))
       → IsStack d pace.next (fresh_at pace (length done)) (all_left i v ∷ outer) done
@@ -70,7 +72,7 @@ module _ (d : DescV) where
         → slice_get d.nodes i ≡ Some node → takes first (Enter i) node after → Stands d begin_state stack done
         → GoesOn d takes begin_state (record { frames = frame.Begin part ∷ frame.Named i ∷ frames; values = values; pace = begun_by part pace; coming = coming }) first after stack done
     label_goes_on {part} {after} {stack} {done} label node known alone at look took stands =
-        let t = begin_stands stands.shows in
+        let t = begin_stands d stands.shows in
         let P : List Left → Type 0 = λ l. GoesOn d takes begin_state (record { frames = frame.Begin part ∷ frame.Named i ∷ frames; values = values; pace = begun_by part pace; coming = coming }) first after l done in
         subst P (sym t.is)
         (still d takes first values pace coming (begun_by part pace) stands.place (shows_begin t.seen t.kept (round_named (record { label = label; at = at; alone = alone }) t.round))
@@ -86,7 +88,7 @@ module _ (d : DescV) where
         → Stands d begin_state stack done
         → GoesOn d takes begin_state (record { frames = frame.Counted (record { node = i; part = part; left = unit * width; number = 0 }) ∷ frames; values = values; pace = begun_by part pace; coming = coming }) first after stack done
     counted_goes_on {part} {unit} {width} {middle} {after} {stack} {done} label node field known counted at width_at look took look_field took_field stands =
-        let t = begin_stands stands.shows in
+        let t = begin_stands d stands.shows in
         let is = subst (λ (l : List Left). IsStack d pace.next (fresh_at pace (length done)) l done) t.is stands.stack_is in
         let begun = begun_of d is in
         let began = counted_began d known.description counted begun.inner in
@@ -101,5 +103,5 @@ module _ (d : DescV) where
         (counted_stack pace known at width_at is)
         (stands.limit ∙ ap (λ (l : List Left). limit_in l) t.is)
         (subst (λ (l : List Left). AreOwed l done coming.bits) t.is stands.owed)
-        (passes_on d [] [] first_step second_step)
+        (steps_then d [] [] first_step second_step)
         (tells_enter node middle look took (tells_enter field after look_field took_field (tells_none refl refl))))

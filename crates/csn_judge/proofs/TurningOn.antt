@@ -1,5 +1,5 @@
 -- One turn after another.
-use Rattle.std.proofs.Common.{◌≡◌, ℕ, ◌+◌, ◌<◌, Bool, true, false, List, [], ◌∷◌, ◌++◌, length, refl, sym, ◌∙◌, ap, subst, arith, append-nil, append_assoc, length-append, reverse, ◌⊎◌, inl, inr}
+use Rattle.std.proofs.Common.{◌≡◌, ℕ, ◌<◌, Bool, true, false, List, [], ◌∷◌, ◌++◌, length, refl, sym, ◌∙◌, ap, subst, arith, append_assoc, length-append, reverse, ◌⊎◌, inl, inr}
 use Rattle.std.specs.Bool.{⊤}
 use Rattle.csn_desc.specs.declared.moves.Move.{Move}
 use Rattle.csn_desc.specs.declared.node.Node.{Node}
@@ -13,14 +13,16 @@ use Rattle.csn_judge.specs.declared.frame.Frame.TheVariants as frame
 use Rattle.csn_judge.specs.declared.values.Value.{Value}
 use Rattle.csn_judge.specs.declared.pace.Pace.{Pace}
 use Rattle.csn_judge.specs.Coming.{Coming}
-use Rattle.csn_judge.specs.Remains.{Rest, Goes, goes_end, Passes, shorter}
+use Rattle.csn_judge.specs.Remains.{Rest, Goes, Passes, shorter}
 use Rattle.csn_judge.specs.Shown.{Shows, shows_none, shows_taken, shows_labelled}
 use Rattle.csn_judge.specs.Turns.{tells_nothing, IsStopped, StateV, Stands, GoesOn, WaitsOn, RefusesAt, Turns}
 use Rattle.std.proofs.lemmas.List.{reverse-append}
 use Rattle.std.proofs.lemmas.Option.{slice_get_within}
-use Rattle.csn_judge.proofs.Closing.{passes_of}
 use Rattle.csn_judge.proofs.Refusing.{nothing_follows}
-use Rattle.csn_judge.proofs.StepFacts.{steps_none, rest_along, rest_from, rest_by, goes_along, goes_from, agrees_behind}
+use Rattle.csn_judge.proofs.StepFacts.{rest_from, goes_along, goes_from, steps_then}
+use Rattle.csn_judge.proofs.Turning.{stops}
+use Rattle.csn_judge.proofs.TurningSame.{turns_as}
+use Rattle.csn_judge.specs.Known.{Known}
 
 -- the frame that was the last is the innermost
 pub popped_frame : {items : List Frame} {last top : Frame} (rest : List Frame) → items ≡ rest ++ last ∷ [] → last ≡ top → reverse items ≡ top ∷ reverse rest
@@ -41,28 +43,6 @@ module _ (d : DescV) where
   tells_then takes (tells_bit node next at took rest) later = tells_bit node next at took (tells_then takes rest later)
   tells_then takes (tells_leave node next at took rest) later = tells_leave node next at took (tells_then takes rest later)
 
-  -- two steps are one
-  pub passes_on : {ended : Bool} {old middle new : List Left} {done ahead : List ℕ} {made more : List Move} (taken also : List ℕ)
-      → Passes d ended old middle done taken (also ++ ahead) made → Passes d ended middle new (done ++ taken) also ahead more
-      → Passes d ended old new done (taken ++ also) ahead (made ++ more)
-  passes_on {done = done} {ahead = ahead} {made = made} {more = more} taken also first second =
-      record {
-        ends = λ later rest e h.
-            let middle = first.ends later rest e (rest_along d (append_assoc taken also (ahead ++ later) ∙ ap (λ l. taken ++ l) (sym (append_assoc also ahead later))) h) in
-            let after = second.ends later middle.0 e (rest_along d (append_assoc also ahead later) middle.2) in
-            (after.0, middle.1 ∙ ap (λ l. made ++ l) after.1 ∙ sym (append_assoc made more after.0), rest_from d (append_assoc done taken also) after.2);
-        ended_by = λ later rest e h.
-            let middle = second.ended_by later rest e (rest_from d (sym (append_assoc done taken also)) h) in
-            let before = first.ended_by later (more ++ rest) e (rest_along d (sym (append_assoc also ahead later)) middle) in
-            rest_by d (sym (append_assoc made more rest)) (rest_along d (ap (λ l. taken ++ l) (append_assoc also ahead later) ∙ sym (append_assoc taken also (ahead ++ later))) before);
-        goes = λ b going agrees g.
-            let middle = first.goes (also ++ b) going (agrees_behind also agrees) (goes_along d (append_assoc taken also b) g) in
-            goes_from d (append_assoc done taken also) (second.goes b going agrees middle);
-        went = λ b going agrees g.
-            let middle = second.went b going agrees (goes_from d (sym (append_assoc done taken also)) g) in
-            goes_along d (sym (append_assoc taken also b)) (first.went (also ++ b) going (agrees_behind also agrees) middle);
-      }
-
   module _ {S : Type 0} (takes : S → Move → Node → S → Type 0) where
     -- so are two turns
     abbrev pub on_then : {old middle new : StateV} {s t u : S} {stack : List Left} {done : List ℕ}
@@ -78,7 +58,7 @@ module _ (d : DescV) where
           stands = subst (λ l. Stands d new second.now l) (append_assoc done first.taken second.taken) second.stands;
           bits = first.bits ∙ ap (λ l. first.taken ++ l) second.bits ∙ sym (append_assoc first.taken second.taken new.coming.bits);
           ended = second.ended ∙ first.ended;
-          steps = passes_on first.taken second.taken (subst Q second.bits first.steps) (subst P first.ended second.steps);
+          steps = steps_then d first.taken second.taken (subst Q second.bits first.steps) (subst P first.ended second.steps);
           tells = tells_then takes first.tells second.tells;
         }
 
@@ -152,88 +132,19 @@ module _ (d : DescV) where
     none_told (tells_bit node next at took rest) = absurd took
     none_told (tells_leave node next at took rest) = absurd took
 
-    abbrev on_quietly : {old new : StateV} {stack : List Left} {done : List ℕ} → GoesOn d tells_nothing old new tt tt stack done → GoesOn d takes old new s s stack done
-    on_quietly on =
-        record {
-          now = on.now;
-          taken = on.taken;
-          made = on.made;
-          stands = on.stands;
-          bits = on.bits;
-          ended = on.ended;
-          steps = on.steps;
-          tells = none_told on.tells;
-        }
-
     pub quietly : (old new : StateV) (turn : Turn) → Turns d tells_nothing old new tt tt turn → Turns d takes old new s s turn
-    quietly old new Moved turns = λ stack done stands. on_quietly (turns stack done stands)
-    quietly old new Waits turns = λ stack done stands.
-        let waits = turns stack done stands in
-        record {
-          on = on_quietly waits.on;
-          few = waits.few;
-          held = waits.held;
-          followed = waits.followed;
-          held_ends = waits.held_ends;
-          over = waits.over;
-        }
-    quietly old new (Refused place) turns = λ stack done stands.
-        let refuses = turns stack done stands in
-        record {
-          made = refuses.made;
-          around = refuses.around;
-          alike = refuses.alike;
-          bit = refuses.bit;
-          later = refuses.later;
-          bits = refuses.bits;
-          place_is = refuses.place_is;
-          followed = refuses.followed;
-          no_further = refuses.no_further;
-          tells = none_told refuses.tells;
-        }
+    quietly old new turn turns = turns_as d tells_nothing takes old old new tt tt s s refl refl (λ moves around told. none_told told) turn (λ stack done stands. stands) turns
 
   -- where nothing is open no bit is taken
   shows_nothing : {values : List Value} {stack : List Left} {done : List ℕ} → Shows d [] values stack done → stack ≡ []
   shows_nothing (shows_none kept) = refl
 
-  pub stops_behind : {S : Type 0} (takes : S → Move → Node → S → Type 0) (s : S) (values : List Value) (pace : Pace) (coming : Coming) (turn : Turn) → IsStopped coming turn
+  pub stops_behind : {S : Type 0} (takes : S → Move → Node → S → Type 0) (s : S) (values : List Value) (pace : Pace) (coming : Coming) (turn : Turn) → IsStopped coming turn → Known d
       → Turns d takes (record { frames = []; values = values; pace = pace; coming = coming }) (record { frames = []; values = values; pace = pace; coming = coming }) s s turn
-  stops_behind takes s values pace coming Moved stopped = absurd stopped
-  stops_behind takes s values pace coming Waits (none, held, inside) = λ stack done stands.
-      let same : done ++ [] ≡ done = append-nil done in
-      let empty = shows_nothing stands.shows in
-      record {
-        on =
-            record {
-              now = stack;
-              taken = [];
-              made = [];
-              stands = subst (λ (l : List ℕ). Stands d (record { frames = []; values = values; pace = pace; coming = coming }) stack l) (sym same) stands;
-              bits = refl;
-              ended = refl;
-              steps = passes_of coming.ended (steps_none d stack done coming.bits);
-              tells = tells_none refl refl;
-            };
-        few = omega (arith, ap (λ (l : List ℕ). length l) none);
-        held = omega (arith, held, ap (λ (l : List ℕ). length l) none);
-        followed = λ going. goes_from d (sym same) (subst (λ (l : List Left). Goes d l done coming.bits) (sym empty) (goes_end none));
-        held_ends = λ some. absurd (omega (arith, some, ap (λ (l : List ℕ). length l) none));
-        over = λ ended. inl refl;
-      }
-  stops_behind takes s values pace coming (Refused place) (bit, rest, is, here, inside) = λ stack done stands.
-      let empty = shows_nothing stands.shows in
-      record {
-        made = [];
-        around = _;
-        alike = [];
-        bit = bit;
-        later = rest;
-        bits = is;
-        place_is = omega (arith, here, stands.place);
-        followed = subst (λ (l : List Left). Goes d l done []) (sym empty) (goes_end refl);
-        no_further = λ g. nothing_follows d done bit [] (subst (λ (l : List Left). Goes d l done (bit ∷ [])) empty g);
-        tells = tells_none refl refl;
-      }
+  stops_behind takes s values pace coming turn stopped known =
+      stops d takes s values pace coming [] turn stopped known
+      (λ stack done stands bit rest is g. nothing_follows d done bit [] (subst (λ (l : List Left). Goes d l done (bit ∷ [])) (shows_nothing stands.shows) g))
+      (λ stack done stands ended. inl refl)
 
   -- the frames of choices and labels are those of nodes
   pub choice_within : {k : ℕ} {frames : List Frame} {values : List Value} {stack : List Left} {done : List ℕ} → Shows d (frame.Choice k ∷ frames) values stack done → k < length d.nodes

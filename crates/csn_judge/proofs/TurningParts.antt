@@ -1,5 +1,5 @@
 -- Turns of the frames of sequences.
-use Rattle.std.proofs.Common.{◌≡◌, ℕ, zero, suc, ◌+◌, ◌<◌, ◌≤◌, Bool, true, false, if◌then◌else◌, List, drop, take, [], ◌∷◌, ◌++◌, length, refl, sym, ◌∙◌, ap, subst, arith, append-nil, length-append, append_assoc, Option, Some, slice_get}
+use Rattle.std.proofs.Common.{◌≡◌, ℕ, suc, ◌+◌, ◌<◌, ◌≤◌, Bool, true, false, if◌then◌else◌, List, drop, take, [], ◌∷◌, ◌++◌, length, refl, sym, ◌∙◌, ap, subst, arith, length-append, append_assoc, Option, Some, slice_get}
 use Rattle.std.proofs.lemmas.List.{length-take, take-append-le}
 use Rattle.csn_desc.specs.declared.moves.Move.{Move}
 use Rattle.csn_desc.specs.declared.moves.Move.TheVariants.{Leave}
@@ -18,8 +18,8 @@ use Rattle.csn_judge.specs.Coming.{Coming}
 use Rattle.csn_judge.specs.Told.{tells_none}
 use Rattle.csn_judge.specs.Left.{Left, all_left, none_left, parts_left, behind}
 use Rattle.csn_judge.specs.Inside.{IsStack, stack_node, AreOwed, of_parts, of_read}
-use Rattle.csn_judge.specs.Shown.{kept_of, seen_in, seen_behind, limit_in, SeesMore, HasNext, Round, round_seq, Shows, shows_begin, shows_parts}
-use Rattle.csn_judge.specs.Turns.{fresh_at, begun_by, StateV, Stands, GoesOn}
+use Rattle.csn_judge.specs.Shown.{kept_of, limit_in, SeesMore, HasNext, Round, round_seq, Shows, shows_begin, shows_parts}
+use Rattle.csn_judge.specs.Turns.{fresh_at, begun_by, Stands, GoesOn}
 use Rattle.csn_judge.proofs.StepFacts.{split, replaced, none_taken, alike}
 use Rattle.csn_judge.proofs.Parts.{next_part}
 use Rattle.csn_judge.proofs.Wholes.{no_parts}

@@ -1,5 +1,5 @@
 -- Turns of the frames of truncations.
-use Rattle.std.proofs.Common.{inl, inr, ◌≡◌, ℕ, zero, suc, ◌+◌, ◌-◌, ◌%◌, ◌<◌, ◌≤◌, ◌⊎◌, Bool, true, false, List, take, drop, [], ◌∷◌, ◌++◌, length, min, refl, sym, ◌∙◌, ap, subst, arith, append-nil, append_assoc, length-append, Option, Some, slice_get}
+use Rattle.std.proofs.Common.{inl, inr, ◌≡◌, ℕ, suc, ◌+◌, ◌%◌, ◌<◌, ◌≤◌, ◌⊎◌, true, List, take, drop, [], ◌∷◌, ◌++◌, length, refl, sym, ◌∙◌, ap, subst, arith, append_assoc, length-append, Option, Some, slice_get}
 use Rattle.std.proofs.lemmas.List.{take_all}
 use Rattle.csn_desc.specs.declared.moves.Move.{Move}
 use Rattle.csn_desc.specs.declared.moves.Move.TheVariants.{Leave}
@@ -21,14 +21,14 @@ use Rattle.csn_judge.specs.Told.{tells_none}
 use Rattle.csn_judge.specs.Left.{Left, all_left, none_left, cut_left, lead_left, behind}
 use Rattle.csn_judge.specs.Remains.{Within, Steps, Passes}
 use Rattle.csn_judge.specs.Inside.{IsStack, stack_node, AreOwed, of_all, of_cut, of_lead, of_read}
-use Rattle.csn_judge.specs.Shown.{kept_of, seen_in, seen_behind, limit_in, SeesMore, HasNext, Round, round_trunc, Shows, shows_begin, shows_cut, shows_lead}
-use Rattle.csn_judge.specs.Turns.{fresh_at, begun_by, StateV, Stands, GoesOn}
+use Rattle.csn_judge.specs.Shown.{kept_of, seen_in, limit_in, SeesMore, HasNext, Round, round_trunc, Shows, shows_begin, shows_cut, shows_lead}
+use Rattle.csn_judge.specs.Turns.{fresh_at, begun_by, Stands, GoesOn}
 use Rattle.csn_judge.proofs.StepFacts.{replaced, none_taken, alike}
-use Rattle.csn_judge.proofs.Closing.{Ends, passes_of, closed_full, closed_last, cut_ends, lead_ends}
+use Rattle.csn_judge.proofs.Closing.{passes_of, cut_ends, lead_ends}
 use Rattle.csn_judge.proofs.Choosing.{node_empty}
 use Rattle.csn_judge.proofs.Truncs.{AtHand, first_component, next_component, no_components, none_behind}
-use Rattle.csn_judge.proofs.Stacks.{Begun, of_begun, begun_of, component_begun, next_component_begun, first_next, later_rises, truncation_read, up_here, up_part}
-use Rattle.csn_judge.proofs.LeafStacks.{full_at, limit_within, standing}
+use Rattle.csn_judge.proofs.Stacks.{of_begun, begun_of, component_begun, next_component_begun, first_next, later_rises, truncation_read, up_here, up_part}
+use Rattle.csn_judge.proofs.LeafStacks.{limit_within, closed_passes}
 use Rattle.csn_judge.proofs.Rooms.{first_of}
 use Rattle.csn_judge.proofs.Turning.{moving, risen, room, round_length, begun_within, kept_unnamed, unnamed, within_limit, state, still, leaves}
 use Rattle.csn_judge.proofs.TurningParts.{next_there, none_there, sees_more}
@@ -55,18 +55,6 @@ module _ (d : DescV) where
       → Shows d (frame.Trunc k next count ∷ frames) values stack done → TruncStands k next count frames values stack done
   trunc_stands (shows_cut at seen kept count_is round) = stands_cut _ _ _ refl at refl seen kept count_is round
   trunc_stands (shows_lead parts has kept round) = stands_lead _ _ _ _ _ parts refl has kept round
-
-  pub node_at : {k next count : ℕ} {frames : List Frame} {values : List Value} {stack : List Left} {done : List ℕ}
-      → TruncStands k next count frames values stack done → (parts : List ℕ) × (slice_get d.nodes k ≡ Some (Trunc parts))
-  node_at (stands_cut outer parts v is at none seen kept count_is round) = (parts, at)
-  node_at (stands_lead outer i from after v parts is has kept round) = (parts, has.at)
-
-  pub few_frames : {k next count : ℕ} {frames : List Frame} {values : List Value} {stack : List Left} {done : List ℕ} (pace : Pace)
-      → TruncStands k next count frames values stack done → IsStack d pace.next (fresh_at pace (length done)) stack done → length frames < 64
-  few_frames {done = done} pace (stands_cut outer parts v is at none seen kept count_is round) stack_is =
-      omega (arith, room d (subst (λ (l : List Left). IsStack d pace.next (fresh_at pace (length done)) l done) is stack_is), round_length d round)
-  few_frames {done = done} pace (stands_lead outer i from after v parts is has kept round) stack_is =
-      omega (arith, room d (subst (λ (l : List Left). IsStack d pace.next (fresh_at pace (length done)) l done) is stack_is), round_length d round)
 
   -- ---- components begin
 
@@ -163,7 +151,7 @@ module _ (d : DescV) where
             (still d takes before values pace coming (begun_by j pace) stands.place (shows_begin refl kept (round_trunc others later round))
             now limit
             (inr (some, at_hand outer limit), subst (λ (l : List Left). AreOwed l done coming.bits) there stands.owed)
-            (passes_of coming.ended (on_bits coming.bits bit more e (first_component d 12 known.description known.certified (moving d known) (standing d known) known.components j found.0 v bit more hand.3 (empty_of now))))
+            (passes_of coming.ended (on_bits coming.bits bit more e (first_component d 12 known.description known.certified (moving d known) known j found.0 v bit more hand.3 (empty_of now))))
             (tells_none refl refl))
         by (stands_lead outer i from after v others is has kept round) =
             let same : parts ≡ others = let a = has.at in cc in
@@ -186,29 +174,42 @@ module _ (d : DescV) where
             (still d takes before values pace coming (begun_by j pace) stands.place (shows_begin refl kept (round_trunc others later round))
             now limit
             (inr (some, at_hand outer limit), owed.1)
-            (passes_of coming.ended (on_bits coming.bits bit more e (next_component d 12 known.description known.certified (moving d known) (standing d known) known.components i from j found.0 v bit more hand.5 (empty_of now))))
+            (passes_of coming.ended (on_bits coming.bits bit more e (next_component d 12 known.description known.certified (moving d known) known i from j found.0 v bit more hand.5 (empty_of now))))
             (tells_none refl refl))
-
-    closed_passes : {left : Left} {outer : List Left} {done : List ℕ} → Ends d left done → IsGood coming → (coming.ended ≡ true) ⊎ (coming.place ≡ coming.limit)
-        → coming.place ≡ length done → coming.limit ≡ limit_in outer
-        → Passes d coming.ended (left ∷ outer) (none_left ∷ outer) done [] coming.bits []
-    closed_passes {left} {outer} {done} ends good (inl over) place limit =
-        let P : Bool → Type 0 = λ e. Passes d e (left ∷ outer) (none_left ∷ outer) done [] coming.bits [] in
-        let Q : List ℕ → Type 0 = λ l. Passes d true (left ∷ outer) (none_left ∷ outer) done [] l [] in
-        subst P (sym over) (subst Q (sym (good.nothing over)) (closed_last d ends))
-    closed_passes {left} {outer} {done} ends good (inr full) place limit =
-        passes_of coming.ended (closed_full d coming.bits ends (full_at outer done (sym place ∙ full ∙ limit) (omega (arith, good.fits, place))))
 
     -- behind the last component
     all_passes : {next : ℕ} {fresh : Option ℕ} {i from : ℕ} {v : Values} {outer : List Left} {done : List ℕ} → Known d
         → IsStack d next fresh (lead_left i from [] v ∷ outer) done → (from < length done) ⊎ ((0 < length coming.bits) × Within outer (suc (length done)))
         → Passes d coming.ended (lead_left i from [] v ∷ outer) (none_left ∷ outer) done [] coming.bits []
     all_passes {i = i} {from} {v} {outer} {done} known is (inl took) =
-        passes_of coming.ended (replaced d coming.bits (none_taken d) (alike d (no_components d 12 known.description known.certified (moving d known) (standing d known) known.components i from v done took)))
+        passes_of coming.ended (replaced d coming.bits (none_taken d) (alike d (no_components d 12 known.description known.certified (moving d known) known i from v done took)))
     all_passes {i = i} {from} {v} {outer} {done} known is (inr owed) =
         let bit = first_of coming.bits owed.0 in
         let hand = later_hand is owed.1 in
-        passes_of coming.ended (on_bits coming.bits bit.0 bit.1 bit.2 (none_behind d 12 known.description known.certified (moving d known) (standing d known) known.components i from v bit.0 bit.1 hand.5))
+        passes_of coming.ended (on_bits coming.bits bit.0 bit.1 bit.2 (none_behind d 12 known.description known.certified (moving d known) known i from v bit.0 bit.1 hand.5))
+
+    -- it is left behind a component where it passes with no bits
+    left_lead :
+        {k next count i from : ℕ} {rest : List ℕ} {v : Values} {frames : List Frame} {after : S} {stack outer : List Left} {done : List ℕ} (parts : List ℕ)
+        → slice_get d.nodes k ≡ Some (Trunc parts) → takes before Leave (Trunc parts) after
+        → Known d → Stands d (state d takes before values pace coming (frame.Trunc k next count ∷ frames)) stack done
+        → stack ≡ lead_left i from rest v ∷ outer → SeesMore d outer count v → values ≡ kept_of d (behind d i from v done) → Round d frames outer k
+        → (IsStack d pace.next (fresh_at pace (length done)) (lead_left i from rest v ∷ outer) done → coming.limit ≡ limit_in outer
+        → (from < length done) ⊎ ((0 < length coming.bits) × Within outer (suc (length done)))
+        → Passes d coming.ended (lead_left i from rest v ∷ outer) (none_left ∷ outer) done [] coming.bits [])
+        → GoesOn d takes (state d takes before values pace coming (frame.Trunc k next count ∷ frames)) (record { frames = frames; values = take count values; pace = pace; coming = coming }) before after stack done
+    left_lead {k} {next} {count} {i} {from} {frames = frames} {after = after} {done = done} parts at told known stands is sees kept round passes =
+        let P : List Left → Type 0 = λ l. GoesOn d takes (state d takes before values pace coming (frame.Trunc k next count ∷ frames)) (record { frames = frames; values = take count values; pace = pace; coming = coming }) before after l done in
+        let stack_is = subst (λ (l : List Left). IsStack d pace.next (fresh_at pace (length done)) l done) is stands.stack_is in
+        let limit = stands.limit ∙ ap (λ (l : List Left). limit_in l) is in
+        let owed = subst (λ (l : List Left). AreOwed l done coming.bits) is stands.owed in
+        let more = sees_more d i (drop from done) sees in
+        subst P (sym is)
+        (leaves d takes before values pace coming (Trunc parts) known at told refl stands.place
+        (lead_done known stack_is) round
+        (ap (λ l. take count l) kept ∙ more.same ∙ sym (kept_unnamed d done round (unnamed d _ at refl)))
+        limit owed.1
+        (passes stack_is limit owed.0))
 
     -- it is left behind its last component, and where no bit may be taken
     pub ends_truncation :
@@ -240,18 +241,9 @@ module _ (d : DescV) where
             (cut_done known stack_is) round
             (all ∙ kept ∙ ap (λ w. kept_of d w) seen ∙ sym (kept_unnamed d done round (unnamed d _ at refl)))
             limit (subst (λ (l : List Left). AreOwed l done coming.bits) is stands.owed)
-            (closed_passes (cut_ends d others v done) good closed stands.place limit))
+            (closed_passes d good closed stands.place limit (cut_ends d others v done)))
         by (stands_lead outer i from rest v others is has kept round) =
-            let stack_is = subst (λ (l : List Left). IsStack d pace.next (fresh_at pace (length done)) l done) is stands.stack_is in
-            let limit = stands.limit ∙ ap (λ (l : List Left). limit_in l) is in
-            let owed = subst (λ (l : List Left). AreOwed l done coming.bits) is stands.owed in
-            let more = sees_more d i (drop from done) has.more in
-            subst P (sym is)
-            (leaves d takes before values pace coming (Trunc parts) known at told refl stands.place
-            (lead_done known stack_is) round
-            (ap (λ l. take count l) kept ∙ more.same ∙ sym (kept_unnamed d done round (unnamed d _ at refl)))
-            limit owed.1
-            (closed_passes (lead_ends d i from rest v done (took_bit outer from limit owed.0)) good closed stands.place limit))
+            left_lead parts at told known stands is has.more kept round (λ stack_is limit owed. closed_passes d good closed stands.place limit (lead_ends d i from rest v done (took_bit outer from limit owed)))
 
     pub ends_components :
         {k next count : ℕ} {frames : List Frame} {after : S} {stack : List Left} {done : List ℕ} (parts : List ℕ)
@@ -276,16 +268,7 @@ module _ (d : DescV) where
             let same : parts ≡ others = let a = has.at in cc in
             let none = none_there has.before rest i (sym has.next_is ∙ all ∙ ap (λ l. length l) (same ∙ has.is)) in
             let there : stack ≡ lead_left i from [] v ∷ outer = is ∙ ap (λ l. lead_left i from l v ∷ outer) none in
-            let stack_is = subst (λ (l : List Left). IsStack d pace.next (fresh_at pace (length done)) l done) there stands.stack_is in
-            let limit = stands.limit ∙ ap (λ (l : List Left). limit_in l) there in
-            let owed = subst (λ (l : List Left). AreOwed l done coming.bits) there stands.owed in
-            let more = sees_more d i (drop from done) has.more in
-            subst P (sym there)
-            (leaves d takes before values pace coming (Trunc parts) known at told refl stands.place
-            (lead_done known stack_is) round
-            (ap (λ l. take count l) kept ∙ more.same ∙ sym (kept_unnamed d done round (unnamed d _ at refl)))
-            limit owed.1
-            (all_passes known stack_is owed.0))
+            left_lead parts at told known stands there has.more kept round (λ stack_is limit owed. all_passes known stack_is owed)
 
     -- no place is behind the last component
     pub within_parts :

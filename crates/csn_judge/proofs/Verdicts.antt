@@ -1,21 +1,19 @@
 -- From what is open to what is told of a block: where it begins, goes on, is refused, and ends.
-use Rattle.std.proofs.Common.{◌≡◌, ℕ, zero, suc, ◌+◌, ◌-◌, ◌%◌, ◌<◌, ◌≤◌, inl, inr, Bool, true, false, List, [], ◌∷◌, ◌++◌, length, drop, take, refl, sym, ◌∙◌, ap, subst, arith, append_assoc, append-nil, length-append, Some, None, slice_get}
+use Rattle.std.proofs.Common.{◌≡◌, ℕ, zero, suc, ◌+◌, ◌≤◌, inl, inr, true, List, [], ◌∷◌, ◌++◌, length, take, refl, sym, ◌∙◌, ap, subst, arith, append_assoc, append-nil, length-append, None}
 use Rattle.std.proofs.lemmas.Bool.Decides.{leb_tells}
-use Rattle.std.proofs.lemmas.List.{append_cancel_left, take-append-drop}
 use Rattle.std.proofs.Math.Seq.{take-append_seam, take-append-add}
 use Rattle.csn_desc.specs.declared.moves.Move.{Move}
-use Rattle.csn_desc.specs.TreeV.{TreeV}
 use Rattle.csn_desc.specs.Nodes.{DescV}
-use Rattle.csn_desc.specs.Means.{NMeans}
 use Rattle.csn_desc.specs.Follows.{NFollow, IsPlace}
-use Rattle.csn_desc.specs.Formed.{IsDescription, FitWidths}
+use Rattle.csn_desc.specs.Formed.{IsDescription}
 use Rattle.csn_desc.specs.Laws.{PrefixesAreFollowed}
 use Rattle.csn_look.specs.Reached.{reached_root}
-use Rattle.csn_judge.specs.Left.{Left, all_left, Completes, completes_all, Begins, begins_whole, begins_all}
-use Rattle.csn_judge.specs.Remains.{Within, Rest, rest_end, rest_next, Goes, goes_end, goes_next, goes_here, IsBlock, Agrees, shorter, longer, StandsFor, Passes}
+use Rattle.csn_judge.specs.Left.{Left, all_left, completes_all, begins_whole, begins_all, Completes}
+use Rattle.csn_judge.specs.Remains.{Rest, rest_end, rest_next, Goes, goes_end, goes_next, goes_here, IsBlock, Agrees, shorter, longer, StandsFor, Passes}
 use Rattle.csn_judge.specs.Inside.{IsStack, stack_node, of_all, inside_none}
-use Rattle.csn_judge.proofs.StepFacts.{rest_along, rest_from, goes_along, goes_from}
+use Rattle.csn_judge.proofs.StepFacts.{rest_along, rest_from, completes_along}
 use Rattle.csn_judge.proofs.Parts.{Moving, follow_whole}
+use Rattle.csn_desc.proofs.Splits.{front_empty}
 
 module _ (d : DescV) where
   block_along : {b c : List ℕ} {moves : List Move} → b ≡ c → IsBlock d b moves → IsBlock d c moves
@@ -178,13 +176,7 @@ module _ (d : DescV) where
 
   -- a form that wants bits ends no block without them
   pub never_ends : {left : Left} {outer : List Left} {done : List ℕ} {rest : List Move} → ((moves : List Move) → ¬ Completes d left done [] moves) → ¬ Rest d (left ∷ outer) done [] rest
-  never_ends {left} {outer} {done} never (rest_next b1 b2 first others cut made c o) =
-      let P : List ℕ → Type 0 = λ l. Completes d left done l first in
-      never first (subst P (front_none b1 b2 cut) c)
-    where
-      front_none : (b1 b2 : List ℕ) → [] ≡ b1 ++ b2 → b1 ≡ []
-      front_none [] b2 e = refl
-      front_none (a ∷ b1) b2 e = absurd (cc)
+  never_ends never (rest_next b1 b2 first others cut made c o) = never first (completes_along d (front_empty b1 b2 (sym cut)) c)
 
   -- and so the bits have no tree
   pub no_string : {stack : List Left} {done : List ℕ} {made : List Move} → StandsAtEnd stack done made → ((rest : List Move) → ¬ Rest d stack done [] rest) → (moves : List Move) → ¬ IsBlock d done moves

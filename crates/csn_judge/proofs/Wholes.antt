@@ -1,22 +1,21 @@
 -- Labels, windows and repetitions: the part that is read, and what is left behind it; and where nothing is left.
-use Rattle.std.proofs.Common.{◌≡◌, ℕ, zero, suc, ◌+◌, ◌*◌, ◌<◌, ◌≤◌, ◌⊎◌, inl, inr, List, [], ◌∷◌, ◌++◌, length, drop, map, refl, sym, ◌∙◌, ap, subst, arith, append_assoc, append-nil, length-append, Some, slice_get}
+use Rattle.std.proofs.Common.{◌≡◌, ℕ, suc, ◌+◌, ◌*◌, List, [], ◌∷◌, ◌++◌, length, refl, sym, ◌∙◌, ap, subst, arith, append_assoc, append-nil, length-append, Some, slice_get}
 use Rattle.csn_desc.specs.declared.moves.Move.{Move}
-use Rattle.csn_desc.specs.declared.moves.Move.TheVariants.{Enter, Bit, Leave}
+use Rattle.csn_desc.specs.declared.moves.Move.TheVariants.{Enter, Leave}
 use Rattle.csn_desc.specs.declared.node.Count.{Count}
 use Rattle.csn_desc.specs.declared.node.Node.TheVariants.{Window, Named}
 use Rattle.csn_desc.specs.TreeV.{TreeV, Trees, named, more}
 use Rattle.csn_desc.specs.TreeV as tree
 use Rattle.csn_desc.specs.Nodes.{DescV}
 use Rattle.csn_desc.specs.Values.{Values, count_of}
-use Rattle.csn_desc.specs.Means.{NMeans, NodeMeans, PartsMean, TimesMean, means_at, means_window, means_named, parts_end, times_end, times_next}
-use Rattle.csn_desc.specs.Follows.{NFollow, NodeFollows, TimesFollow, follows_at, follows_whole, follows_window, follows_named, times_here, times_later}
+use Rattle.csn_desc.specs.Means.{NMeans, NodeMeans, TimesMean, means_window, means_named, parts_end, times_end, times_next}
+use Rattle.csn_desc.specs.Follows.{NodeFollows, TimesFollow, follows_at, follows_whole, follows_window, follows_named, times_here, times_later}
 use Rattle.csn_desc.specs.Walks.{bits_of, Walk, NodeWalk, PartsWalk, RepeatsWalk, walk_window, walk_named, repeats_end, repeats_next}
 use Rattle.csn_desc.specs.Walks as walk
-use Rattle.csn_judge.specs.Left.{Left, all_left, parts_left, turns_left, window_left, none_left, Completes, completes_all, completes_parts, completes_turns, completes_window, completes_none, Begins, begins_whole, begins_all, begins_parts, begins_turns, begins_window}
-use Rattle.csn_judge.specs.Remains.{IsUpTo}
-use Rattle.csn_judge.proofs.StepFacts.{Both, BeginsBoth, begins_inner, begins_left, Splits, Alike, completes_along, completes_from}
-use Rattle.csn_judge.proofs.Entering.{Told, Outer, opened, closed, follows_node}
-use Rattle.csn_judge.proofs.Parts.{Moving, walk_takes, follow_whole, followed_all, ended}
+use Rattle.csn_judge.specs.Left.{all_left, parts_left, turns_left, window_left, none_left, Completes, completes_all, completes_parts, completes_turns, completes_window, completes_none, Begins, begins_whole, begins_all, begins_parts, begins_turns, begins_window}
+use Rattle.csn_judge.proofs.StepFacts.{Both, BeginsBoth, begins_inner, begins_left, Splits, Alike}
+use Rattle.csn_judge.proofs.Entering.{opened, closed, follows_node}
+use Rattle.csn_judge.proofs.Parts.{Moving, walk_takes, follow_whole, followed_all, ended, walk_on, walk_off, part_apart}
 
 module _ (d : DescV) (laws : Moving) where
   -- a completed part with no bits and a leaving behind it
@@ -113,22 +112,6 @@ module _ (d : DescV) (laws : Moving) where
 
   -- ---- the turns of a repetition by number
 
-  times_on : (n j : ℕ) (v : Values) (done b1 : List ℕ) {b2 : List ℕ} {ts : Trees} → TimesMean d n j (length done + length b1) v b2 ts → TimesMean d n j (length (done ++ b1)) v b2 ts
-  times_on n j v done b1 {b2} {ts} h = let P : ℕ → Type 0 = λ o. TimesMean d n j o v b2 ts in subst P (sym (length-append done b1)) h
-
-  times_off : (n j : ℕ) (v : Values) (done b1 : List ℕ) {b2 : List ℕ} {ts : Trees} → TimesMean d n j (length (done ++ b1)) v b2 ts → TimesMean d n j (length done + length b1) v b2 ts
-  times_off n j v done b1 {b2} {ts} h = let P : ℕ → Type 0 = λ o. TimesMean d n j o v b2 ts in subst P (length-append done b1) h
-
-  pub repeats_on : (j : ℕ) (done b1 : List ℕ) (first : List Move) {ts : Trees} {rest : List Move} → bits_of first ≡ b1 → RepeatsWalk d j (length done + length (bits_of first)) ts rest → RepeatsWalk d j (length (done ++ b1)) ts rest
-  repeats_on j done b1 first {ts} {rest} takes w =
-      let P : ℕ → Type 0 = λ o. RepeatsWalk d j o ts rest in
-      subst P (ap (λ l. length done + length l) takes ∙ sym (length-append done b1)) w
-
-  pub repeats_off : (j : ℕ) (done b1 : List ℕ) (first : List Move) {ts : Trees} {rest : List Move} → bits_of first ≡ b1 → RepeatsWalk d j (length (done ++ b1)) ts rest → RepeatsWalk d j (length done + length (bits_of first)) ts rest
-  repeats_off j done b1 first {ts} {rest} takes w =
-      let P : ℕ → Type 0 = λ o. RepeatsWalk d j o ts rest in
-      subst P (length-append done b1 ∙ ap (λ l. length done + length l) (sym takes)) w
-
   pub next_turn : (n j : ℕ) (v : Values) (done : List ℕ) → Splits d (turns_left (suc n) j v) (all_left j v) (turns_left n j v) done []
   next_turn n j v done =
       record { completes = on; completed = back; begins = forth; begun = home; up_old = λ place. tt; up_inner = λ place. tt }
@@ -140,20 +123,10 @@ module _ (d : DescV) (laws : Moving) where
           let tree : t ≡ u = cc in
           let trees : ts ≡ us = cc in
           let left : k ≡ n = omega arith in
-          let P : TreeV → Type 0 = λ x. NMeans d j (length done) v b1 x in
           let Q : Trees → Type 0 = λ x. TimesMean d k j (length done + length b1) v b2 x in
           let R : ℕ → Type 0 = λ x. TimesMean d x j (length done + length b1) v b2 us in
-          let means = subst P tree h in
-          record {
-            b1 = b1;
-            b2 = b2;
-            first = first;
-            others = rest ++ Leave ∷ [];
-            cut = cut;
-            is = ap (λ l. l ++ Leave ∷ []) is ∙ append_assoc first rest (Leave ∷ []);
-            inside = completes_all u means w;
-            outside = completes_turns us (times_on n j v done b1 (subst R left (subst Q trees others))) (repeats_on j done b1 first (walk_takes laws d means w) ws) refl;
-          }
+          let O : ℕ → Type 0 = λ o. TimesMean d n j o v b2 us in
+          part_apart d laws rest cut h w tree refl is (λ takes. completes_turns us (subst O (sym (length-append done b1)) (subst R left (subst Q trees others))) (walk_on d laws (λ o. RepeatsWalk d j o us rest) done b1 first takes ws) refl)
 
       on : (b : List ℕ) (moves : List Move) → Completes d (turns_left (suc n) j v) done b moves → (rest : List Move) × (moves ≡ [] ++ rest) × Both d (all_left j v) (turns_left n j v) done b rest
       on b moves (completes_turns {inside = inside} ts h ws is) = (inside ++ Leave ∷ [], is, apart refl h ws refl)
@@ -163,7 +136,8 @@ module _ (d : DescV) (laws : Moving) where
         where
           by : (b1 b2 : List ℕ) (first others : List Move) → b ≡ b1 ++ b2 → rest ≡ first ++ others → Completes d (all_left j v) done b1 first → Completes d (turns_left n j v) (done ++ b1) b2 others → Completes d (turns_left (suc n) j v) done b rest
           by b1 b2 first others cut is (completes_all t h w) (completes_turns {inside = inside} ts turns ws is_others) =
-              completes_turns (more t ts) (times_next n refl b1 b2 cut h (times_off n j v done b1 turns)) (repeats_next first inside refl w (repeats_off j done b1 first (walk_takes laws d h w) ws)) (is ∙ ap (λ l. first ++ l) is_others ∙ sym (append_assoc first inside (Leave ∷ [])))
+              let O : ℕ → Type 0 = λ o. TimesMean d n j o v b2 ts in
+              completes_turns (more t ts) (times_next n refl b1 b2 cut h (subst O (length-append done b1) turns)) (repeats_next first inside refl w (walk_off d laws (λ o. RepeatsWalk d j o ts inside) done b1 first (walk_takes laws d h w) ws)) (is ∙ ap (λ l. first ++ l) is_others ∙ sym (append_assoc first inside (Leave ∷ [])))
 
       forth : (b : List ℕ) → Begins d (turns_left (suc n) j v) done b → BeginsBoth d (all_left j v) (turns_left n j v) done b
       forth b (begins_turns f) = by f refl

@@ -1,5 +1,5 @@
 -- The credit of steps. (This project's own choice.)
-use Rattle.std.specs.Prelude.{◌≡◌, ℕ, ◌+◌, ◌-◌, ◌*◌, ◌<◌, ◌≤◌, Bool, if◌then◌else◌, List, [], ◌∷◌, length, reverse}
+use Rattle.std.specs.Prelude.{ℕ, ◌+◌, ◌-◌, ◌*◌, ◌<◌, ◌≤◌, if◌then◌else◌, List, [], ◌∷◌, length}
 use Rattle.csn_judge.specs.declared.frame.Frame.{Frame}
 use Rattle.csn_judge.specs.declared.frame.Frame.TheVariants as frame
 use Rattle.csn_judge.specs.declared.pace.Pace.{Pace}
@@ -8,6 +8,8 @@ use Rattle.csn_judge.specs.declared.turn.Turn.TheVariants.{Moved, Waits, Refused
 use Rattle.csn_judge.specs.declared.verdict.Verdict.{Verdict}
 use Rattle.csn_judge.specs.declared.verdict.Verdict.TheVariants.{Going}
 use Rattle.csn_judge.specs.declared.verdict.Verdict.TheVariants as verdict
+use Rattle.csn_desc.specs.Nodes.{DescV}
+use Rattle.csn_judge.specs.Turns.{StateV}
 
 -- the steps that a frame is still to take, beside those of the nodes that it lets begin
 abbrev pub weight_of : Frame → ℕ
@@ -33,6 +35,14 @@ abbrev pub Pays : (before after : ℕ) → (steps steps_after : ℕ) → Turn �
 Pays before after steps steps_after Moved = (steps_after + after ≤ steps + before) × (after < before)
 Pays before after steps steps_after Waits = (steps_after ≤ steps + 2) × (after ≤ before)
 Pays before after steps steps_after (Refused place) = steps_after ≤ steps + before
+
+-- the credit of a state
+abbrev pub credit_in : DescV → StateV → ℕ
+credit_in d state = credit_of (length d.nodes) state.frames state.pace (length state.coming.bits)
+
+-- a turn from one state to another pays
+abbrev pub TurnPays : DescV → (old new : StateV) → (steps steps_after : ℕ) → Turn → Type 0
+TurnPays d old new steps steps_after turn = Pays (credit_in d old) (credit_in d new) steps steps_after turn
 
 -- turns up to one that waits or refuses take no more steps than the credit, but for those of the last one
 abbrev pub PaysAll : (before after : ℕ) → (steps steps_after : ℕ) → Verdict → Type 0

@@ -1,5 +1,5 @@
 -- What a judge stands for, between two pieces of a block. (This project's own choice.)
-use Rattle.std.specs.Prelude.{◌≡◌, ℕ, suc, ◌+◌, ◌*◌, ◌<◌, ◌≤◌, false, List, [], ◌∷◌, ◌++◌, length, Option, Some, None}
+use Rattle.std.specs.Prelude.{◌≡◌, ℕ, suc, ◌+◌, ◌<◌, ◌≤◌, false, List, [], ◌++◌, length, Option, Some, None}
 use Rattle.csn_desc.specs.declared.moves.Move.{Move}
 use Rattle.csn_desc.specs.Nodes.{DescV}
 use Rattle.csn_desc.specs.TreeV.{TreeV}
@@ -75,22 +75,46 @@ abbrev pub refusal_of : Verdict → Option ℕ
 refusal_of Going = None
 refusal_of (Refused place) = Some place
 
--- what is known behind some more bits: they can be followed, by some more moves, which are told; or they are refused
--- behind the first `place` of them all
-abbrev pub Judges : (List Move → Type 0) → (old new : JudgeV) (more : List ℕ) → Verdict → Type 0
-Judges are_told old new more Going =
-    (b : List ℕ) (moves : List Move) → JudgesFor old b moves
-    → (made : List Move) × JudgesFor new (b ++ more) (moves ++ made) × NFollow old.desc 0 0 [] (b ++ more) × are_told made
-Judges are_told old new more (Refused place) =
-    (b : List ℕ) (moves : List Move) → JudgesFor old b moves
-    → IsPlace old.desc (b ++ more) place × (place < length (b ++ more)) × ¬ NFollow old.desc 0 0 [] (b ++ more)
+-- some moves are told, up to some open nodes
+abbrev pub SomeTold : (List ℕ → List Move → Type 0) → Type 0
+SomeTold are_told = (around : List ℕ) × (made : List Move) × are_told around made
 
--- what is known at the end of a block: the bits are a string, and the moves are those of its tree, which are told to
--- the last; or they have no tree
-abbrev pub Ends : (List Move → Type 0) → JudgeV → Judged → Type 0
-Ends are_told j Ok =
-    (b : List ℕ) (moves : List Move) → JudgesFor j b moves
-    → (made : List Move) × IsBlock j.desc b (moves ++ made) × are_told made
-Ends are_told j (no_string place) =
-    (b : List ℕ) (moves : List Move) → JudgesFor j b moves
-    → IsPlace j.desc b place × ((tree : TreeV) → ¬ NMeans j.desc 0 0 [] b tree)
+-- behind some more bits, which can be followed: the judge stands for all of them, by some more moves, which are told
+-- up to the nodes that are open then
+pub record IsFollowed (are_told : List ℕ → List Move → Type 0) (old new : JudgeV) (b more : List ℕ) (moves : List Move) : Type 0 where
+  pub made : List Move
+  pub judges : JudgesFor new (b ++ more) (moves ++ made)
+  pub followed : NFollow old.desc 0 0 [] (b ++ more)
+  pub told : are_told (opened new) made
+
+-- behind some more bits, which cannot be followed: the place is that of all of them, before their end. Where nothing
+-- was refused before, it lies in the bits that came last, and some moves are told
+pub record IsRefused (are_told : List ℕ → List Move → Type 0) (old : JudgeV) (b more : List ℕ) (place : ℕ) : Type 0 where
+  pub place_is : IsPlace old.desc (b ++ more) place
+  pub before_end : place < length (b ++ more)
+  pub not_followed : ¬ NFollow old.desc 0 0 [] (b ++ more)
+  pub in_piece : old.refused ≡ None → length b ≤ place
+  pub told : old.refused ≡ None → SomeTold are_told
+
+-- what is known behind some more bits, for all bits and moves that the judge stood for
+abbrev pub Judges : (List ℕ → List Move → Type 0) → (old new : JudgeV) (more : List ℕ) → Verdict → Type 0
+Judges are_told old new more Going = (b : List ℕ) (moves : List Move) → JudgesFor old b moves → IsFollowed are_told old new b more moves
+Judges are_told old new more (Refused place) = (b : List ℕ) (moves : List Move) → JudgesFor old b moves → IsRefused are_told old b more place
+
+-- at the end of a block whose bits are a string: the moves are those of its tree, and are told to the last
+pub record IsString (are_told : List ℕ → List Move → Type 0) (j : JudgeV) (b : List ℕ) (moves : List Move) : Type 0 where
+  pub made : List Move
+  pub block : IsBlock j.desc b (moves ++ made)
+  pub told : are_told [] made
+
+-- at the end of a block whose bits have no tree: the place is theirs. Where nothing was refused before, some moves are
+-- told
+pub record IsNoString (are_told : List ℕ → List Move → Type 0) (j : JudgeV) (b : List ℕ) (place : ℕ) : Type 0 where
+  pub place_is : IsPlace j.desc b place
+  pub no_tree : (tree : TreeV) → ¬ NMeans j.desc 0 0 [] b tree
+  pub told : j.refused ≡ None → SomeTold are_told
+
+-- what is known at the end of a block, for all bits and moves that the judge stood for
+abbrev pub Ends : (List ℕ → List Move → Type 0) → JudgeV → Judged → Type 0
+Ends are_told j Ok = (b : List ℕ) (moves : List Move) → JudgesFor j b moves → IsString are_told j b moves
+Ends are_told j (no_string place) = (b : List ℕ) (moves : List Move) → JudgesFor j b moves → IsNoString are_told j b place

@@ -1,6 +1,6 @@
 -- What is left of a node while a block is read: a part of it is read already, or none of it. Each form is a
 -- meaning or a following of csn_desc with its front taken away. (This project's own choice.)
-use Rattle.std.specs.Prelude.{◌≡◌, ℕ, ◌+◌, ◌<◌, ◌≤◌, Bool, true, false, List, [], ◌∷◌, ◌++◌, length, drop, map, slice_get, Some}
+use Rattle.std.specs.Prelude.{◌≡◌, ℕ, ◌<◌, ◌≤◌, Bool, false, List, [], ◌∷◌, ◌++◌, length, drop, map, slice_get, Some}
 use Rattle.csn_bits.specs.Octets.{IsBits}
 use Rattle.csn_desc.specs.declared.symbol.Symbol.{Symbol}
 use Rattle.csn_desc.specs.declared.symbol.Symbol.TheVariants.{Low}

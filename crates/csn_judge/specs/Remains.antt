@@ -7,7 +7,7 @@ use Rattle.csn_desc.specs.Nodes.{DescV}
 use Rattle.csn_desc.specs.Means.{NMeans}
 use Rattle.csn_desc.specs.Follows.{NFollow}
 use Rattle.csn_desc.specs.Walks.{Walk}
-use Rattle.csn_judge.specs.Left.{Left, all_left, bits_left, symbols_left, spare_left, pad_left, rest_left, choice_left, none_left, window_left, parts_left, turns_left, free_left, cut_left, lead_left, Completes, Begins}
+use Rattle.csn_judge.specs.Left.{Left, window_left, Completes, Begins}
 
 -- a place is not behind the end of a window
 abbrev pub IsUpTo : Left → ℕ → Type 0

@@ -4,7 +4,7 @@ ghost use Rattle.std.specs.Prelude.{◌≡◌, ℕ, ◌+◌, ◌*◌, ◌<◌, �
 ghost use Rattle.csn_desc.specs.declared.node.Node.TheVariants.{Named};
 ghost use Rattle.csn_judge.specs.declared.frame.Frame.TheVariants as frame;
 ghost use Rattle.csn_desc.specs.Values.{Values, count_of};
-ghost use Rattle.csn_judge.specs.Credit.{credit_of, Pays};
+ghost use Rattle.csn_judge.specs.Credit.{TurnPays};
 ghost use Rattle.csn_judge.specs.Shown.{KeepsCount, kept_of};
 ghost use Rattle.csn_judge.specs.Turns.{begun_by, state_of, state_with, Entered, StandsSomewhere, Turns};
 
@@ -31,9 +31,7 @@ impl Machine<'_> {
         requires { StandsSomewhere self.old.plan.now (state_with (frame.Begin i) self.old source.old) }
         ensures turns { Turns self.old.plan.now T.takes (state_with (frame.Begin i) self.old source.old)
             (state_of self.new source.new) track.old track.new result }
-        ensures pays { Pays
-            (credit_of (length self.old.plan.now.nodes) (frame.Begin i ∷ reverse self.old.frames.items) self.old.pace (length source.old.bits))
-            (credit_of (length self.old.plan.now.nodes) (reverse self.new.frames.items) self.new.pace (length source.new.bits))
+        ensures pays { TurnPays self.old.plan.now (state_with (frame.Begin i) self.old source.old) (state_of self.new source.new)
             steps.old steps.new result }
         ensures plan { self.new.plan ≡ self.old.plan }
     {
@@ -118,9 +116,7 @@ impl Machine<'_> {
         requires stands { StandsSomewhere self.old.plan.now (state_with (frame.Begin i) self.old source.old) }
         ensures turns { Entered self.old.plan.now T.takes i (state_with (frame.Begin i) self.old source.old)
             (state_of self.new source.new) track.old track.new result }
-        ensures pays { Pays
-            (credit_of (length self.old.plan.now.nodes) (frame.Begin i ∷ reverse self.old.frames.items) self.old.pace (length source.old.bits))
-            (credit_of (length self.old.plan.now.nodes) (reverse self.new.frames.items) self.new.pace (length source.new.bits))
+        ensures pays { TurnPays self.old.plan.now (state_with (frame.Begin i) self.old source.old) (state_of self.new source.new)
             steps.old (steps.new + 1) result }
         ensures plan { self.new.plan ≡ self.old.plan }
     {

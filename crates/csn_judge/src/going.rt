@@ -1,7 +1,7 @@
 //! Turns, one after another.
 
 ghost use Rattle.std.specs.Prelude.{◌≡◌, [], length, reverse};
-ghost use Rattle.csn_judge.specs.Credit.{credit_of, Pays, PaysAll};
+ghost use Rattle.csn_judge.specs.Credit.{credit_of, PaysAll, TurnPays};
 ghost use Rattle.csn_judge.specs.Turns.{state_of, turn_of, StandsSomewhere, Turns};
 
 use crate::frame::Frame;
@@ -50,9 +50,7 @@ impl Machine<'_> {
         requires { StandsSomewhere self.old.plan.now (state_of self.old source.old) }
         ensures turns { Turns self.old.plan.now T.takes (state_of self.old source.old) (state_of self.new source.new)
             track.old track.new result }
-        ensures pays { Pays
-            (credit_of (length self.old.plan.now.nodes) (reverse self.old.frames.items) self.old.pace (length source.old.bits))
-            (credit_of (length self.old.plan.now.nodes) (reverse self.new.frames.items) self.new.pace (length source.new.bits))
+        ensures pays { TurnPays self.old.plan.now (state_of self.old source.old) (state_of self.new source.new)
             steps.old steps.new result }
         ensures idle { reverse self.old.frames.items ≡ [] → steps.new ≡ steps.old }
         ensures plan { self.new.plan ≡ self.old.plan }

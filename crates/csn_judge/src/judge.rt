@@ -75,7 +75,7 @@ impl<'a> Judge<'a> {
     pub fn feed<L: Ledger>(&mut self, piece: &[u8], bits: u32, steps: &mut Steps<L>) -> Verdict
         requires within { bits ≤ 8 * length piece.now }
         requires few { self.old.seen + bits ≤ 524288 }
-        ensures judges { Judges (λ made. ⊤) self.old self.new (take bits (bits_of_octets piece.now)) result }
+        ensures judges { Judges (λ around made. ⊤) self.old self.new (take bits (bits_of_octets piece.now)) result }
         ensures refused { self.new.refused ≡ refusal_of result }
         ensures desc { self.new.desc ≡ self.old.desc }
         ensures seen { self.old.refused ≡ None → self.new.seen ≡ self.old.seen + bits }
@@ -95,7 +95,7 @@ impl<'a> Judge<'a> {
     ) -> Verdict
         requires within { bits ≤ 8 * length piece.now }
         requires few { self.old.seen + bits ≤ 524288 }
-        ensures judges { Judges (λ made. Tells self.old.desc T.takes (opened self.old) made (opened self.new) track.old track.new)
+        ensures judges { Judges (λ around made. Tells self.old.desc T.takes (opened self.old) made around track.old track.new)
             self.old self.new (take bits (bits_of_octets piece.now)) result }
         ensures refused { self.new.refused ≡ refusal_of result }
         ensures desc { self.new.desc ≡ self.old.desc }
@@ -126,7 +126,7 @@ impl<'a> Judge<'a> {
 
     /// The block has ended.
     pub fn finish<L: Ledger>(self, steps: &mut Steps<L>) -> Judged
-        ensures ends { Ends (λ made. ⊤) self.entry result }
+        ensures ends { Ends (λ around made. ⊤) self.entry result }
         ensures steps { steps.new ≤ steps.old + credit self.entry }
     {
         self.finish_to(&mut NoTrack, steps)
@@ -134,7 +134,8 @@ impl<'a> Judge<'a> {
 
     /// The same, where each move is told.
     pub fn finish_to<T: Track, L: Ledger>(mut self, track: &mut T, steps: &mut Steps<L>) -> Judged
-        ensures ends { Ends (λ made. Tells self.entry.desc T.takes (opened self.entry) made [] track.old track.new) self.entry result }
+        ensures ends { Ends (λ around made. Tells self.entry.desc T.takes (opened self.entry) made around track.old track.new) self.entry result }
+        ensures stays { (place : ℕ) → self.entry.refused ≡ Some place → track.new ≡ track.old }
         ensures steps { steps.new ≤ steps.old + credit self.entry }
     {
         csn_desc::laws::strings_are_followed();

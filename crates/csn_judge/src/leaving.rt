@@ -1,12 +1,12 @@
 //! Nodes with parts go on behind a part, and are left.
 
-ghost use Rattle.std.specs.Prelude.{◌≡◌, ◌+◌, ◌<◌, ◌≤◌, ◌∷◌, length, reverse, slice_get, Some};
+ghost use Rattle.std.specs.Prelude.{◌≡◌, ◌+◌, ◌<◌, ◌≤◌, length, slice_get, Some};
 ghost use Rattle.csn_desc.specs.declared.moves.Move.TheVariants.{Leave};
 ghost use Rattle.csn_desc.specs.declared.node.Node.{Node as NodeV};
 ghost use Rattle.csn_judge.specs.declared.frame.Frame.TheVariants as frame;
 ghost use Rattle.csn_judge.specs.declared.turn.Turn.TheVariants as turn;
 ghost use Rattle.csn_judge.specs.declared.frame.Frame.{Frame as FrameV};
-ghost use Rattle.csn_judge.specs.Credit.{credit_of, Pays};
+ghost use Rattle.csn_judge.specs.Credit.{TurnPays};
 ghost use Rattle.csn_judge.specs.Known.{Known};
 ghost use Rattle.csn_judge.specs.Turns.{IsPassed, state_of, state_with, StandsSomewhere, Turns};
 
@@ -42,9 +42,7 @@ impl Machine<'_> {
         requires node { i < length self.now.plan.now.nodes }
         ensures turns { (top : FrameV) → IsPassed top i → Turns self.now.plan.now T.takes (state_with top self.now source.now)
             (state_of self.now source.now) track.old track.new result }
-        ensures pays { (top : FrameV) → IsPassed top i → Pays
-            (credit_of (length self.now.plan.now.nodes) (top ∷ reverse self.now.frames.items) self.now.pace (length source.now.bits))
-            (credit_of (length self.now.plan.now.nodes) (reverse self.now.frames.items) self.now.pace (length source.now.bits))
+        ensures pays { (top : FrameV) → IsPassed top i → TurnPays self.now.plan.now (state_with top self.now source.now) (state_of self.now source.now)
             steps.old steps.new result }
     {
         self.leave(i, track, steps);
@@ -64,9 +62,7 @@ impl Machine<'_> {
         requires { StandsSomewhere self.old.plan.now (state_with (frame.Seq i at values) self.old source.now) }
         ensures turns { Turns self.old.plan.now T.takes (state_with (frame.Seq i at values) self.old source.now)
             (state_of self.new source.now) track.old track.new result }
-        ensures pays { Pays
-            (credit_of (length self.old.plan.now.nodes) (frame.Seq i at values ∷ reverse self.old.frames.items) self.old.pace (length source.now.bits))
-            (credit_of (length self.old.plan.now.nodes) (reverse self.new.frames.items) self.new.pace (length source.now.bits))
+        ensures pays { TurnPays self.old.plan.now (state_with (frame.Seq i at values) self.old source.now) (state_of self.new source.now)
             steps.old steps.new result }
         ensures plan { self.new.plan ≡ self.old.plan }
     {
@@ -101,9 +97,7 @@ impl Machine<'_> {
         requires { StandsSomewhere self.old.plan.now (state_with (frame.Times i part left) self.old source.now) }
         ensures turns { Turns self.old.plan.now T.takes (state_with (frame.Times i part left) self.old source.now)
             (state_of self.new source.now) track.old track.new result }
-        ensures pays { Pays
-            (credit_of (length self.old.plan.now.nodes) (frame.Times i part left ∷ reverse self.old.frames.items) self.old.pace (length source.now.bits))
-            (credit_of (length self.old.plan.now.nodes) (reverse self.new.frames.items) self.new.pace (length source.now.bits))
+        ensures pays { TurnPays self.old.plan.now (state_with (frame.Times i part left) self.old source.now) (state_of self.new source.now)
             steps.old steps.new result }
         ensures waits { result ≡ turn.Waits → steps.new ≤ steps.old + 1 }
         ensures plan { self.new.plan ≡ self.old.plan }
@@ -134,9 +128,7 @@ impl Machine<'_> {
         requires { StandsSomewhere self.old.plan.now (state_with (frame.Window i end outer) self.old source.old) }
         ensures turns { Turns self.old.plan.now T.takes (state_with (frame.Window i end outer) self.old source.old)
             (state_of self.new source.new) track.old track.new result }
-        ensures pays { Pays
-            (credit_of (length self.old.plan.now.nodes) (frame.Window i end outer ∷ reverse self.old.frames.items) self.old.pace (length source.old.bits))
-            (credit_of (length self.old.plan.now.nodes) (reverse self.new.frames.items) self.new.pace (length source.new.bits))
+        ensures pays { TurnPays self.old.plan.now (state_with (frame.Window i end outer) self.old source.old) (state_of self.new source.new)
             steps.old steps.new result }
         ensures plan { self.new.plan ≡ self.old.plan }
     {

@@ -1,13 +1,13 @@
 //! Choices, free repetitions and truncations look at the bits ahead.
 
-ghost use Rattle.std.specs.Prelude.{◌≡◌, ℕ, ◌+◌, ◌-◌, ◌%◌, ◌<◌, ◌≤◌, ◌⊎◌, IsTrue, true, false, [], ◌∷◌, length, min, reverse, take, slice_get, Some};
+ghost use Rattle.std.specs.Prelude.{◌≡◌, ◌+◌, ◌-◌, ◌%◌, ◌<◌, ◌≤◌, ◌⊎◌, IsTrue, true, false, [], length, min, take, slice_get, Some};
 ghost use Rattle.csn_certify.specs.declared.pick.Pick.TheVariants.{Refuse};
 ghost use Rattle.csn_judge.specs.Coming.{IsGood};
 ghost use Rattle.csn_judge.specs.Picked.{IsNotRefused};
 ghost use Rattle.csn_certify.specs.Picks.{IsAsked, Picks};
 ghost use Rattle.csn_judge.specs.declared.frame.Frame.TheVariants as frame;
 ghost use Rattle.csn_judge.specs.declared.turn.Turn.TheVariants as turn;
-ghost use Rattle.csn_judge.specs.Credit.{credit_of, Pays};
+ghost use Rattle.csn_judge.specs.Credit.{TurnPays};
 ghost use Rattle.csn_judge.specs.Turns.{state_of, state_with, tells_nothing, StandsSomewhere, Turns};
 
 use crate::frame::Frame;
@@ -31,9 +31,7 @@ impl Machine<'_> {
         requires { StandsSomewhere self.old.plan.now (state_with (frame.Open i) self.old source.old) }
         ensures turns { Turns self.old.plan.now tells_nothing (state_with (frame.Open i) self.old source.old)
             (state_of self.new source.new) tt tt result }
-        ensures pays { Pays
-            (credit_of (length self.old.plan.now.nodes) (frame.Open i ∷ reverse self.old.frames.items) self.old.pace (length source.old.bits))
-            (credit_of (length self.old.plan.now.nodes) (reverse self.new.frames.items) self.new.pace (length source.new.bits))
+        ensures pays { TurnPays self.old.plan.now (state_with (frame.Open i) self.old source.old) (state_of self.new source.new)
             steps.old steps.new result }
         ensures plan { self.new.plan ≡ self.old.plan }
     {
@@ -53,9 +51,7 @@ impl Machine<'_> {
         requires stands { StandsSomewhere self.old.plan.now (state_with (frame.Open i) self.old source.old) }
         ensures turns { Turns self.old.plan.now tells_nothing (state_with (frame.Open i) self.old source.old)
             (state_of self.new source.new) tt tt result }
-        ensures pays { Pays
-            (credit_of (length self.old.plan.now.nodes) (frame.Open i ∷ reverse self.old.frames.items) self.old.pace (length source.old.bits))
-            (credit_of (length self.old.plan.now.nodes) (reverse self.new.frames.items) self.new.pace (length source.new.bits))
+        ensures pays { TurnPays self.old.plan.now (state_with (frame.Open i) self.old source.old) (state_of self.new source.new)
             steps.old (steps.new + 1) result }
         ensures plan { self.new.plan ≡ self.old.plan }
     {
@@ -120,9 +116,7 @@ impl Machine<'_> {
         requires none { ready ≡ 0 → Picks self.old.plan.now 12 i (source.now.place % 8) [] true Refuse }
         ensures turns { Turns self.old.plan.now tells_nothing (state_with (frame.Open i) self.old source.now)
             (state_of self.new source.now) tt tt result }
-        ensures pays { Pays
-            (credit_of (length self.old.plan.now.nodes) (frame.Open i ∷ reverse self.old.frames.items) self.old.pace (length source.now.bits))
-            (credit_of (length self.old.plan.now.nodes) (reverse self.new.frames.items) self.new.pace (length source.now.bits))
+        ensures pays { TurnPays self.old.plan.now (state_with (frame.Open i) self.old source.now) (state_of self.new source.now)
             steps.old (steps.new + 2) result }
         ensures plan { self.new.plan ≡ self.old.plan }
     {
@@ -200,9 +194,7 @@ impl Machine<'_> {
         requires { StandsSomewhere self.old.plan.now (state_with (frame.Many i part) self.old source.old) }
         ensures turns { Turns self.old.plan.now T.takes (state_with (frame.Many i part) self.old source.old)
             (state_of self.new source.new) track.old track.new result }
-        ensures pays { Pays
-            (credit_of (length self.old.plan.now.nodes) (frame.Many i part ∷ reverse self.old.frames.items) self.old.pace (length source.old.bits))
-            (credit_of (length self.old.plan.now.nodes) (reverse self.new.frames.items) self.new.pace (length source.new.bits))
+        ensures pays { TurnPays self.old.plan.now (state_with (frame.Many i part) self.old source.old) (state_of self.new source.new)
             steps.old steps.new result }
         ensures waits { result ≡ turn.Waits → steps.new ≤ steps.old + 1 }
         ensures plan { self.new.plan ≡ self.old.plan }
@@ -234,9 +226,7 @@ impl Machine<'_> {
         requires { StandsSomewhere self.old.plan.now (state_with (frame.Trunc i at values) self.old source.old) }
         ensures turns { Turns self.old.plan.now T.takes (state_with (frame.Trunc i at values) self.old source.old)
             (state_of self.new source.new) track.old track.new result }
-        ensures pays { Pays
-            (credit_of (length self.old.plan.now.nodes) (frame.Trunc i at values ∷ reverse self.old.frames.items) self.old.pace (length source.old.bits))
-            (credit_of (length self.old.plan.now.nodes) (reverse self.new.frames.items) self.new.pace (length source.new.bits))
+        ensures pays { TurnPays self.old.plan.now (state_with (frame.Trunc i at values) self.old source.old) (state_of self.new source.new)
             steps.old steps.new result }
         ensures waits { result ≡ turn.Waits → steps.new ≤ steps.old + 1 }
         ensures plan { self.new.plan ≡ self.old.plan }

@@ -1,9 +1,9 @@
 //! Bits are taken by leaves.
 
-ghost use Rattle.std.specs.Prelude.{◌≡◌, ◌+◌, ◌∷◌, length, reverse, slice_get, Some};
+ghost use Rattle.std.specs.Prelude.{◌≡◌, ◌+◌, slice_get, Some};
 ghost use Rattle.csn_judge.specs.declared.frame.Frame.TheVariants as frame;
 ghost use Rattle.csn_judge.specs.declared.turn.Turn.TheVariants.{Waits};
-ghost use Rattle.csn_judge.specs.Credit.{credit_of, Pays};
+ghost use Rattle.csn_judge.specs.Credit.{TurnPays};
 ghost use Rattle.csn_judge.specs.Turns.{state_of, state_with, StandsSomewhere, Turns};
 
 use crate::frame::{Counted, Frame};
@@ -31,9 +31,7 @@ impl Machine<'_> {
         ensures turns { Turns self.old.plan.now T.takes (state_with (frame.Leaf i leaf) self.old source.old)
             (state_of self.new source.new) track.old track.new result }
         ensures plan { self.new.plan ≡ self.old.plan }
-        ensures pays { Pays
-            (credit_of (length self.old.plan.now.nodes) (frame.Leaf i leaf ∷ reverse self.old.frames.items) self.old.pace (length source.old.bits))
-            (credit_of (length self.old.plan.now.nodes) (reverse self.new.frames.items) self.new.pace (length source.new.bits))
+        ensures pays { TurnPays self.old.plan.now (state_with (frame.Leaf i leaf) self.old source.old) (state_of self.new source.new)
             steps.old steps.new result }
     {
         let node = self.plan.node(i, steps);
@@ -54,9 +52,7 @@ impl Machine<'_> {
         ensures turns { Turns self.old.plan.now T.takes (state_with (frame.Leaf i leaf) self.old source.old)
             (state_of self.new source.new) track.old track.new result }
         ensures plan { self.new.plan ≡ self.old.plan }
-        ensures pays { Pays
-            (credit_of (length self.old.plan.now.nodes) (frame.Leaf i leaf ∷ reverse self.old.frames.items) self.old.pace (length source.old.bits))
-            (credit_of (length self.old.plan.now.nodes) (reverse self.new.frames.items) self.new.pace (length source.new.bits))
+        ensures pays { TurnPays self.old.plan.now (state_with (frame.Leaf i leaf) self.old source.old) (state_of self.new source.new)
             0 1 result }
     {
         let before = source.place();
@@ -92,9 +88,7 @@ impl Machine<'_> {
         ensures turns { Turns self.old.plan.now T.takes (state_with (frame.Counted counted) self.old source.old)
             (state_of self.new source.new) track.old track.new result }
         ensures plan { self.new.plan ≡ self.old.plan }
-        ensures pays { Pays
-            (credit_of (length self.old.plan.now.nodes) (frame.Counted counted ∷ reverse self.old.frames.items) self.old.pace (length source.old.bits))
-            (credit_of (length self.old.plan.now.nodes) (reverse self.new.frames.items) self.new.pace (length source.new.bits))
+        ensures pays { TurnPays self.old.plan.now (state_with (frame.Counted counted) self.old source.old) (state_of self.new source.new)
             steps.old steps.new result }
     {
         let field = self.plan.node(counted.part, steps);
@@ -116,9 +110,7 @@ impl Machine<'_> {
         ensures turns { Turns self.old.plan.now T.takes (state_with (frame.Counted counted) self.old source.old)
             (state_of self.new source.new) track.old track.new result }
         ensures plan { self.new.plan ≡ self.old.plan }
-        ensures pays { Pays
-            (credit_of (length self.old.plan.now.nodes) (frame.Counted counted ∷ reverse self.old.frames.items) self.old.pace (length source.old.bits))
-            (credit_of (length self.old.plan.now.nodes) (reverse self.new.frames.items) self.new.pace (length source.new.bits))
+        ensures pays { TurnPays self.old.plan.now (state_with (frame.Counted counted) self.old source.old) (state_of self.new source.new)
             steps.old (steps.new + 1) result }
         ensures waits { result ≡ Waits → steps.new ≡ steps.old }
     {

@@ -3,7 +3,7 @@
 ghost use Rattle.std.specs.Prelude.{◌≡◌, ◌≢◌, ◌+◌, ◌-◌, ◌*◌, ◌^◌, ◌<◌, ◌≤◌, ◌⊎◌, ◌↔◌, IsTrue, true, false, [], ◌++◌, length, take, drop, min, IfSome, IfNone};
 ghost use Rattle.csn_bits.specs.Octets.{IsBits, bits_of_octets};
 ghost use Rattle.csn_bits.specs.Numbers.{number_of, low_bits};
-ghost use Rattle.csn_judge.specs.Coming.{Coming, IsGood, bits_from};
+ghost use Rattle.csn_judge.specs.Coming.{Coming, IsGood, IsSame, bits_from};
 
 use csn_look::Word;
 use std::marker::Model;
@@ -148,10 +148,7 @@ impl<'a> Source<'a> {
         requires { most ≤ MOST_RUN }
         ensures count { result ≡ min most (min (length self.new.bits) (self.new.limit - self.new.place)) }
         ensures held { min most (length self.new.bits) ≤ self.new.held }
-        ensures bits { self.new.bits ≡ self.old.bits }
-        ensures place { self.new.place ≡ self.old.place }
-        ensures limit { self.new.limit ≡ self.old.limit }
-        ensures ended { self.new.ended ≡ self.old.ended }
+        ensures same { IsSame self.old self.new }
         ensures within { self.new.held ≤ length self.new.bits }
         ensures good { IsGood self.new }
     {

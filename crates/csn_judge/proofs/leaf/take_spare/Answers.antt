@@ -1,10 +1,11 @@
 use Rattle.std.proofs.Common.{◌+◌, ◌∙◌, take, refl, sym, ap, arith}
 use Rattle.std.specs.Prelude.{replicate}
 use Rattle.csn_desc.specs.Spelled.{spelled}
-use Rattle.csn_judge.proofs.Leaves.{length-spelled}
-use Rattle.csn_judge.proofs.SpellingFacts.{length-repeated, all_alike, spare_sent, spare_unsent, spare_mismatch}
+use Rattle.csn_judge.proofs.SpellingFacts.{all_alike, spare_sent, spare_unsent, spare_mismatch}
 use Rattle.csn_judge.proofs.leaf.take_spare.Goals.{in-Sent+else-alike-count, in_default}
 use Rattle.csn_judge.proofs.leaf.take_spare.Goals as goal
+use Rattle.csn_desc.proofs.BitFacts.{length-spelled}
+use Rattle.std.proofs.lemmas.List.{length-replicate}
 
 pub returns-then-alike-count-clause-some : goal.returns-then-alike-count-clause-some
 returns-then-alike-count-clause-some g c =
@@ -23,7 +24,7 @@ returns-clause-none g c = (
   elim c.match-reading.branch [
     | in-Sent+else-alike-count w ↦
         let wanted = w.repeated-wanted.ensures.value ∙ ap (λ p. spelled (replicate c.args.count c.args.symbol) p) w.place.ensures.place in
-        let long = length-spelled (replicate c.args.count c.args.symbol) c.args.source.now.place ∙ length-repeated c.args.count c.args.symbol in
+        let long = length-spelled (replicate c.args.count c.args.symbol) c.args.source.now.place ∙ length-replicate c.args.count c.args.symbol in
         spare_sent c.args.reading c.args.symbol c.args.count c.args.source.now.place c.args.source.now.bits w.in-Sent.is (omega (arith, w.place.ensures.held, c.requires.held))
         (all_alike w.alike-alike.result c.args.count c.args.source.now.bits (spelled (replicate c.args.count c.args.symbol) c.args.source.now.place) w.alike-alike.ensures.within w.if-alike-count.false long
         (w.alike-alike.ensures.same ∙ ap (λ l. take w.alike-alike.result l) wanted))

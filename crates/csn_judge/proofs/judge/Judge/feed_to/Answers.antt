@@ -1,4 +1,4 @@
-use Rattle.std.proofs.Common.{◌≡◌, ℕ, suc, ◌+◌, ◌*◌, ◌<◌, ◌≤◌, List, [], ◌++◌, length, take, Bool, false, Option, None, Some, refl, sym, ap, subst, ◌∙◌, arith, length-append}
+use Rattle.std.proofs.Common.{◌≡◌, ℕ, suc, ◌+◌, ◌*◌, ◌<◌, ◌≤◌, List, ◌++◌, length, take, false, Option, None, refl, sym, ap, subst, ◌∙◌, arith, length-append}
 use Rattle.std.proofs.lemmas.List.{length-take-le}
 use Rattle.std.proofs.Math.Nat.{mul_assoc}
 use Rattle.csn_bits.specs.Octets.{bits_of_octets}
@@ -8,7 +8,7 @@ use Rattle.csn_judge.specs.declared.judge.Judge.TheInside.{Inside}
 use Rattle.csn_judge.specs.Known.{Known}
 use Rattle.csn_judge.specs.Coming.{Coming}
 use Rattle.csn_judge.specs.Credit.{credit_of}
-use Rattle.csn_judge.specs.Turns.{StateV, state_of, Stands, StandsSomewhere}
+use Rattle.csn_judge.specs.Turns.{StateV, state_of, Stands}
 use Rattle.csn_judge.specs.Told.{Tells}
 use Rattle.csn_judge.specs.Judging.{JudgeV, judge_of, opened, while_going, credit, Judges}
 use Rattle.csn_judge.specs.declared.machine.Machine.{Machine}
@@ -26,7 +26,7 @@ piece_length bits piece within = length-take-le bits (bits_of_octets piece) (ome
 
 pub returns-in-Some-clause-judges : goal.returns-in-Some-clause-judges
 returns-in-Some-clause-judges g c =
-    feeds_still c.prefixes_are_followed.ensures (λ made. Tells c.args.self.now.desc g.T.Track.takes (opened c.args.self.now) made (opened c.args.self.now) c.args.track.now c.args.track.now)
+    feeds_still c.prefixes_are_followed.ensures (λ around made. Tells c.args.self.now.desc g.T.Track.takes (opened c.args.self.now) made around c.args.track.now c.args.track.now)
     c.args.self.now c.args.self.now (take c.args.bits (bits_of_octets c.args.piece.now)) c.in-Some.place (sym (ap (λ j. j.refused) c.self.view_is) ∙ c.in-Some.is)
 
 pub returns-then-bits-eq0-clause-judges : goal.returns-then-bits-eq0-clause-judges
@@ -107,8 +107,8 @@ returns-in-Going-clause-judges g c =
     let after : StateV = state_of c.go-verdict.new.self c.go-verdict.new.source in
     let new : JudgeV = judge_of (waiting c.self.inside c.go-verdict.new.self c.held-self-inside.result c.place-self-inside.result c.limit-self-inside.result c.args.bits) in
     let more : List ℕ = take c.args.bits (bits_of_octets c.args.piece.now) in
-    let P : JudgeV → Type 0 = λ j. Judges (λ made. Tells j.desc g.T.Track.takes (opened j) made (opened new) c.args.track.now c.go-verdict.new.track) j new more Going in
-    let V : Verdict → Type 0 = λ v. Judges (λ made. Tells c.args.self.now.desc g.T.Track.takes (opened c.args.self.now) made (opened new) c.args.track.now c.go-verdict.new.track) c.args.self.now new more v in
+    let P : JudgeV → Type 0 = λ j. Judges (λ around made. Tells j.desc g.T.Track.takes (opened j) made around c.args.track.now c.go-verdict.new.track) j new more Going in
+    let V : Verdict → Type 0 = λ v. Judges (λ around made. Tells c.args.self.now.desc g.T.Track.takes (opened c.args.self.now) made around c.args.track.now c.go-verdict.new.track) c.args.self.now new more v in
     subst V (sym c.in-Going.is)
     (subst P c.self.view_is
     (feeds_on g.T.Track.takes old new more c.new-source.result after c.args.track.now c.go-verdict.new.track
@@ -121,7 +121,7 @@ pub returns-in-Refused-clause-judges : goal.returns-in-Refused-clause-judges
 returns-in-Refused-clause-judges g c =
     let old : JudgeV = judge_of c.self.inside in
     let more : List ℕ = take c.args.bits (bits_of_octets c.args.piece.now) in
-    let P : JudgeV → Type 0 = λ j. Judges (λ made. Tells j.desc g.T.Track.takes (opened j) made (opened j) c.args.track.now c.args.track.now) j j more (Refused c.in-Refused.place) in
+    let P : JudgeV → Type 0 = λ j. Judges (λ around made. Tells j.desc g.T.Track.takes (opened j) made around c.args.track.now c.go-verdict.new.track) j j more (Refused c.in-Refused.place) in
     subst P c.self.view_is
     (feeds_none g.T.Track.takes old old more c.new-source.result (state_of c.go-verdict.new.self c.go-verdict.new.source) c.args.track.now c.go-verdict.new.track
     c.prefixes_are_followed.ensures c.in-Refused.place c.in_default.is (come c.self.inside more c.new-source.result c.new-source.ensures) c.in-Refused.ensures.turns)

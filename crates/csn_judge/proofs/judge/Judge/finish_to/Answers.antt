@@ -1,16 +1,15 @@
-use Rattle.std.proofs.Common.{◌≡◌, ℕ, ◌+◌, ◌<◌, ◌==◌, Bool, true, false, eqb-true, List, [], ◌∷◌, ◌++◌, length, reverse, None, Some, refl, sym, ap, subst, ◌∙◌, arith, length-append}
+use Rattle.std.proofs.Common.{◌≡◌, ◌+◌, ◌==◌, true, false, eqb-true, List, [], ◌∷◌, length, reverse, None, refl, sym, ap, subst, ◌∙◌, arith}
 use Rattle.std.proofs.lemmas.List.{length-reverse}
-use Rattle.csn_desc.specs.Nodes.{DescV}
 use Rattle.csn_judge.specs.declared.judge.Judge.TheInside.{Inside}
 use Rattle.csn_judge.specs.declared.frame.Frame.{Frame}
 use Rattle.csn_judge.specs.Coming.{Coming}
 use Rattle.csn_bits.specs.Numbers.{low_bits}
 use Rattle.csn_judge.specs.Turns.{StateV, state_of}
-use Rattle.csn_judge.specs.Told.{Tells}
+use Rattle.csn_judge.specs.Told.{Tells, tells_none}
 use Rattle.csn_judge.specs.Judging.{JudgeV, judge_of, opened, Ends}
 use Rattle.csn_judge.specs.declared.verdict.Judged.TheVariants.{Ok, Refused}
 use Rattle.csn_bits.proofs.NumberFacts.{length-low_bits}
-use Rattle.csn_judge.proofs.JudgingFacts.{IsOver, ends_refused, ends_held, ends_string, ends_none, ends_never}
+use Rattle.csn_judge.proofs.JudgingFacts.{IsOver, ends_held, ends_string, ends_none, ends_never}
 use Rattle.csn_judge.proofs.judge.Judge.finish_to.Goals as goal
 
 -- no bits are held
@@ -31,15 +30,15 @@ is_none (frame ∷ frames) e = absurd (omega (arith, e))
 
 pub returns-then-self-gt0-clause-ends : goal.returns-then-self-gt0-clause-ends
 returns-then-self-gt0-clause-ends g c =
-    let P : JudgeV → Type 0 = λ j. Ends (λ made. Tells j.desc g.T.Track.takes (opened j) made [] c.args.track.now c.args.track.now) j (Refused c.self.inside.seen) in
+    let P : JudgeV → Type 0 = λ j. Ends (λ around made. Tells j.desc g.T.Track.takes (opened j) made around c.args.track.now c.args.track.now) j (Refused c.self.inside.seen) in
     subst P c.self.view_is
-    (ends_held c.trees_have_moves.ensures.some (λ made. Tells c.self.inside.machine.plan.now g.T.Track.takes (opened (judge_of c.self.inside)) made [] c.args.track.now c.args.track.now)
-    (judge_of c.self.inside) c.in_default.is (omega (arith, c.if-self-gt0.true, length-low_bits c.self.inside.held.count c.self.inside.held.number)))
+    (ends_held c.trees_have_moves.ensures.some (λ around made. Tells c.self.inside.machine.plan.now g.T.Track.takes (opened (judge_of c.self.inside)) made around c.args.track.now c.args.track.now)
+    (judge_of c.self.inside) c.in_default.is (omega (arith, c.if-self-gt0.true, length-low_bits c.self.inside.held.count c.self.inside.held.number)) (opened (judge_of c.self.inside), [], tells_none refl refl))
 
 pub returns-in-Going-clause-ends : goal.returns-in-Going-clause-ends
 returns-in-Going-clause-ends g c =
     let after : StateV = state_of c.go.new.self c.go.new.source in
-    let P : JudgeV → Type 0 = λ j. Ends (λ made. Tells j.desc g.T.Track.takes (opened j) made [] c.args.track.now c.go.new.track) j Ok in
+    let P : JudgeV → Type 0 = λ j. Ends (λ around made. Tells j.desc g.T.Track.takes (opened j) made around c.args.track.now c.go.new.track) j Ok in
     let is = over c.self.inside c.end-source.result c.in_default.is (omega (arith, c.if-self-gt0.false)) (c.self.invariant.seen_is c.in_default.is) c.end-source.ensures in
     subst P c.self.view_is
     (ends_string g.T.Track.takes (judge_of c.self.inside) c.end-source.result after c.args.track.now c.go.new.track is
@@ -48,19 +47,19 @@ returns-in-Going-clause-ends g c =
 pub returns-in_default-go-clause-ends : goal.returns-in_default-go-clause-ends
 returns-in_default-go-clause-ends g c =
     let after : StateV = state_of c.go.new.self c.go.new.source in
-    let P : JudgeV → Type 0 = λ j. Ends (λ made. Tells j.desc g.T.Track.takes (opened j) made [] c.args.track.now c.go.new.track) j (Refused c.self.inside.seen) in
+    let P : JudgeV → Type 0 = λ j. Ends (λ around made. Tells j.desc g.T.Track.takes (opened j) made around c.args.track.now c.go.new.track) j (Refused c.self.inside.seen) in
     let is = over c.self.inside c.end-source.result c.in_default.is (omega (arith, c.if-self-gt0.false)) (c.self.invariant.seen_is c.in_default.is) c.end-source.ensures in
     subst P c.self.view_is
     (ends_none g.T.Track.takes (judge_of c.self.inside) c.end-source.result after c.args.track.now c.go.new.track c.trees_have_moves.ensures.some is
     (λ empty. let size : length c.go.new.self.frames.items ≡ 0 = sym (length-reverse c.go.new.self.frames.items) ∙ ap (λ l. length l) empty in
     let one : true ≡ false = sym (ap (λ n. n == 0) size) ∙ sym c.is_empty.ensures ∙ c.if-is_empty.false in absurd (cc))
-    (λ made. Tells c.self.inside.machine.plan.now g.T.Track.takes (opened (judge_of c.self.inside)) made [] c.args.track.now c.go.new.track) c.in-Going.ensures.turns)
+    c.in-Going.ensures.turns)
 
 pub returns-in_default-go-2-clause-ends : goal.returns-in_default-go-2-clause-ends
 returns-in_default-go-2-clause-ends g c =
     let after : StateV = state_of c.go.new.self c.go.new.source in
-    let P : JudgeV → Type 0 = λ j. Ends (λ made. Tells j.desc g.T.Track.takes (opened j) made [] c.args.track.now c.go.new.track) j (Refused c.self.inside.seen) in
+    let P : JudgeV → Type 0 = λ j. Ends (λ around made. Tells j.desc g.T.Track.takes (opened j) made around c.args.track.now c.go.new.track) j (Refused c.self.inside.seen) in
     let is = over c.self.inside c.end-source.result c.in_default.is (omega (arith, c.if-self-gt0.false)) (c.self.invariant.seen_is c.in_default.is) c.end-source.ensures in
     subst P c.self.view_is
     (ends_never g.T.Track.takes (judge_of c.self.inside) c.end-source.result after c.args.track.now c.go.new.track is
-    (λ made. Tells c.self.inside.machine.plan.now g.T.Track.takes (opened (judge_of c.self.inside)) made [] c.args.track.now c.go.new.track) _ c.self.inside.seen c.in_default-go.ensures.turns)
+    (λ around made. Tells c.self.inside.machine.plan.now g.T.Track.takes (opened (judge_of c.self.inside)) made around c.args.track.now c.go.new.track) _ c.self.inside.seen c.in_default-go.ensures.turns)

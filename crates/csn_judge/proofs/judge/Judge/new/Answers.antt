@@ -1,9 +1,8 @@
-use Rattle.std.proofs.Common.{◌≡◌, ℕ, arith, refl, sym, ap, subst, reverse, [], ◌∷◌, None}
+use Rattle.std.proofs.Common.{arith, refl, sym, ap, subst, reverse, [], ◌∷◌}
 use Rattle.csn_desc.specs.Nodes.{DescV}
 use Rattle.csn_judge.specs.Known.{Known}
 use Rattle.csn_judge.specs.Left.{all_left}
-use Rattle.csn_judge.specs.Turns.{state_of}
-use Rattle.csn_judge.specs.Judging.{held_of, judges_on}
+use Rattle.csn_judge.specs.Judging.{judges_on}
 use Rattle.csn_judge.proofs.JudgingFacts.{new_stands, new_goes}
 use Rattle.csn_judge.proofs.Turning.{moving}
 use Rattle.csn_judge.proofs.Verdicts.{stands_new}

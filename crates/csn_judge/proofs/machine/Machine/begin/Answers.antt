@@ -1,4 +1,4 @@
-use Rattle.std.proofs.Common.{List, [], ◌∷◌, ◌++◌, reverse, ap, ◌∙◌}
+use Rattle.std.proofs.Common.{List, ◌∷◌, reverse, ap, ◌∙◌}
 use Rattle.csn_judge.specs.declared.frame.Frame.{Frame}
 use Rattle.csn_judge.specs.declared.frame.Frame.TheVariants as frame
 use Rattle.csn_judge.proofs.Turning.{pushed}

@@ -1,46 +1,34 @@
-use Rattle.std.proofs.Common.{inl, inr, ℕ, ◌+◌, List, lit<, ◌%◌, ◌<◌, ◌≤◌, ◌≡◌, ◌∷◌, [], ◌++◌, ◌⊎◌, true, false, length, reverse, refl, sym, ap, subst, ◌∙◌, arith, Some, slice_get}
+use Rattle.std.proofs.Common.{inl, ℕ, ◌+◌, List, lit<, ◌%◌, ◌≡◌, ◌∷◌, ◌⊎◌, true, length, reverse, sym, ap, subst, ◌∙◌, arith, Some}
 use Rattle.std.proofs.lemmas.List.{length-reverse}
 use Rattle.std.proofs.lemmas.Option.{slice_get_within}
 use Rattle.csn_desc.specs.Nodes.{DescV}
-use Rattle.csn_desc.specs.declared.node.Node.TheVariants.{Choice}
-use Rattle.csn_certify.specs.Picks.{IsAsked, Picks}
+use Rattle.csn_certify.specs.Picks.{IsAsked}
 use Rattle.csn_judge.specs.declared.frame.Frame.{Frame}
 use Rattle.csn_judge.specs.declared.frame.Frame.TheVariants as frame
-use Rattle.csn_judge.specs.declared.turn.Turn.TheVariants.{Moved, Waits, Refused}
-use Rattle.csn_judge.specs.Coming.{Coming, IsSame}
+use Rattle.csn_judge.specs.declared.turn.Turn.TheVariants.{Waits, Refused}
+use Rattle.csn_judge.specs.Coming.{Coming}
 use Rattle.csn_judge.specs.Turns.{tells_nothing}
-use Rattle.csn_judge.proofs.Rooms.{no_bits_ready, going_on, begin_room}
 use Rattle.csn_judge.proofs.Paying.{begun_pays_on}
 use Rattle.csn_judge.proofs.PayingParts.{alternative_comes}
-use Rattle.csn_judge.proofs.Turning.{pushed, stays, GoesOn-along}
-use Rattle.csn_judge.proofs.TurningSame.{turns_since, goes_since, stands_on, waits_here}
-use Rattle.csn_judge.proofs.TurningChoices.{open_stands, open_room, open_asked, taken_of, left_of, takes_open, waits_with_all, waits_with_more}
+use Rattle.csn_judge.proofs.Turning.{pushed, stays, GoesOn-along, frames_room}
+use Rattle.csn_judge.proofs.TurningSame.{turns_since, goes_since, stands_on, waits_unready}
+use Rattle.csn_judge.proofs.TurningChoices.{open_asked, taken_of, left_of, takes_open, waits_with_all, waits_with_more, alternative_room}
 use Rattle.csn_judge.proofs.machine.Machine.choose.Goals.{else-ready-eq0-via-then-ready-eq0+else-not-is_closed, else-ready-eq0-via-else-ready-eq0}
 use Rattle.csn_judge.proofs.machine.Machine.choose.Goals as goal
 
 pub push-requires : goal.push-requires
 push-requires g c =
-    let few = open_room c.args.self.now.plan.now c.args.self.now.pace c.requires.stands.stands.shows c.requires.stands.stands.stack_is in
-    (lit< tt, omega (arith, few, length-reverse c.args.self.now.frames.items))
+    (lit< tt, omega (arith, frames_room c.args.self.now.plan.now c.requires.stands.stands.shows c.requires.stands.stands.stack_is, length-reverse c.args.self.now.frames.items))
 
 pub push-requires-in-Wait : goal.push-requires-in-Wait
 push-requires-in-Wait g c =
-    let few = open_room c.args.self.now.plan.now c.args.self.now.pace c.requires.stands.stands.shows c.requires.stands.stands.stack_is in
-    (lit< tt, omega (arith, few, length-reverse c.args.self.now.frames.items))
+    (lit< tt, omega (arith, frames_room c.args.self.now.plan.now c.requires.stands.stands.shows c.requires.stands.stands.stack_is, length-reverse c.args.self.now.frames.items))
 
 pub returns-then-not-is_closed-clause-turns : goal.returns-then-not-is_closed-clause-turns
 returns-then-not-is_closed-clause-turns g c =
-    let d : DescV = c.args.self.now.plan.now in
-    let next : Coming = c.ready-ready.new.self in
-    let frames : List Frame = frame.Open c.args.i ∷ reverse c.args.self.now.frames.items in
-    let same : IsSame c.args.source.now next = record { bits = c.ready-ready.ensures.bits; place = c.ready-ready.ensures.place; limit = c.ready-ready.ensures.limit; ended = c.ready-ready.ensures.ended } in
-    let unclosed : ¬ ((next.ended ≡ true) ⊎ (next.place ≡ next.limit)) = λ closed. let yes = c.is_closed.ensures.1 closed in let no = c.if-not-is_closed.true in absurd (cc) in
-    let none = no_bits_ready next 12 (omega arith) (sym c.ready-ready.ensures.count ∙ c.if-ready-eq0.true) c.ready-ready.ensures.good unclosed in
-    turns_since d tells_nothing tt tt frames c.args.self.now.values.items c.args.self.now.pace same _ Waits
-    (stays d tells_nothing tt c.args.self.now.values.items c.args.self.now.pace next Waits _ tt
+    waits_unready c.args.self.now.plan.now tells_nothing tt c.args.self.now.values.items c.args.self.now.pace c.ready-ready.new.self 12 (omega arith) c.ready-ready.ensures.same (sym c.ready-ready.ensures.count ∙ c.if-ready-eq0.true) c.ready-ready.ensures.good c.ready-ready.ensures.within
+    (λ closed. let yes = c.is_closed.ensures.1 closed in let no = c.if-not-is_closed.true in absurd (cc)) c.requires.stands.known
     (ap (λ (l : List Frame). reverse l) c.push.ensures.items ∙ pushed c.args.self.now.frames.items (frame.Open c.args.i))
-    (waits_here d tells_nothing tt c.args.self.now.values.items c.args.self.now.pace next frames c.requires.stands.known
-    none (omega (arith, c.ready-ready.ensures.within, ap (λ (l : List ℕ). length l) none)) (going_on next.ended (λ over. unclosed (inl over))) c.ready-ready.ensures.good.inside))
 
 pub pick-requires-clause-node : goal.pick-requires-clause-node
 pick-requires-clause-node g c = slice_get_within _ _ _ c.requires.node
@@ -48,7 +36,7 @@ pick-requires-clause-node g c = slice_get_within _ _ _ c.requires.node
 pub pick-requires-clause-asked : goal.pick-requires-clause-asked
 pick-requires-clause-asked g c =
     let d : DescV = c.args.self.now.plan.now in
-    subst (λ o. IsAsked d c.args.i (o % 8)) (sym (c.ready-ready.ensures.place ∙ c.requires.stands.stands.place))
+    subst (λ o. IsAsked d c.args.i (o % 8)) (sym (c.ready-ready.ensures.same.place ∙ c.requires.stands.stands.place))
     (open_asked d c.args.self.now.pace c.requires.stands.known c.requires.stands.stands.shows c.requires.stands.stands.stack_is)
 
 pub get-requires : goal.get-requires
@@ -60,43 +48,13 @@ get-requires g c =
 
 pub begin-requires-clause-few : goal.begin-requires-clause-few
 begin-requires-clause-few g c =
-    let d : DescV = c.args.self.now.plan.now in
-    let next : Coming = c.ready-ready.new.self in
-    let frames : List Frame = frame.Open c.args.i ∷ reverse c.args.self.now.frames.items in
-    let same : IsSame c.args.source.now next = record { bits = c.ready-ready.ensures.bits; place = c.ready-ready.ensures.place; limit = c.ready-ready.ensures.limit; ended = c.ready-ready.ensures.ended } in
-    let closed : c.ready-ready.result ≡ 0 → (next.ended ≡ true) ⊎ (next.place ≡ next.limit) =
-    λ none.
-    elim c.else-ready-eq0.branch [
-      | else-ready-eq0-via-then-ready-eq0+else-not-is_closed w ↦ w.is_closed.ensures.0 w.if-not-is_closed.false
-      | else-ready-eq0-via-else-ready-eq0 w ↦ absurd (w.if-ready-eq0.false none)
-    ]
-    in
-    let on = takes_open d tells_nothing tt c.args.self.now.values.items c.args.self.now.pace next c.ready-ready.result c.in-Choice.parts
-    (c.requires.node ∙ ap (λ n. Some n) c.in-Choice.is) c.get.ensures c.ready-ready.ensures.good c.ready-ready.ensures.count closed c.in-Take.ensures.none c.in-Take.ensures.some c.requires.stands.known
-    (stands_on d tells_nothing tt tt frames c.args.self.now.values.items c.args.self.now.pace same c.requires.stands.stands)
-    in
-    let begins = begin_room c.requires.stands.known on.stands.shows on.stands.stack_is in
-    omega (arith, begins.0)
+    let rooms = alternative_room c.args.self.now.plan.now c.args.self.now.pace c.in-Take.j c.in-Choice.parts c.requires.stands.known (c.requires.node ∙ ap (λ n. Some n) c.in-Choice.is) c.get.ensures c.requires.stands.stands.shows c.requires.stands.stands.stack_is in
+    omega (arith, rooms.0, c.requires.stands.known.description.few)
 
 pub begin-requires-clause-room : goal.begin-requires-clause-room
 begin-requires-clause-room g c =
-    let d : DescV = c.args.self.now.plan.now in
-    let next : Coming = c.ready-ready.new.self in
-    let frames : List Frame = frame.Open c.args.i ∷ reverse c.args.self.now.frames.items in
-    let same : IsSame c.args.source.now next = record { bits = c.ready-ready.ensures.bits; place = c.ready-ready.ensures.place; limit = c.ready-ready.ensures.limit; ended = c.ready-ready.ensures.ended } in
-    let closed : c.ready-ready.result ≡ 0 → (next.ended ≡ true) ⊎ (next.place ≡ next.limit) =
-    λ none.
-    elim c.else-ready-eq0.branch [
-      | else-ready-eq0-via-then-ready-eq0+else-not-is_closed w ↦ w.is_closed.ensures.0 w.if-not-is_closed.false
-      | else-ready-eq0-via-else-ready-eq0 w ↦ absurd (w.if-ready-eq0.false none)
-    ]
-    in
-    let on = takes_open d tells_nothing tt c.args.self.now.values.items c.args.self.now.pace next c.ready-ready.result c.in-Choice.parts
-    (c.requires.node ∙ ap (λ n. Some n) c.in-Choice.is) c.get.ensures c.ready-ready.ensures.good c.ready-ready.ensures.count closed c.in-Take.ensures.none c.in-Take.ensures.some c.requires.stands.known
-    (stands_on d tells_nothing tt tt frames c.args.self.now.values.items c.args.self.now.pace same c.requires.stands.stands)
-    in
-    let begins = begin_room c.requires.stands.known on.stands.shows on.stands.stack_is in
-    omega (arith, begins.1, length-reverse c.args.self.now.frames.items)
+    let rooms = alternative_room c.args.self.now.plan.now c.args.self.now.pace c.in-Take.j c.in-Choice.parts c.requires.stands.known (c.requires.node ∙ ap (λ n. Some n) c.in-Choice.is) c.get.ensures c.requires.stands.stands.shows c.requires.stands.stands.stack_is in
+    omega (arith, rooms.1, length-reverse c.args.self.now.frames.items)
 
 pub unreachable-requires-in-Leave : goal.unreachable-requires-in-Leave
 unreachable-requires-in-Leave g c =
@@ -108,7 +66,6 @@ returns-in-Take-clause-turns g c =
     let d : DescV = c.args.self.now.plan.now in
     let next : Coming = c.ready-ready.new.self in
     let frames : List Frame = frame.Open c.args.i ∷ reverse c.args.self.now.frames.items in
-    let same : IsSame c.args.source.now next = record { bits = c.ready-ready.ensures.bits; place = c.ready-ready.ensures.place; limit = c.ready-ready.ensures.limit; ended = c.ready-ready.ensures.ended } in
     let closed : c.ready-ready.result ≡ 0 → (next.ended ≡ true) ⊎ (next.place ≡ next.limit) =
     λ none.
     elim c.else-ready-eq0.branch [
@@ -117,19 +74,18 @@ returns-in-Take-clause-turns g c =
     ]
     in
     λ stack done stands.
-    goes_since d tells_nothing tt tt frames c.args.self.now.values.items c.args.self.now.pace same _
+    goes_since d tells_nothing tt tt frames c.args.self.now.values.items c.args.self.now.pace c.ready-ready.ensures.same _
     (GoesOn-along d tells_nothing tt c.args.self.now.values.items c.args.self.now.pace next c.begin.ensures.frames (ap (λ v. v.items) c.begin.ensures.values) c.begin.ensures.pace
     (takes_open d tells_nothing tt c.args.self.now.values.items c.args.self.now.pace next c.ready-ready.result c.in-Choice.parts
     (c.requires.node ∙ ap (λ n. Some n) c.in-Choice.is) c.get.ensures c.ready-ready.ensures.good c.ready-ready.ensures.count closed c.in-Take.ensures.none c.in-Take.ensures.some c.requires.stands.known
-    (stands_on d tells_nothing tt tt frames c.args.self.now.values.items c.args.self.now.pace same stands)))
+    (stands_on d tells_nothing tt tt frames c.args.self.now.values.items c.args.self.now.pace c.ready-ready.ensures.same stands)))
 
 pub returns-then-has_more-clause-turns : goal.returns-then-has_more-clause-turns
 returns-then-has_more-clause-turns g c =
     let d : DescV = c.args.self.now.plan.now in
     let next : Coming = c.ready-ready.new.self in
     let frames : List Frame = frame.Open c.args.i ∷ reverse c.args.self.now.frames.items in
-    let same : IsSame c.args.source.now next = record { bits = c.ready-ready.ensures.bits; place = c.ready-ready.ensures.place; limit = c.ready-ready.ensures.limit; ended = c.ready-ready.ensures.ended } in
-    turns_since d tells_nothing tt tt frames c.args.self.now.values.items c.args.self.now.pace same _ (Refused (c.place.result + c.ready-ready.result))
+    turns_since d tells_nothing tt tt frames c.args.self.now.values.items c.args.self.now.pace c.ready-ready.ensures.same _ (Refused (c.place.result + c.ready-ready.result))
     (waits_with_more d tells_nothing tt c.args.self.now.values.items c.args.self.now.pace next _ (c.place.result + c.ready-ready.result) c.ready-ready.result c.in-Choice.parts
     (c.requires.node ∙ ap (λ n. Some n) c.in-Choice.is) c.ready-ready.ensures.good c.ready-ready.ensures.count (c.has_more.ensures.0 c.if-has_more.true) (ap (λ n. n + c.ready-ready.result) c.place.ensures.place)
     c.in-Wait.ensures.none c.in-Wait.ensures.some c.requires.stands.known)
@@ -139,8 +95,7 @@ returns-else-has_more-clause-turns g c =
     let d : DescV = c.args.self.now.plan.now in
     let next : Coming = c.ready-ready.new.self in
     let frames : List Frame = frame.Open c.args.i ∷ reverse c.args.self.now.frames.items in
-    let same : IsSame c.args.source.now next = record { bits = c.ready-ready.ensures.bits; place = c.ready-ready.ensures.place; limit = c.ready-ready.ensures.limit; ended = c.ready-ready.ensures.ended } in
-    turns_since d tells_nothing tt tt frames c.args.self.now.values.items c.args.self.now.pace same _ Waits
+    turns_since d tells_nothing tt tt frames c.args.self.now.values.items c.args.self.now.pace c.ready-ready.ensures.same _ Waits
     (stays d tells_nothing tt c.args.self.now.values.items c.args.self.now.pace next Waits _ tt
     (ap (λ (l : List Frame). reverse l) c.push-in-Wait.ensures.items ∙ pushed c.args.self.now.frames.items (frame.Open c.args.i))
     (waits_with_all d tells_nothing tt c.args.self.now.values.items c.args.self.now.pace next c.ready-ready.result c.in-Choice.parts
@@ -153,12 +108,11 @@ returns-in-Refuse-clause-turns g c =
     let d : DescV = c.args.self.now.plan.now in
     let next : Coming = c.ready-ready.new.self in
     let frames : List Frame = frame.Open c.args.i ∷ reverse c.args.self.now.frames.items in
-    let same : IsSame c.args.source.now next = record { bits = c.ready-ready.ensures.bits; place = c.ready-ready.ensures.place; limit = c.ready-ready.ensures.limit; ended = c.ready-ready.ensures.ended } in
-    turns_since d tells_nothing tt tt frames c.args.self.now.values.items c.args.self.now.pace same _ c.refuse.result c.refuse.ensures.turns
+    turns_since d tells_nothing tt tt frames c.args.self.now.values.items c.args.self.now.pace c.ready-ready.ensures.same _ c.refuse.result c.refuse.ensures.turns
 
 pub returns-in-Take-clause-pays : goal.returns-in-Take-clause-pays
 returns-in-Take-clause-pays g c =
     let d : DescV = c.args.self.now.plan.now in
-    let rises = alternative_comes d c.args.self.now.pace _ c.in-Choice.parts (c.requires.node ∙ ap (λ n. Some n) c.in-Choice.is) c.get.ensures c.requires.stands.known c.requires.stands.stands.shows c.requires.stands.stands.stack_is in
-    begun_pays_on c.args.steps.now 2 (frame.Open c.args.i) _ (ap (λ (l : List ℕ). length l) c.ready-ready.ensures.bits) c.begin.ensures.frames c.begin.ensures.pace (omega (arith, c.pick.ensures.step))
+    let rises = alternative_comes d c.args.self.now.pace c.in-Take.j c.in-Choice.parts (c.requires.node ∙ ap (λ n. Some n) c.in-Choice.is) c.get.ensures c.requires.stands.known c.requires.stands.stands.shows c.requires.stands.stands.stack_is in
+    begun_pays_on c.args.steps.now 2 (frame.Open c.args.i) _ (ap (λ (l : List ℕ). length l) c.ready-ready.ensures.same.bits) c.begin.ensures.frames c.begin.ensures.pace (omega (arith, c.pick.ensures.step))
     rises.is_node (inl rises.rises) (omega arith) (omega arith)

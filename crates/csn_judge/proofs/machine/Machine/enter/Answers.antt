@@ -1,4 +1,4 @@
-use Rattle.std.proofs.Common.{inl, ℕ, ◌+◌, ◌*◌, List, lit<, ◌<◌, ◌≤◌, ◌≡◌, ◌∷◌, [], ◌++◌, length, min, reverse, refl, sym, ap, subst, ◌∙◌, arith, Some, slice_get}
+use Rattle.std.proofs.Common.{inl, ℕ, ◌+◌, ◌*◌, List, ◌∷◌, [], length, min, refl, ap, subst, ◌∙◌, arith, Some}
 use Rattle.std.proofs.lemmas.List.{length-reverse}
 use Rattle.csn_desc.specs.Nodes.{DescV}
 use Rattle.csn_desc.specs.declared.moves.Move.TheVariants.{Enter, Leave}
@@ -10,7 +10,7 @@ use Rattle.csn_judge.proofs.Paying.{begun_pays, begun_pays_on}
 use Rattle.csn_judge.proofs.Rooms.{begin_room, begin_within}
 use Rattle.csn_judge.proofs.Turning.{GoesOn-along}
 use Rattle.csn_judge.proofs.TurningOn.{turns_then, quietly}
-use Rattle.csn_judge.proofs.TurningEntry.{at_begin, literal, spare, pad, rest, field, choice, turns, free, truncation, sequence, window, null, node_within, frames_few, some_parts, field_fits, window_fits, keeps_field, keeps_turns, keeps_window, first_rises, stands_behind}
+use Rattle.csn_judge.proofs.TurningEntry.{at_begin, literal, spare, pad, rest, field, choice, turns, free, truncation, sequence, window, null, node_within, some_parts, field_fits, window_fits, keeps_field, keeps_turns, keeps_window, first_rises, stands_behind}
 use Rattle.csn_judge.proofs.machine.Machine.enter.Goals as goal
 
 pub node-node-requires : goal.node-node-requires

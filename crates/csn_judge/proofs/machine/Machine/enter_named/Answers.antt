@@ -1,40 +1,31 @@
 use Rattle.std.specs.Prelude.{⊤}
-use Rattle.std.proofs.Common.{inl, ◌≡◌, ℕ, suc, ◌+◌, ◌*◌, ◌||◌, nat_lt, ◌∷◌, ◌++◌, List, length, reverse, true, Some, slice_get, refl, sym, ap, ◌∙◌, subst, arith}
+use Rattle.std.proofs.Common.{inl, ◌≡◌, ◌*◌, ◌∷◌, ◌++◌, length, reverse, Some, slice_get, refl, sym, ap, ◌∙◌, subst, arith}
 use Rattle.std.proofs.lemmas.List.{length-reverse}
 use Rattle.std.proofs.lemmas.Option.{slice_get_within}
 use Rattle.csn_desc.specs.declared.node.Node.TheVariants.{Field, Named}
 use Rattle.csn_desc.specs.declared.node.Count.TheVariants.{Fixed}
 use Rattle.csn_desc.specs.Nodes.{DescV}
 use Rattle.csn_judge.specs.declared.frame.Frame.TheVariants as frame
-use Rattle.csn_judge.specs.Left.{Left}
-use Rattle.csn_judge.specs.Inside.{IsStack}
-use Rattle.csn_desc.specs.Formed.{is_counted}
 use Rattle.csn_judge.specs.declared.pace.Pace.{Pace}
 use Rattle.csn_judge.specs.Credit.{credit_of}
-use Rattle.csn_judge.specs.Turns.{fresh_at, begun_by, StateV, state_of, state_with, Stands, GoesOn}
+use Rattle.csn_judge.specs.Turns.{begun_by, StateV, state_of, state_with, Stands, GoesOn}
 use Rattle.csn_judge.proofs.PayingBits.{counted_credit, entered_pays}
-use Rattle.csn_judge.proofs.Turning.{room, round_length, begun_within, GoesOn-along}
+use Rattle.csn_judge.proofs.Turning.{GoesOn-along, begun_again}
 use Rattle.csn_judge.proofs.TurningOn.{turns_then}
 use Rattle.csn_judge.proofs.TurningCounted.{field_width, counted_width}
-use Rattle.csn_judge.proofs.TurningNamed.{begin_stands, part_rises, named_stack, label_goes_on, counted_goes_on}
+use Rattle.csn_judge.proofs.TurningNamed.{label_goes_on, counted_goes_on, label_begins}
 use Rattle.csn_judge.proofs.Paying.{begun_pays}
 use Rattle.csn_judge.proofs.machine.Machine.enter_named.Goals as goal
 
 pub begin-requires-clause-few : goal.begin-requires-clause-few
 begin-requires-clause-few g c =
-    let d : DescV = c.args.self.now.plan.now in
-    let s = c.requires.stands in
-    let t = begin_stands d s.stands.shows in
-    let is = subst (λ (l : List Left). IsStack d c.args.self.now.pace.next (fresh_at c.args.self.now.pace (length s.done)) l s.done) t.is s.stands.stack_is in
-    omega (arith, begun_within d (named_stack d c.args.self.now.pace s.known c.requires.part.1 is), s.known.description.few)
+    let t = label_begins c.args.self.now.plan.now c.args.self.now.pace c.requires.stands.known c.requires.part.1 c.requires.stands.stands.shows c.requires.stands.stands.stack_is in
+    omega (arith, t.within, c.requires.stands.known.description.few)
 
 pub begin-requires-clause-room : goal.begin-requires-clause-room
 begin-requires-clause-room g c =
-    let d : DescV = c.args.self.now.plan.now in
-    let s = c.requires.stands in
-    let t = begin_stands d s.stands.shows in
-    let is = subst (λ (l : List Left). IsStack d c.args.self.now.pace.next (fresh_at c.args.self.now.pace (length s.done)) l s.done) t.is s.stands.stack_is in
-    omega (arith, room d (named_stack d c.args.self.now.pace s.known c.requires.part.1 is), round_length d t.round, length-reverse c.args.self.now.frames.items)
+    let t = label_begins c.args.self.now.plan.now c.args.self.now.pace c.requires.stands.known c.requires.part.1 c.requires.stands.stands.shows c.requires.stands.stands.stack_is in
+    omega (arith, t.room, length-reverse c.args.self.now.frames.items)
 
 pub returns-then-not-counts-clause-turns : goal.returns-then-not-counts-clause-turns
 returns-then-not-counts-clause-turns g c =
@@ -46,20 +37,14 @@ returns-then-not-counts-clause-turns g c =
 
 pub returns-then-not-counts-clause-pays : goal.returns-then-not-counts-clause-pays
 returns-then-not-counts-clause-pays g c =
-    let d : DescV = c.args.self.now.plan.now in
-    let s = c.requires.stands in
-    let t = begin_stands d s.stands.shows in
-    let is = subst (λ (l : List Left). IsStack d c.args.self.now.pace.next (fresh_at c.args.self.now.pace (length s.done)) l s.done) t.is s.stands.stack_is in
+    let t = label_begins c.args.self.now.plan.now c.args.self.now.pace c.requires.stands.known c.requires.part.1 c.requires.stands.stands.shows c.requires.stands.stands.stack_is in
     begun_pays c.args.steps.now (length c.args.source.now.bits) 1 (frame.Begin c.args.i) (frame.Named c.args.i) c.begin.ensures.frames c.begin.ensures.pace refl
-    (begun_within d (named_stack d c.args.self.now.pace s.known c.requires.part.1 is)) (inl (part_rises d s.known c.requires.part.1 is)) (omega arith) (omega arith)
+    t.within (inl t.rises) (omega arith) (omega arith)
 
 pub node-field-requires : goal.node-field-requires
 node-field-requires g c =
-    let d : DescV = c.args.self.now.plan.now in
-    let s = c.requires.stands in
-    let t = begin_stands d s.stands.shows in
-    let is = subst (λ (l : List Left). IsStack d c.args.self.now.pace.next (fresh_at c.args.self.now.pace (length s.done)) l s.done) t.is s.stands.stack_is in
-    begun_within d (named_stack d c.args.self.now.pace s.known c.requires.part.1 is)
+    let t = label_begins c.args.self.now.plan.now c.args.self.now.pace c.requires.stands.known c.requires.part.1 c.requires.stands.stands.shows c.requires.stands.stands.stack_is in
+    t.within
 
 pub unreachable-requires : goal.unreachable-requires
 unreachable-requires g c =
@@ -88,34 +73,24 @@ begin-requires-2 g c =
 pub overflow_mul-counted : goal.overflow_mul-counted
 overflow_mul-counted g c =
     let d : DescV = c.args.self.now.plan.now in
-    let s = c.requires.stands in
-    let counted : is_counted d.nodes c.args.i ≡ true = sym c.counts.ensures ∙ c.if-not-counts.false in
     let look : slice_get d.nodes c.args.part ≡ Some (Field c.in-Field.unit (Fixed c.in-Fixed.width)) = c.node-field.ensures.node ∙ ap (λ n. Some n) (c.in-Field.is ∙ ap (λ k. Field c.in-Field.unit k) c.in-Fixed.is) in
-    omega (arith, (counted_width d s.known c.args.i c.requires.part.0 counted c.requires.part.1 look).1)
+    omega (arith, (counted_width d c.requires.stands.known c.args.i c.requires.part.0 (sym c.counts.ensures ∙ c.if-not-counts.false) c.requires.part.1 look).1)
 
 pub read_counted-requires-clause-stands : goal.read_counted-requires-clause-stands
 read_counted-requires-clause-stands g c =
     let d : DescV = c.args.self.now.plan.now in
-    let s = c.requires.stands in
-    let counted : is_counted d.nodes c.args.i ≡ true = sym c.counts.ensures ∙ c.if-not-counts.false in
     let look : slice_get d.nodes c.args.part ≡ Some (Field c.in-Field.unit (Fixed c.in-Fixed.width)) = c.node-field.ensures.node ∙ ap (λ n. Some n) (c.in-Field.is ∙ ap (λ k. Field c.in-Field.unit k) c.in-Fixed.is) in
-    let again = c.args.self.now.pace.again || nat_lt c.args.part c.args.self.now.pace.next in
-    let one : c.args.part + 1 ≡ suc c.args.part = omega arith in
-    let paced : c.begin-2.new.self ≡ begun_by c.args.part c.args.self.now.pace = c.begin-2.ensures ∙ ap (λ (k : ℕ). record { next = k; again = again }) one in
+    let paced : c.begin-2.new.self ≡ begun_by c.args.part c.args.self.now.pace = begun_again d c.args.self.now.pace c.args.part c.begin-2.ensures in
     let on = counted_goes_on d {S = ⊤} (λ _ _ _ _. ⊤) tt c.args.self.now.values.items c.args.self.now.pace c.args.source.now c.args.i (reverse c.args.self.now.frames.items) {middle = tt} {after = tt} c.requires.part.0 (Named c.requires.part.0 c.args.part) c.node-field.result.now
-    s.known counted c.requires.part.1 look c.requires.part.1 tt c.node-field.ensures.node tt s.stands in
-    let P : Pace → Type 0 = λ p. Stands d (record { frames = frame.Counted (record { node = c.args.i; part = c.args.part; left = c.in-Field.unit * c.in-Fixed.width; number = 0 }) ∷ reverse c.args.self.now.frames.items; values = c.args.self.now.values.items; pace = p; coming = c.args.source.now }) on.now (s.done ++ on.taken) in
-    record { known = s.known; stack = on.now; done = s.done ++ on.taken; stands = subst P (sym paced) on.stands }
+    c.requires.stands.known (sym c.counts.ensures ∙ c.if-not-counts.false) c.requires.part.1 look c.requires.part.1 tt c.node-field.ensures.node tt c.requires.stands.stands in
+    let P : Pace → Type 0 = λ p. Stands d (record { frames = frame.Counted (record { node = c.args.i; part = c.args.part; left = c.in-Field.unit * c.in-Fixed.width; number = 0 }) ∷ reverse c.args.self.now.frames.items; values = c.args.self.now.values.items; pace = p; coming = c.args.source.now }) on.now (c.requires.stands.done ++ on.taken) in
+    record { known = c.requires.stands.known; stack = on.now; done = c.requires.stands.done ++ on.taken; stands = subst P (sym paced) on.stands }
 
 pub returns-clause-turns : goal.returns-clause-turns
 returns-clause-turns g c =
     let d : DescV = c.args.self.now.plan.now in
-    let s = c.requires.stands in
-    let counted : is_counted d.nodes c.args.i ≡ true = sym c.counts.ensures ∙ c.if-not-counts.false in
     let look : slice_get d.nodes c.args.part ≡ Some (Field c.in-Field.unit (Fixed c.in-Fixed.width)) = c.node-field.ensures.node ∙ ap (λ n. Some n) (c.in-Field.is ∙ ap (λ k. Field c.in-Field.unit k) c.in-Fixed.is) in
-    let again = c.args.self.now.pace.again || nat_lt c.args.part c.args.self.now.pace.next in
-    let one : c.args.part + 1 ≡ suc c.args.part = omega arith in
-    let paced : c.begin-2.new.self ≡ begun_by c.args.part c.args.self.now.pace = c.begin-2.ensures ∙ ap (λ (k : ℕ). record { next = k; again = again }) one in
+    let paced : c.begin-2.new.self ≡ begun_by c.args.part c.args.self.now.pace = begun_again d c.args.self.now.pace c.args.part c.begin-2.ensures in
     λ first node look_node took.
     let middle : StateV = record { frames = frame.Counted (record { node = c.args.i; part = c.args.part; left = c.in-Field.unit * c.in-Fixed.width; number = 0 }) ∷ reverse c.args.self.now.frames.items; values = c.args.self.now.values.items; pace = c.begin-2.new.self; coming = c.args.source.now } in
     turns_then d g.T.Track.takes {middle = middle} (state_of c.read_counted.new.self c.read_counted.new.source) c.read_counted.new.track c.read_counted.result c.none_behind_end.ensures
@@ -123,24 +98,18 @@ returns-clause-turns g c =
     let P : Pace → Type 0 = λ p. GoesOn d g.T.Track.takes (state_with (frame.Begin c.args.i) c.args.self.now c.args.source.now) (record { frames = frame.Counted (record { node = c.args.i; part = c.args.part; left = c.in-Field.unit * c.in-Fixed.width; number = 0 }) ∷ reverse c.args.self.now.frames.items; values = c.args.self.now.values.items; pace = p; coming = c.args.source.now }) first c.step.new.self stack done in
     subst P (sym paced)
     (counted_goes_on d g.T.Track.takes first c.args.self.now.values.items c.args.self.now.pace c.args.source.now c.args.i (reverse c.args.self.now.frames.items) c.requires.part.0 node c.node-field.result.now
-    s.known counted c.requires.part.1 look look_node took c.node-field.ensures.node c.step.ensures stands))
+    c.requires.stands.known (sym c.counts.ensures ∙ c.if-not-counts.false) c.requires.part.1 look look_node took c.node-field.ensures.node c.step.ensures stands))
     c.read_counted.ensures.turns
 
 pub returns-clause-pays : goal.returns-clause-pays
 returns-clause-pays g c =
     let d : DescV = c.args.self.now.plan.now in
-    let s = c.requires.stands in
-    let counted : is_counted d.nodes c.args.i ≡ true = sym c.counts.ensures ∙ c.if-not-counts.false in
-    let look : slice_get d.nodes c.args.part ≡ Some (Field c.in-Field.unit (Fixed c.in-Fixed.width)) = c.node-field.ensures.node ∙ ap (λ n. Some n) (c.in-Field.is ∙ ap (λ k. Field c.in-Field.unit k) c.in-Fixed.is) in
-    let again = c.args.self.now.pace.again || nat_lt c.args.part c.args.self.now.pace.next in
-    let one : c.args.part + 1 ≡ suc c.args.part = omega arith in
-    let paced : c.begin-2.new.self ≡ begun_by c.args.part c.args.self.now.pace = c.begin-2.ensures ∙ ap (λ (k : ℕ). record { next = k; again = again }) one in
-    let t = begin_stands d s.stands.shows in
-    let is = subst (λ (l : List Left). IsStack d c.args.self.now.pace.next (fresh_at c.args.self.now.pace (length s.done)) l s.done) t.is s.stands.stack_is in
+    let paced : c.begin-2.new.self ≡ begun_by c.args.part c.args.self.now.pace = begun_again d c.args.self.now.pace c.args.part c.begin-2.ensures in
+    let t = label_begins c.args.self.now.plan.now c.args.self.now.pace c.requires.stands.known c.requires.part.1 c.requires.stands.stands.shows c.requires.stands.stands.stack_is in
     let top = frame.Counted (record { node = c.args.i; part = c.args.part; left = c.in-Field.unit * c.in-Fixed.width; number = 0 }) in
     let frames = reverse c.args.self.now.frames.items in
     let bits = length c.args.source.now.bits in
-    let less = counted_credit c.args.i top frames c.args.self.now.pace bits refl (slice_get_within d.nodes c.args.part c.node-field.result.now c.node-field.ensures.node) (part_rises d s.known c.requires.part.1 is) in
+    let less = counted_credit c.args.i top frames c.args.self.now.pace bits refl (slice_get_within d.nodes c.args.part c.node-field.result.now c.node-field.ensures.node) t.rises in
     let same = ap (λ p. credit_of (length d.nodes) (top ∷ frames) p bits) paced in
     entered_pays (credit_of (length d.nodes) (frame.Begin c.args.i ∷ frames) c.args.self.now.pace bits) (credit_of (length d.nodes) (top ∷ frames) c.begin-2.new.self bits)
     (credit_of (length d.nodes) (reverse c.read_counted.new.self.frames.items) c.read_counted.new.self.pace (length c.read_counted.new.source.bits)) c.args.steps.now c.node-field.new.steps c.read_counted.new.steps c.read_counted.result

@@ -1,4 +1,4 @@
-use Rattle.std.proofs.Common.{◌≡◌, ℕ, ◌+◌, ◌-◌, ◌%◌, ◌<◌, ◌≤◌, false, take}
+use Rattle.std.proofs.Common.{◌+◌, ◌-◌, ◌%◌, ◌<◌, ◌≤◌, false, take}
 use Rattle.csn_certify.specs.declared.pick.Pick.TheVariants.{Refuse}
 use Rattle.csn_certify.specs.Picks.{Picks}
 use Rattle.csn_judge.proofs.machine.Machine.followed.Given as goal

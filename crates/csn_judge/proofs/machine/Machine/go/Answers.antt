@@ -1,4 +1,4 @@
-use Rattle.std.proofs.Common.{◌≡◌, ◌<◌, length, reverse, refl, ◌∙◌, ap, subst}
+use Rattle.std.proofs.Common.{◌<◌, length, reverse, refl, ◌∙◌, ap, subst}
 use Rattle.csn_desc.specs.Nodes.{DescV}
 use Rattle.csn_judge.specs.declared.turn.Turn.TheVariants.{Waits, Refused}
 use Rattle.csn_judge.specs.Credit.{credit_of}

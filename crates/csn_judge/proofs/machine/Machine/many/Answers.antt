@@ -1,45 +1,31 @@
-use Rattle.std.proofs.Common.{inl, inr, ℕ, zero, ◌%◌, ◌≤◌, false, List, lit<, ◌<◌, ◌≡◌, ◌∷◌, [], ◌++◌, ◌⊎◌, true, length, reverse, refl, sym, ap, subst, ◌∙◌, arith}
+use Rattle.std.proofs.Common.{ℕ, ◌%◌, List, lit<, ◌≡◌, ◌∷◌, ◌⊎◌, true, length, reverse, refl, sym, ap, subst, ◌∙◌, arith}
 use Rattle.std.proofs.lemmas.List.{length-reverse}
 use Rattle.std.proofs.lemmas.Option.{slice_get_within}
 use Rattle.csn_desc.specs.Nodes.{DescV}
-use Rattle.csn_certify.specs.declared.pick.Pick.{Pick}
-use Rattle.csn_certify.specs.declared.pick.Pick.TheVariants.{Take}
-use Rattle.csn_certify.specs.Picks.{IsAsked, Picks}
+use Rattle.csn_certify.specs.Picks.{IsAsked}
 use Rattle.csn_judge.specs.declared.frame.Frame.{Frame}
 use Rattle.csn_judge.specs.declared.frame.Frame.TheVariants as frame
-use Rattle.csn_judge.specs.Coming.{Coming, IsSame}
+use Rattle.csn_judge.specs.Coming.{Coming}
 use Rattle.csn_judge.specs.Left.{Left}
 use Rattle.csn_judge.specs.Inside.{IsStack}
 use Rattle.csn_judge.specs.Turns.{fresh_at}
 use Rattle.csn_judge.proofs.Paying.{begun_pays_on, left_pays_on, free_goes_back}
-use Rattle.csn_judge.proofs.Turning.{room, round_length, begun_within, pushed, stays, GoesOn-along}
+use Rattle.csn_judge.proofs.Turning.{room, round_length, begun_within, pushed, GoesOn-along, frames_room}
 use Rattle.csn_judge.proofs.Stacks.{of_begun}
-use Rattle.csn_judge.specs.declared.turn.Turn.TheVariants.{Waits}
-use Rattle.csn_judge.proofs.Rooms.{no_bits_ready, going_on}
-use Rattle.csn_judge.proofs.TurningSame.{turns_since, goes_since, stands_on, waits_here}
+use Rattle.csn_judge.proofs.TurningSame.{goes_since, stands_on, waits_unready}
 use Rattle.csn_judge.proofs.TurningFree.{free_stands, free_begins, free_asked, free_takes, free_leaves}
 use Rattle.csn_judge.proofs.machine.Machine.many.Goals.{else-ready-eq0-via-then-ready-eq0+else-not-is_closed, else-ready-eq0-via-else-ready-eq0}
 use Rattle.csn_judge.proofs.machine.Machine.many.Goals as goal
 
 pub push-requires : goal.push-requires
 push-requires g c =
-    let d : DescV = c.args.self.now.plan.now in
-    let k = free_stands d c.requires.stands.shows in
-    let few = room d (subst (λ (l : List Left). IsStack d c.args.self.now.pace.next (fresh_at c.args.self.now.pace (length c.requires.done)) l c.requires.done) k.is c.requires.stands.stack_is) in
-    (lit< tt, omega (arith, few, round_length d k.round, length-reverse c.args.self.now.frames.items))
+    (lit< tt, omega (arith, frames_room c.args.self.now.plan.now c.requires.stands.shows c.requires.stands.stack_is, length-reverse c.args.self.now.frames.items))
 
 pub returns-then-not-is_closed-clause-turns : goal.returns-then-not-is_closed-clause-turns
 returns-then-not-is_closed-clause-turns g c =
-    let d : DescV = c.args.self.now.plan.now in
-    let next : Coming = c.ready-ready.new.self in
-    let same : IsSame c.args.source.now next = record { bits = c.ready-ready.ensures.bits; place = c.ready-ready.ensures.place; limit = c.ready-ready.ensures.limit; ended = c.ready-ready.ensures.ended } in
-    let unclosed : ¬ ((next.ended ≡ true) ⊎ (next.place ≡ next.limit)) = λ closed. let yes = c.is_closed.ensures.1 closed in let no = c.if-not-is_closed.true in absurd (cc) in
-    let none = no_bits_ready next 1 (omega arith) (sym c.ready-ready.ensures.count ∙ c.if-ready-eq0.true) c.ready-ready.ensures.good unclosed in
-    turns_since d g.T.Track.takes c.args.track.now c.args.track.now (frame.Many c.args.i c.args.part ∷ reverse c.args.self.now.frames.items) c.args.self.now.values.items c.args.self.now.pace same _ Waits
-    (stays d g.T.Track.takes c.args.track.now c.args.self.now.values.items c.args.self.now.pace next Waits _ c.args.track.now
+    waits_unready c.args.self.now.plan.now g.T.Track.takes c.args.track.now c.args.self.now.values.items c.args.self.now.pace c.ready-ready.new.self 1 (omega arith) c.ready-ready.ensures.same (sym c.ready-ready.ensures.count ∙ c.if-ready-eq0.true) c.ready-ready.ensures.good c.ready-ready.ensures.within
+    (λ closed. let yes = c.is_closed.ensures.1 closed in let no = c.if-not-is_closed.true in absurd (cc)) c.requires.known
     (ap (λ (l : List Frame). reverse l) c.push.ensures.items ∙ pushed c.args.self.now.frames.items (frame.Many c.args.i c.args.part))
-    (waits_here d g.T.Track.takes c.args.track.now c.args.self.now.values.items c.args.self.now.pace next (frame.Many c.args.i c.args.part ∷ reverse c.args.self.now.frames.items) c.requires.known
-    none (omega (arith, c.ready-ready.ensures.within, ap (λ (l : List ℕ). length l) none)) (going_on next.ended (λ over. unclosed (inl over))) c.ready-ready.ensures.good.inside))
 
 pub pick-requires-clause-node : goal.pick-requires-clause-node
 pick-requires-clause-node g c =
@@ -49,7 +35,7 @@ pick-requires-clause-node g c =
 pub pick-requires-clause-asked : goal.pick-requires-clause-asked
 pick-requires-clause-asked g c =
     let d : DescV = c.args.self.now.plan.now in
-    subst (λ o. IsAsked d c.args.i (o % 8)) (sym (c.ready-ready.ensures.place ∙ c.requires.stands.place))
+    subst (λ o. IsAsked d c.args.i (o % 8)) (sym (c.ready-ready.ensures.same.place ∙ c.requires.stands.place))
     (free_asked d c.args.self.now.pace c.requires.known c.requires.stands.shows c.requires.stands.stack_is)
 
 pub begin-requires-clause-few : goal.begin-requires-clause-few
@@ -69,13 +55,12 @@ begin-requires-clause-room g c =
 pub returns-in-Take-clause-turns : goal.returns-in-Take-clause-turns
 returns-in-Take-clause-turns g c =
     let d : DescV = c.args.self.now.plan.now in
-    let same : IsSame c.args.source.now c.ready-ready.new.self = record { bits = c.ready-ready.ensures.bits; place = c.ready-ready.ensures.place; limit = c.ready-ready.ensures.limit; ended = c.ready-ready.ensures.ended } in
     λ stack done stands.
-    goes_since d g.T.Track.takes c.args.track.now c.args.track.now (frame.Many c.args.i c.args.part ∷ reverse c.args.self.now.frames.items) c.args.self.now.values.items c.args.self.now.pace same _
+    goes_since d g.T.Track.takes c.args.track.now c.args.track.now (frame.Many c.args.i c.args.part ∷ reverse c.args.self.now.frames.items) c.args.self.now.values.items c.args.self.now.pace c.ready-ready.ensures.same _
     (GoesOn-along d g.T.Track.takes c.args.track.now c.args.self.now.values.items c.args.self.now.pace c.ready-ready.new.self c.begin.ensures.frames (ap (λ v. v.items) c.begin.ensures.values) c.begin.ensures.pace
     (free_takes d g.T.Track.takes c.args.track.now c.args.self.now.values.items c.args.self.now.pace c.ready-ready.new.self c.ready-ready.ensures.count
     c.in-Take.ensures.none c.in-Take.ensures.some c.requires.known
-    (stands_on d g.T.Track.takes c.args.track.now c.args.track.now (frame.Many c.args.i c.args.part ∷ reverse c.args.self.now.frames.items) c.args.self.now.values.items c.args.self.now.pace same stands)))
+    (stands_on d g.T.Track.takes c.args.track.now c.args.track.now (frame.Many c.args.i c.args.part ∷ reverse c.args.self.now.frames.items) c.args.self.now.values.items c.args.self.now.pace c.ready-ready.ensures.same stands)))
 
 pub leave-requires : goal.leave-requires
 leave-requires g c =
@@ -86,7 +71,6 @@ pub returns : goal.returns
 returns g c =
     let d : DescV = c.args.self.now.plan.now in
     let next : Coming = c.ready-ready.new.self in
-    let same : IsSame c.args.source.now next = record { bits = c.ready-ready.ensures.bits; place = c.ready-ready.ensures.place; limit = c.ready-ready.ensures.limit; ended = c.ready-ready.ensures.ended } in
     let closed : c.ready-ready.result ≡ 0 → (next.ended ≡ true) ⊎ (next.place ≡ next.limit) =
     λ none.
     elim c.else-ready-eq0.branch [
@@ -96,14 +80,14 @@ returns g c =
     in
     record {
       turns = λ stack done stands.
-          goes_since d g.T.Track.takes c.args.track.now c.leave.new.track (frame.Many c.args.i c.args.part ∷ reverse c.args.self.now.frames.items) c.args.self.now.values.items c.args.self.now.pace same _
+          goes_since d g.T.Track.takes c.args.track.now c.leave.new.track (frame.Many c.args.i c.args.part ∷ reverse c.args.self.now.frames.items) c.args.self.now.values.items c.args.self.now.pace c.ready-ready.ensures.same _
           (free_leaves d g.T.Track.takes c.args.track.now c.args.self.now.values.items c.args.self.now.pace next c.leave.ensures.told.0 c.ready-ready.ensures.good c.ready-ready.ensures.count closed c.pick.ensures.some c.in_default.not-Take
           c.leave.ensures.told.1 c.leave.ensures.told.2 c.requires.known
-          (stands_on d g.T.Track.takes c.args.track.now c.args.track.now (frame.Many c.args.i c.args.part ∷ reverse c.args.self.now.frames.items) c.args.self.now.values.items c.args.self.now.pace same stands));
+          (stands_on d g.T.Track.takes c.args.track.now c.args.track.now (frame.Many c.args.i c.args.part ∷ reverse c.args.self.now.frames.items) c.args.self.now.values.items c.args.self.now.pace c.ready-ready.ensures.same stands));
       plan = refl;
       waits = λ same. absurd (cc);
       pays =
-          left_pays_on (length d.nodes) c.args.steps.now (length c.args.source.now.bits) 2 (frame.Many c.args.i c.args.part) (ap (λ (l : List ℕ). length l) c.ready-ready.ensures.bits) refl refl
+          left_pays_on (length d.nodes) c.args.steps.now (length c.args.source.now.bits) 2 (frame.Many c.args.i c.args.part) (ap (λ (l : List ℕ). length l) c.ready-ready.ensures.same.bits) refl refl
           (omega (arith, c.leave.ensures.step, c.pick.ensures.step)) (omega arith) (omega arith);
     }
 
@@ -112,5 +96,5 @@ returns-in-Take-clause-pays g c =
     let d : DescV = c.args.self.now.plan.now in
     let k = free_stands d c.requires.stands.shows in
     let stack = subst (λ (l : List Left). IsStack d c.args.self.now.pace.next (fresh_at c.args.self.now.pace (length c.requires.done)) l c.requires.done) k.is c.requires.stands.stack_is in
-    begun_pays_on c.args.steps.now 1 (frame.Many c.args.i c.args.part) _ (ap (λ (l : List ℕ). length l) c.ready-ready.ensures.bits) c.begin.ensures.frames c.begin.ensures.pace c.pick.ensures.step
+    begun_pays_on c.args.steps.now 1 (frame.Many c.args.i c.args.part) _ (ap (λ (l : List ℕ). length l) c.ready-ready.ensures.same.bits) c.begin.ensures.frames c.begin.ensures.pace c.pick.ensures.step
     (begun_within d (of_begun d (free_begins d c.args.self.now.pace c.requires.known stack))) (free_goes_back d c.args.self.now.pace c.requires.known stack) (omega arith) (omega arith)

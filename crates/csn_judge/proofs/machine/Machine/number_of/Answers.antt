@@ -1,4 +1,4 @@
-use Rattle.std.proofs.Common.{◌≡◌, ℕ, ◌+◌, ◌*◌, ◌<◌, Some, None, sym, ◌∙◌, arith}
+use Rattle.std.proofs.Common.{◌≡◌, Some, None, sym, ◌∙◌, arith}
 use Rattle.csn_judge.proofs.CountsKept.{on_field, counted_on, count_same}
 use Rattle.csn_judge.proofs.machine.Machine.number_of.Goals as goal
 

@@ -1,14 +1,11 @@
-use Rattle.std.proofs.Common.{◌<◌, nat_lt, List, length, reverse, lit<, refl, sym, ap, ◌∙◌, subst, arith}
+use Rattle.std.proofs.Common.{nat_lt, List, reverse, lit<, refl, sym, ap, ◌∙◌, arith}
 use Rattle.std.proofs.lemmas.Bool.{ltb-false}
 use Rattle.std.proofs.lemmas.List.{length-reverse}
 use Rattle.std.proofs.lemmas.Option.{slice_get_within}
 use Rattle.csn_desc.specs.Nodes.{DescV}
 use Rattle.csn_judge.specs.declared.frame.Frame.{Frame}
 use Rattle.csn_judge.specs.declared.frame.Frame.TheVariants as frame
-use Rattle.csn_judge.specs.Left.{Left}
-use Rattle.csn_judge.specs.Inside.{IsStack}
-use Rattle.csn_judge.specs.Turns.{fresh_at}
-use Rattle.csn_judge.proofs.Turning.{room, round_length, pushed}
+use Rattle.csn_judge.proofs.Turning.{pushed, frames_room}
 use Rattle.csn_judge.proofs.TurningLeaves.{paced, leaf_stands, may_be_left, turns_all, turns_some, turns_stopped, turns_refused, not_less}
 use Rattle.csn_judge.proofs.PayingBits.{all_took, some_took, all_pays, some_pays}
 use Rattle.csn_judge.proofs.machine.Machine.read.Goals as goal
@@ -20,10 +17,7 @@ read-read-requires g c =
 
 pub push-requires : goal.push-requires
 push-requires g c =
-    let d : DescV = c.args.self.now.plan.now in
-    let t = leaf_stands d c.requires.stands.stands.shows in
-    let few = room d (subst (λ (l : List Left). IsStack d c.args.self.now.pace.next (fresh_at c.args.self.now.pace (length c.requires.stands.done)) l c.requires.stands.done) t.is c.requires.stands.stands.stack_is) in
-    (lit< tt, omega (arith, few, round_length d t.round, length-reverse c.args.self.now.frames.items))
+    (lit< tt, omega (arith, frames_room c.args.self.now.plan.now c.requires.stands.stands.shows c.requires.stands.stands.stack_is, length-reverse c.args.self.now.frames.items))
 
 pub returns-in-All-clause-turns : goal.returns-in-All-clause-turns
 returns-in-All-clause-turns g c =

@@ -1,9 +1,8 @@
-use Rattle.std.proofs.Common.{inl, ℕ, List, ◌<◌, ◌≡◌, ◌∷◌, [], ◌++◌, length, reverse, sym, ap, subst, ◌∙◌, arith, Some, slice_get, refl}
+use Rattle.std.proofs.Common.{inl, length, ap, subst, ◌∙◌, arith, Some, refl}
 use Rattle.std.proofs.lemmas.List.{length-reverse}
 use Rattle.csn_desc.specs.Nodes.{DescV}
 use Rattle.csn_desc.specs.declared.moves.Move.TheVariants.{Leave}
 use Rattle.csn_desc.specs.declared.node.Node.{Node}
-use Rattle.csn_desc.specs.declared.node.Node.TheVariants.{Seq}
 use Rattle.csn_judge.specs.declared.frame.Frame.TheVariants as frame
 use Rattle.csn_judge.proofs.Paying.{begun_pays}
 use Rattle.csn_judge.proofs.Turning.{GoesOn-along}

@@ -1,47 +1,35 @@
-use Rattle.std.proofs.Common.{inl, inr, ℕ, List, lit<, ◌<◌, ◌≤◌, ◌≡◌, ◌∷◌, [], ◌++◌, ◌⊎◌, true, length, reverse, refl, sym, ap, subst, ◌∙◌, arith, Some}
+use Rattle.std.proofs.Common.{inl, inr, ℕ, List, lit<, ◌≤◌, ◌≡◌, ◌∷◌, [], ◌⊎◌, true, length, reverse, refl, sym, ap, subst, ◌∙◌, arith, Some}
 use Rattle.std.proofs.lemmas.List.{length-reverse}
-use Rattle.std.proofs.lemmas.Option.{slice_get_within}
 use Rattle.csn_desc.specs.Nodes.{DescV}
 use Rattle.csn_desc.specs.declared.moves.Move.TheVariants.{Leave}
 use Rattle.csn_desc.specs.declared.node.Node.{Node}
 use Rattle.csn_judge.specs.declared.frame.Frame.{Frame}
 use Rattle.csn_judge.specs.declared.frame.Frame.TheVariants as frame
-use Rattle.csn_judge.specs.declared.turn.Turn.TheVariants.{Waits}
-use Rattle.csn_judge.specs.Coming.{Coming, IsSame}
-use Rattle.csn_judge.proofs.Rooms.{first_of, no_bits_ready, unready, going_on}
+use Rattle.csn_judge.specs.Coming.{Coming}
+use Rattle.csn_judge.proofs.Rooms.{first_of, unready}
 use Rattle.csn_judge.proofs.Paying.{begun_pays_on}
 use Rattle.csn_judge.proofs.PayingParts.{component_rises}
-use Rattle.csn_judge.proofs.Turning.{pushed, stays, GoesOn-along}
-use Rattle.csn_judge.proofs.TurningSame.{turns_since, goes_since, stands_on, waits_here}
-use Rattle.csn_judge.proofs.TurningTruncs.{trunc_stands, node_at, few_frames, begins_component, leaves_truncation, component_begins}
+use Rattle.csn_judge.proofs.Turning.{pushed, GoesOn-along, frames_room}
+use Rattle.csn_judge.proofs.TurningSame.{goes_since, stands_on, waits_unready}
+use Rattle.csn_judge.proofs.TurningTruncs.{begins_component, leaves_truncation, component_begins}
 use Rattle.csn_judge.proofs.machine.Machine.trunc.Goals.{else-ready-eq0-via-then-ready-eq0+then-at-len+else-not-is_closed, else-ready-eq0-via-then-ready-eq0+else-at-len, else-ready-eq0-via-else-ready-eq0, then-ready-eq0-2-via-then-ready-eq0-2, then-ready-eq0-2-via-else-ready-eq0-2+then-at-len-2}
 use Rattle.csn_judge.proofs.machine.Machine.trunc.Goals as goal
 
 pub push-requires : goal.push-requires
 push-requires g c =
-    let few = few_frames c.args.self.now.plan.now c.args.self.now.pace (trunc_stands c.args.self.now.plan.now c.requires.stands.shows) c.requires.stands.stack_is in
-    (lit< tt, omega (arith, few, length-reverse c.args.self.now.frames.items))
+    (lit< tt, omega (arith, frames_room c.args.self.now.plan.now c.requires.stands.shows c.requires.stands.stack_is, length-reverse c.args.self.now.frames.items))
 
 pub returns-then-not-is_closed-clause-turns : goal.returns-then-not-is_closed-clause-turns
 returns-then-not-is_closed-clause-turns g c =
-    let d : DescV = c.args.self.now.plan.now in
-    let next : Coming = c.ready-ready.new.self in
-    let top : Frame = frame.Trunc c.args.i c.args.at c.args.values in
-    let same : IsSame c.args.source.now next = record { bits = c.ready-ready.ensures.bits; place = c.ready-ready.ensures.place; limit = c.ready-ready.ensures.limit; ended = c.ready-ready.ensures.ended } in
-    let unclosed : ¬ ((next.ended ≡ true) ⊎ (next.place ≡ next.limit)) = λ closed. let yes = c.is_closed.ensures.1 closed in let no = c.if-not-is_closed.true in absurd (cc) in
-    let none = no_bits_ready next 1 (omega arith) (sym c.ready-ready.ensures.count ∙ c.if-ready-eq0.true) c.ready-ready.ensures.good unclosed in
-    turns_since d g.T.Track.takes c.args.track.now c.args.track.now (top ∷ reverse c.args.self.now.frames.items) c.args.self.now.values.items c.args.self.now.pace same _ Waits
-    (stays d g.T.Track.takes c.args.track.now c.args.self.now.values.items c.args.self.now.pace next Waits _ c.args.track.now
-    (ap (λ (l : List Frame). reverse l) c.push.ensures.items ∙ pushed c.args.self.now.frames.items top)
-    (waits_here d g.T.Track.takes c.args.track.now c.args.self.now.values.items c.args.self.now.pace next (top ∷ reverse c.args.self.now.frames.items) c.requires.known
-    none (omega (arith, c.ready-ready.ensures.within, ap (λ (l : List ℕ). length l) none)) (going_on next.ended (λ over. unclosed (inl over))) c.ready-ready.ensures.good.inside))
+    waits_unready c.args.self.now.plan.now g.T.Track.takes c.args.track.now c.args.self.now.values.items c.args.self.now.pace c.ready-ready.new.self 1 (omega arith) c.ready-ready.ensures.same (sym c.ready-ready.ensures.count ∙ c.if-ready-eq0.true) c.ready-ready.ensures.good c.ready-ready.ensures.within
+    (λ closed. let yes = c.is_closed.ensures.1 closed in let no = c.if-not-is_closed.true in absurd (cc)) c.requires.known
+    (ap (λ (l : List Frame). reverse l) c.push.ensures.items ∙ pushed c.args.self.now.frames.items (frame.Trunc c.args.i c.args.at c.args.values))
 
 pub returns-then-ready-eq0-2-clause-turns : goal.returns-then-ready-eq0-2-clause-turns
 returns-then-ready-eq0-2-clause-turns g c =
     let d : DescV = c.args.self.now.plan.now in
     let next : Coming = c.ready-ready.new.self in
     let top : Frame = frame.Trunc c.args.i c.args.at c.args.values in
-    let same : IsSame c.args.source.now next = record { bits = c.ready-ready.ensures.bits; place = c.ready-ready.ensures.place; limit = c.ready-ready.ensures.limit; ended = c.ready-ready.ensures.ended } in
     let closed : (length c.in-Trunc.parts ≤ c.args.at) ⊎ (((next.bits ≡ []) ⊎ (next.place ≡ next.limit)) × ((next.ended ≡ true) ⊎ (next.place ≡ next.limit))) =
     elim c.then-ready-eq0-2.branch [
       | then-ready-eq0-2-via-then-ready-eq0-2 w ↦
@@ -54,36 +42,26 @@ returns-then-ready-eq0-2-clause-turns g c =
     ]
     in
     λ stack done stands.
-    goes_since d g.T.Track.takes c.args.track.now c.step.new.self (top ∷ reverse c.args.self.now.frames.items) c.args.self.now.values.items c.args.self.now.pace same _
+    goes_since d g.T.Track.takes c.args.track.now c.step.new.self (top ∷ reverse c.args.self.now.frames.items) c.args.self.now.values.items c.args.self.now.pace c.ready-ready.ensures.same _
     (GoesOn-along d g.T.Track.takes c.args.track.now c.args.self.now.values.items c.args.self.now.pace next refl c.truncate.ensures.items refl
     (leaves_truncation d g.T.Track.takes c.args.track.now c.args.self.now.values.items c.args.self.now.pace next c.in-Trunc.parts
     (c.node-node.ensures.node ∙ ap (λ n. Some n) c.in-Trunc.is)
     (subst (λ (n : Node). g.T.Track.takes c.args.track.now Leave n c.step.new.self) c.in-Trunc.is c.step.ensures)
     c.ready-ready.ensures.good closed c.requires.known
-    (stands_on d g.T.Track.takes c.args.track.now c.args.track.now (top ∷ reverse c.args.self.now.frames.items) c.args.self.now.values.items c.args.self.now.pace same stands)))
+    (stands_on d g.T.Track.takes c.args.track.now c.args.track.now (top ∷ reverse c.args.self.now.frames.items) c.args.self.now.values.items c.args.self.now.pace c.ready-ready.ensures.same stands)))
 
 pub begin-requires-clause-few : goal.begin-requires-clause-few
 begin-requires-clause-few g c =
-    let d : DescV = c.args.self.now.plan.now in
-    let next : Coming = c.ready-ready.new.self in
-    let top : Frame = frame.Trunc c.args.i c.args.at c.args.values in
-    let same : IsSame c.args.source.now next = record { bits = c.ready-ready.ensures.bits; place = c.ready-ready.ensures.place; limit = c.ready-ready.ensures.limit; ended = c.ready-ready.ensures.ended } in
-    let begins = component_begins d g.T.Track.takes c.args.track.now c.args.self.now.values.items c.args.self.now.pace next c.in-Trunc.parts
+    let begins = component_begins c.args.self.now.plan.now g.T.Track.takes c.args.track.now c.args.self.now.values.items c.args.self.now.pace c.ready-ready.new.self c.in-Trunc.parts
     (c.node-node.ensures.node ∙ ap (λ n. Some n) c.in-Trunc.is) c.get.ensures (omega (arith, c.ready-ready.ensures.count, c.if-ready-eq0-2.false)) (omega (arith, c.ready-ready.ensures.count, c.if-ready-eq0-2.false)) c.requires.known
-    (stands_on d g.T.Track.takes c.args.track.now c.args.track.now (top ∷ reverse c.args.self.now.frames.items) c.args.self.now.values.items c.args.self.now.pace same c.requires.stands)
-    in
+    (stands_on c.args.self.now.plan.now g.T.Track.takes c.args.track.now c.args.track.now (frame.Trunc c.args.i c.args.at c.args.values ∷ reverse c.args.self.now.frames.items) c.args.self.now.values.items c.args.self.now.pace c.ready-ready.ensures.same c.requires.stands) in
     omega (arith, begins.within)
 
 pub begin-requires-clause-room : goal.begin-requires-clause-room
 begin-requires-clause-room g c =
-    let d : DescV = c.args.self.now.plan.now in
-    let next : Coming = c.ready-ready.new.self in
-    let top : Frame = frame.Trunc c.args.i c.args.at c.args.values in
-    let same : IsSame c.args.source.now next = record { bits = c.ready-ready.ensures.bits; place = c.ready-ready.ensures.place; limit = c.ready-ready.ensures.limit; ended = c.ready-ready.ensures.ended } in
-    let begins = component_begins d g.T.Track.takes c.args.track.now c.args.self.now.values.items c.args.self.now.pace next c.in-Trunc.parts
+    let begins = component_begins c.args.self.now.plan.now g.T.Track.takes c.args.track.now c.args.self.now.values.items c.args.self.now.pace c.ready-ready.new.self c.in-Trunc.parts
     (c.node-node.ensures.node ∙ ap (λ n. Some n) c.in-Trunc.is) c.get.ensures (omega (arith, c.ready-ready.ensures.count, c.if-ready-eq0-2.false)) (omega (arith, c.ready-ready.ensures.count, c.if-ready-eq0-2.false)) c.requires.known
-    (stands_on d g.T.Track.takes c.args.track.now c.args.track.now (top ∷ reverse c.args.self.now.frames.items) c.args.self.now.values.items c.args.self.now.pace same c.requires.stands)
-    in
+    (stands_on c.args.self.now.plan.now g.T.Track.takes c.args.track.now c.args.track.now (frame.Trunc c.args.i c.args.at c.args.values ∷ reverse c.args.self.now.frames.items) c.args.self.now.values.items c.args.self.now.pace c.ready-ready.ensures.same c.requires.stands) in
     omega (arith, begins.room, length-reverse c.args.self.now.frames.items)
 
 pub returns-clause-turns : goal.returns-clause-turns
@@ -91,18 +69,17 @@ returns-clause-turns g c =
     let d : DescV = c.args.self.now.plan.now in
     let next : Coming = c.ready-ready.new.self in
     let top : Frame = frame.Trunc c.args.i c.args.at c.args.values in
-    let same : IsSame c.args.source.now next = record { bits = c.ready-ready.ensures.bits; place = c.ready-ready.ensures.place; limit = c.ready-ready.ensures.limit; ended = c.ready-ready.ensures.ended } in
     let found = first_of next.bits (omega (arith, c.ready-ready.ensures.count, c.if-ready-eq0-2.false)) in
     λ stack done stands.
-    goes_since d g.T.Track.takes c.args.track.now c.args.track.now (top ∷ reverse c.args.self.now.frames.items) c.args.self.now.values.items c.args.self.now.pace same _
+    goes_since d g.T.Track.takes c.args.track.now c.args.track.now (top ∷ reverse c.args.self.now.frames.items) c.args.self.now.values.items c.args.self.now.pace c.ready-ready.ensures.same _
     (GoesOn-along d g.T.Track.takes c.args.track.now c.args.self.now.values.items c.args.self.now.pace next c.begin.ensures.frames (ap (λ v. v.items) c.begin.ensures.values) c.begin.ensures.pace
     (begins_component d g.T.Track.takes c.args.track.now c.args.self.now.values.items c.args.self.now.pace next c.in-Trunc.parts found.0 found.1
     (c.node-node.ensures.node ∙ ap (λ n. Some n) c.in-Trunc.is) c.get.ensures found.2 (omega (arith, c.ready-ready.ensures.count, c.if-ready-eq0-2.false)) c.requires.known
-    (stands_on d g.T.Track.takes c.args.track.now c.args.track.now (top ∷ reverse c.args.self.now.frames.items) c.args.self.now.values.items c.args.self.now.pace same stands)))
+    (stands_on d g.T.Track.takes c.args.track.now c.args.track.now (top ∷ reverse c.args.self.now.frames.items) c.args.self.now.values.items c.args.self.now.pace c.ready-ready.ensures.same stands)))
 
 pub returns-clause-pays : goal.returns-clause-pays
 returns-clause-pays g c =
     let d : DescV = c.args.self.now.plan.now in
     let rises = component_rises d c.args.self.now.pace c.in-Trunc.parts (c.node-node.ensures.node ∙ ap (λ n. Some n) c.in-Trunc.is) c.get.ensures c.requires.known c.requires.stands.shows c.requires.stands.stack_is in
-    begun_pays_on c.args.steps.now 1 (frame.Trunc c.args.i c.args.at c.args.values) _ (ap (λ (l : List ℕ). length l) c.ready-ready.ensures.bits) c.begin.ensures.frames c.begin.ensures.pace c.node-node.ensures.step
+    begun_pays_on c.args.steps.now 1 (frame.Trunc c.args.i c.args.at c.args.values) _ (ap (λ (l : List ℕ). length l) c.ready-ready.ensures.same.bits) c.begin.ensures.frames c.begin.ensures.pace c.node-node.ensures.step
     rises.is_node (inl rises.rises) (omega arith) (omega arith)

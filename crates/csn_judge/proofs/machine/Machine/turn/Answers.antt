@@ -1,5 +1,4 @@
-use Rattle.std.proofs.Common.{◌≡◌, [], length, reverse, List, ◌∷◌, ◌++◌, refl, sym, ◌∙◌, ap, subst, arith}
-use Rattle.csn_desc.specs.Nodes.{DescV}
+use Rattle.std.proofs.Common.{◌≡◌, [], length, reverse, List, refl, sym, ◌∙◌, ap, subst}
 use Rattle.csn_judge.specs.declared.frame.Frame.{Frame}
 use Rattle.csn_judge.specs.declared.frame.Frame.TheVariants as frame
 use Rattle.csn_judge.specs.Credit.{credit_of, Pays}
@@ -14,7 +13,7 @@ returns-in_default-clause-turns g c =
     let gone : c.pop.new.self.items ≡ [] = ap (λ v. v.items) (c.in_default.ensures.empty) ∙ none in
     let P : List Frame → Type 0 = λ l. Turns c.args.self.now.plan.now g.T.Track.takes (record { frames = reverse l; values = c.args.self.now.values.items; pace = c.args.self.now.pace; coming = c.args.source.now }) (record { frames = reverse c.pop.new.self.items; values = c.args.self.now.values.items; pace = c.args.self.now.pace; coming = c.args.source.now }) c.args.track.now c.args.track.now c.stopped.result in
     let Q : List Frame → Type 0 = λ l. Turns c.args.self.now.plan.now g.T.Track.takes (record { frames = []; values = c.args.self.now.values.items; pace = c.args.self.now.pace; coming = c.args.source.now }) (record { frames = reverse l; values = c.args.self.now.values.items; pace = c.args.self.now.pace; coming = c.args.source.now }) c.args.track.now c.args.track.now c.stopped.result in
-    subst P (sym none) (subst Q (sym gone) (stops_behind c.args.self.now.plan.now g.T.Track.takes c.args.track.now c.args.self.now.values.items c.args.self.now.pace c.args.source.now c.stopped.result c.stopped.ensures))
+    subst P (sym none) (subst Q (sym gone) (stops_behind c.args.self.now.plan.now g.T.Track.takes c.args.track.now c.args.self.now.values.items c.args.self.now.pace c.args.source.now c.stopped.result c.stopped.ensures c.requires.known))
 
 pub pass-requires-clause-node : goal.pass-requires-clause-node
 pass-requires-clause-node g c =

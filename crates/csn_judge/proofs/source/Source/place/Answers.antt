@@ -1,9 +1,10 @@
 use Rattle.std.proofs.Common.{arith, subst, sym, ◌∙◌}
 use Rattle.csn_bits.specs.Octets.{IsBits}
 use Rattle.csn_judge.specs.Coming.{Coming}
-use Rattle.csn_judge.proofs.Numbers.{IsBits-coming, none_coming}
+use Rattle.csn_judge.proofs.Numbers.{IsBits-coming}
 use Rattle.csn_judge.proofs.SourceFacts.{known}
 use Rattle.csn_judge.proofs.source.Source.place.Goals as goal
+use Rattle.std.proofs.lemmas.List.{nil_from_length}
 
 pub returns-clause-held : goal.returns-clause-held
 returns-clause-held c = (let k = known _ _ c.self.invariant c.self.view_is in omega (arith, k.all, k.held))
@@ -24,7 +25,7 @@ returns-clause-fits c =
 pub returns-clause-nothing : goal.returns-clause-nothing
 returns-clause-nothing c =
     let k = known _ _ c.self.invariant c.self.view_is in
-    λ ended. none_coming _ (omega (arith, k.all, c.self.invariant.nothing (sym k.ended ∙ ended)))
+    λ ended. nil_from_length _ (omega (arith, k.all, c.self.invariant.nothing (sym k.ended ∙ ended)))
 
 pub returns-clause-bits : goal.returns-clause-bits
 returns-clause-bits c =

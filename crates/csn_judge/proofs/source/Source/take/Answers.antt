@@ -1,4 +1,4 @@
-use Rattle.std.proofs.Common.{ℕ, List, ◌≡◌, ◌+◌, ◌-◌, drop, ap, ◌∙◌, arith}
+use Rattle.std.proofs.Common.{ℕ, List, ◌+◌, ◌-◌, drop, ap, ◌∙◌, arith}
 use Rattle.csn_judge.specs.Coming.{Coming}
 use Rattle.csn_judge.proofs.Numbers.{left_over}
 use Rattle.csn_judge.proofs.SourceFacts.{known}

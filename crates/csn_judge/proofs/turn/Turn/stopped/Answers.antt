@@ -1,4 +1,3 @@
-use Rattle.std.proofs.Common.{refl}
 use Rattle.csn_judge.proofs.SourceFacts.{first_bit}
 use Rattle.csn_judge.proofs.turn.Turn.stopped.Goals as goal
 
