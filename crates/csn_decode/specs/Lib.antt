@@ -1,0 +1,3 @@
+pub mod LeafBits
+pub mod Built
+pub mod Decoding

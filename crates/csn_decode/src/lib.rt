@@ -1,0 +1,13 @@
+//! The decoder of blocks: bits in, in whatever pieces they come, and at the end the tree that they have.
+#![tactic(auto)]
+
+mod alternative;
+mod builder;
+mod decoder;
+mod leaf_bits;
+mod open;
+mod track;
+mod verdict;
+
+pub use decoder::Decoder;
+pub use verdict::{DecodeFault, Fed};

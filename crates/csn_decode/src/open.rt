@@ -1,0 +1,115 @@
+use crate::alternative::place_of;
+use csn_bits::NoMemory;
+use csn_desc::{MOST_TREES, Node, Rows, Shape, Tree};
+use std::alloc::Global;
+
+/// A node that has begun and not ended.
+#[derive(Drop)]
+pub(crate) struct Open {
+    pub node: u16,
+    pub inside: Inside,
+}
+
+/// The trees of an open node's parts that have ended.
+#[derive(Drop)]
+pub(crate) enum Inside {
+    /// It has no parts.
+    Leaf,
+    /// Those of a row.
+    Row(Rows),
+    /// That of the only part, where it has ended.
+    Part(Option<Ended>),
+}
+
+/// A part that has ended.
+#[derive(Drop)]
+pub(crate) struct Ended {
+    pub node: u16,
+    pub tree: Tree,
+}
+
+impl Inside {
+    ghost use Rattle.std.specs.Prelude.{◌≡◌, ℕ, List, Some, IfOk};
+    ghost use Rattle.csn_decode.specs.Built.{begun, with_part, IsTree};
+    ghost use Rattle.csn_decode.specs.declared.open.Inside.TheVariants as inside;
+
+    /// Of a node that begins. It takes no memory.
+    pub fn of(alloc: Global, node: &Node) -> Inside
+        ensures { result ≡ begun node.now }
+    {
+        match node {
+            Node::Lits(_)
+            | Node::Spare(_)
+            | Node::Pad
+            | Node::Null
+            | Node::Field { .. }
+            | Node::Rest => Inside::Leaf,
+            Node::Seq(_) | Node::Times { .. } | Node::Many(_) | Node::Trunc(_) => {
+                Inside::Row(Rows::new(alloc))
+            }
+            Node::Choice(_) | Node::Window { .. } | Node::Named { .. } => Inside::Part(None),
+        }
+    }
+
+    /// With the tree of one more part.
+    pub fn with(self, node: u16, tree: Tree) -> Result<Inside, NoMemory>
+        ensures { IfOk result (λ inside. inside ≡ with_part node tree self) }
+    {
+        match self {
+            Inside::Leaf => Err(NoMemory),
+            Inside::Row(mut rows) => {
+                if rows.len() >= MOST_TREES || rows.push(tree).is_err() {
+                    return Err(NoMemory);
+                }
+                Ok(Inside::Row(rows))
+            }
+            Inside::Part(_) => Ok(Inside::Part(Some(Ended { node, tree }))),
+        }
+    }
+
+    /// The tree of a node that ends and is no leaf with bits.
+    pub fn tree(self, alloc: Global, node: &Node) -> Result<Tree, NoMemory>
+        ensures { IfOk result (λ tree. (bits : List ℕ) → IsTree node.now self bits tree) }
+    {
+        let shape = match node {
+            Node::Lits(_) | Node::Null => Shape::Empty,
+            Node::Seq(_) | Node::Times { .. } | Node::Many(_) | Node::Trunc(_) => {
+                Shape::Row(self.row()?)
+            }
+            Node::Choice(parts) => {
+                let part = self.part()?;
+                let Some(at) = place_of(parts, part.node) else {
+                    return Err(NoMemory);
+                };
+                Shape::Alt(at, Box::new(alloc, part.tree)?)
+            }
+            Node::Named { label, .. } => {
+                let part = self.part()?;
+                Shape::Named(label.copy(alloc)?, Box::new(alloc, part.tree)?)
+            }
+            Node::Window { .. } => return Ok(self.part()?.tree),
+            Node::Spare(_) | Node::Pad | Node::Field { .. } | Node::Rest => return Err(NoMemory),
+        };
+        Ok(Tree { shape })
+    }
+
+    /// The trees of a row.
+    fn row(self) -> Result<Rows, NoMemory>
+        ensures { IfOk result (λ rows. self ≡ inside.Row rows) }
+    {
+        match self {
+            Inside::Row(rows) => Ok(rows),
+            _ => Err(NoMemory),
+        }
+    }
+
+    /// The only part, which has ended.
+    fn part(self) -> Result<Ended, NoMemory>
+        ensures { IfOk result (λ part. self ≡ inside.Part (Some part)) }
+    {
+        match self {
+            Inside::Part(Some(part)) => Ok(part),
+            _ => Err(NoMemory),
+        }
+    }
+}
