@@ -1,3 +1,10 @@
 pub mod OneBits
 pub mod NoBits
 pub mod OneMisfit
+pub mod Counting
+pub mod Rows
+pub mod Steps
+pub mod Leaves
+pub mod NodeKinds
+pub mod Total
+pub mod Blocks

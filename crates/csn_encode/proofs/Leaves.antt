@@ -1,0 +1,94 @@
+-- The bits of leaves: those that a symbol stands for, and the numbers that they write.
+use Rattle.std.proofs.Common.{◌≡◌, ℕ, zero, suc, ◌+◌, ◌-◌, ◌*◌, ◌^◌, ◌<◌, ◌≤◌, List, [], ◌∷◌, ◌++◌, length, length-drop, take, drop, get_or, refl, sym, ◌∙◌, ap, arith, Some, slice_get}
+use Rattle.std.specs.Prelude.{replicate}
+use Rattle.std.proofs.Math.Pow.{pow_mono}
+use Rattle.std.proofs.lemmas.List.{length-take-le, drop-append-le}
+use Rattle.csn_bits.specs.Octets.{IsBits}
+use Rattle.csn_bits.specs.Numbers.{number_of}
+use Rattle.csn_bits.proofs.NumberFacts.{number_of-push, number_of-lt}
+use Rattle.csn_desc.specs.declared.symbol.Symbol.{Symbol}
+use Rattle.csn_desc.specs.Spelled.{symbol_bit, spelled}
+
+take_one : {A : Type 0} (l : List A) (k : ℕ) (s : A) → slice_get l k ≡ Some s → take (suc k) l ≡ take k l ++ s ∷ []
+take_one [] k s at = absurd (cc)
+take_one (x ∷ l) zero s at = let same : x ≡ s = cc in ap (λ y. y ∷ []) same
+take_one (x ∷ l) (suc k) s at = ap (λ m. x ∷ m) (take_one l k s at)
+
+pub take_next : {A : Type 0} (l : List A) (k : ℕ) (s : A) → slice_get l k ≡ Some s → take (k + 1) l ≡ take k l ++ s ∷ []
+take_next l k s at = let e : k + 1 ≡ suc k = omega arith in ap (λ n. take n l) e ∙ take_one l k s at
+
+take_digit : (l : List ℕ) (k x : ℕ) → k < length l → get_or l k 0 ≡ x → take (suc k) l ≡ take k l ++ x ∷ []
+take_digit [] k x less at = absurd (omega arith)
+take_digit (y ∷ l) zero x less at = ap (λ z. z ∷ []) at
+take_digit (y ∷ l) (suc k) x less at = ap (λ m. y ∷ m) (take_digit l k x (omega arith) at)
+
+pub take_bit : (l : List ℕ) (k x : ℕ) → k < length l → get_or l k 0 ≡ x → take (k + 1) l ≡ take k l ++ x ∷ []
+take_bit l k x less at = let e : k + 1 ≡ suc k = omega arith in ap (λ n. take n l) e ∙ take_digit l k x less at
+
+-- ---- symbols
+
+spelled-push : (front : List Symbol) (s : Symbol) (place : ℕ) → spelled (front ++ s ∷ []) place ≡ spelled front place ++ symbol_bit s (place + length front) ∷ []
+spelled-push [] s place = ap (λ k. symbol_bit s k ∷ []) (omega arith)
+spelled-push (x ∷ front) s place =
+    let e : suc place + length front ≡ place + length (x ∷ front) = omega arith in
+    ap (λ l. symbol_bit x place ∷ l) (spelled-push front s (suc place) ∙ ap (λ k. spelled front (suc place) ++ symbol_bit s k ∷ []) e)
+
+-- one symbol more
+pub spelled-next : (run : List Symbol) (at place next : ℕ) (s : Symbol) → slice_get run at ≡ Some s → at < length run → next ≡ place + at
+    → spelled (take (at + 1) run) place ≡ spelled (take at run) place ++ symbol_bit s next ∷ []
+spelled-next run at place next s here less is =
+    let long : length (take at run) ≡ at = length-take-le at run (omega arith) in
+    ap (λ l. spelled l place) (take_next run at s here) ∙ spelled-push (take at run) s place
+    ∙ ap (λ k. spelled (take at run) place ++ symbol_bit s k ∷ []) (ap (λ k. place + k) long ∙ sym is)
+
+-- bits each of which the symbol stands for
+pub all_sent : (s : Symbol) (bits : List ℕ) (place : ℕ) → ((k : ℕ) → k < length bits → get_or bits k 0 ≡ symbol_bit s (place + k)) → bits ≡ spelled (replicate (length bits) s) place
+all_sent s [] place each = refl
+all_sent s (b ∷ bits) place each =
+    let first : b ≡ symbol_bit s place = each 0 (omega arith) ∙ ap (λ k. symbol_bit s k) (omega arith) in
+    let rest = all_sent s bits (suc place) (λ k less. each (suc k) (omega arith) ∙ ap (λ k. symbol_bit s k) (omega arith)) in
+    ap (λ x. x ∷ bits) first ∙ ap (λ l. symbol_bit s place ∷ l) rest
+
+pub each_sent : (s : Symbol) (bits : List ℕ) (place k : ℕ) → bits ≡ spelled (replicate (length bits) s) place → k < length bits → get_or bits k 0 ≡ symbol_bit s (place + k)
+each_sent s [] place k all less = absurd (omega arith)
+each_sent s (b ∷ bits) place zero all less =
+    let first : b ≡ symbol_bit s place = cc in
+    first ∙ ap (λ k. symbol_bit s k) (omega arith)
+each_sent s (b ∷ bits) place (suc k) all less =
+    let rest : bits ≡ spelled (replicate (length bits) s) (suc place) = cc in
+    each_sent s bits (suc place) k rest (omega arith) ∙ ap (λ k. symbol_bit s k) (omega arith)
+
+-- ---- numbers
+
+IsBits-take : (n : ℕ) (bits : List ℕ) → IsBits bits → IsBits (take n bits)
+IsBits-take zero bits s = tt
+IsBits-take (suc n) [] s = tt
+IsBits-take (suc n) (bit ∷ rest) s = (s.0, IsBits-take n rest s.1)
+
+IsBits-drop : (n : ℕ) (bits : List ℕ) → IsBits bits → IsBits (drop n bits)
+IsBits-drop zero bits s = s
+IsBits-drop (suc n) [] s = tt
+IsBits-drop (suc n) (bit ∷ rest) s = IsBits-drop n rest s.1
+
+pub number-next : (bits : List ℕ) (from at x : ℕ) → from ≤ at → at < length bits → get_or bits at 0 ≡ x
+    → number_of (drop from (take (at + 1) bits)) ≡ 2 * number_of (drop from (take at bits)) + x
+number-next bits from at x low less here =
+    let long : length (take at bits) ≡ at = length-take-le at bits (omega arith) in
+    ap (λ l. number_of (drop from l)) (take_bit bits at x less here)
+    ∙ ap (λ l. number_of l) (drop-append-le from (take at bits) (x ∷ []) (omega (arith, low, long)))
+    ∙ number_of-push (drop from (take at bits)) x
+
+pub number-small : (bits : List ℕ) (from at : ℕ) → IsBits bits → length bits ≤ from + 16 → at ≤ length bits → number_of (drop from (take at bits)) < 65536
+number-small bits from at are few within =
+    let long : length (take at bits) ≡ at = length-take-le at bits within in
+    let size : length (drop from (take at bits)) ≡ length (take at bits) - from = length-drop from (take at bits) in
+    let less = number_of-lt (drop from (take at bits)) (IsBits-drop from (take at bits) (IsBits-take at bits are)) in
+    let short : length (drop from (take at bits)) ≤ 16 = omega (arith, long, size, few, within) in
+    let most : 2 ^ 16 ≡ 65536 = refl in
+    let wide : 2 ^ length (drop from (take at bits)) ≤ 2 ^ 16 = pow_mono short in
+    omega (arith, less, wide, most)
+
+pub no_number : (bits : List ℕ) (from : ℕ) → number_of (drop from (take from bits)) ≡ 0
+no_number bits zero = refl
+no_number [] (suc from) = refl
+no_number (b ∷ bits) (suc from) = no_number bits from

@@ -1,0 +1,133 @@
+-- How the tree of a node is written behind bits that are written already. (This project's own choice.)
+use Rattle.std.specs.Prelude.{◌≡◌, ℕ, suc, ◌<◌, ◌≤◌, Bool, true, if◌then◌else◌, List, [], ◌∷◌, ◌++◌, length, map, Some}
+use Rattle.csn_bits.specs.Octets.{most_bits}
+use Rattle.csn_bits.specs.Numbers.{number_of}
+use Rattle.csn_desc.specs.declared.reading.Reading.{Reading}
+use Rattle.csn_desc.specs.declared.reading.Reading.TheVariants.{Sent}
+use Rattle.csn_desc.specs.declared.symbol.Symbol.{Symbol}
+use Rattle.csn_desc.specs.declared.node.Count.{Count}
+use Rattle.csn_desc.specs.declared.node.Count.TheVariants.{Fixed, Counted}
+use Rattle.csn_desc.specs.declared.node.Node.{Node}
+use Rattle.csn_desc.specs.TreeV.{TreeV, Trees}
+use Rattle.csn_desc.specs.Nodes.{DescV}
+use Rattle.csn_desc.specs.Values.{Values, value_of}
+use Rattle.csn_desc.specs.Spelled.{IsSpare}
+use Rattle.csn_desc.specs.Means.{NMeans, NodeMeans}
+use Rattle.csn_desc.specs.Formed.{is_counted, Formed, PartsFormed, FitWidths, IsDescription}
+use Rattle.csn_certify.specs.Conflicts.{Certified}
+use Rattle.csn_encode.specs.declared.misfit.MisfitWhy.{MisfitWhy}
+use Rattle.csn_encode.specs.declared.misfit.MisfitWhy.TheVariants.{WrongSpare, TooManyBits}
+use Rattle.csn_encode.specs.declared.numbers.Number.{Number}
+use Rattle.csn_encode.specs.declared.draft.Draft.{Draft}
+use Rattle.csn_encode.specs.declared.fault.Stop.{Stop}
+use Rattle.csn_encode.specs.declared.fault.Stop.TheVariants.{Misfit, NoMemory}
+use Rattle.csn_encode.specs.Misfits.{IsPast, HavePieces, kept_count, MissesIn, Misses}
+
+-- the labelled parts that have values, the last one first
+abbrev pub fields_of : Values → List ℕ
+fields_of v = map (λ value. value.0) v
+
+-- the bits of some pieces one after another
+abbrev pub joined : List (List ℕ) → List ℕ
+joined [] = []
+joined (piece ∷ pieces) = piece ++ joined pieces
+
+-- ---- numbers
+
+module _ (d : DescV) where
+  -- the numbers of the values that counts stand on, the last one last
+  abbrev pub numbers_of : Values → List Number
+  numbers_of [] = []
+  numbers_of (last ∷ earlier) =
+      if is_counted d.nodes last.0
+      then numbers_of earlier ++ record { field = last.0; value = number_of last.1 } ∷ []
+      else numbers_of earlier
+
+  -- a count is a number by these values, and counts stand on its field, which has up to 16 bits
+  abbrev pub HasNumber : Values → Count → Type 0
+  HasNumber v (Fixed n) = n ≤ 65536
+  HasNumber v (Counted m field c) =
+      (is_counted d.nodes field ≡ true) × (c ≤ 65535) × (number : ℕ) × (value_of v field ≡ Some number) × (number < 65536)
+
+  -- the numbers that are kept are those by which a count is a number
+  pub record KeepsCount (v : Values) (numbers : List Number) (count : Count) : Type 0 where
+    pub kept : numbers ≡ numbers_of v
+    pub has : HasNumber v count
+
+  -- ---- where the writing stands
+
+  -- a draft goes on at a node that is inside so many others and sees these values
+  pub record IsReady (round : ℕ) (v : Values) (draft : Draft) : Type 0 where
+    pub description : IsDescription d
+    pub certified : Certified d 12
+    pub widths : FitWidths d v
+    pub numbers : draft.numbers.items ≡ numbers_of v
+    pub steps : length draft.path ≤ round
+    pub few : round < 64
+    pub within : length draft.bits ≤ most_bits
+
+  -- it goes on at node i
+  pub record Stands (i round : ℕ) (v : Values) (draft : Draft) : Type 0 where
+    pub ready : IsReady round v draft
+    pub is_formed : Formed d.nodes (fields_of v) round i
+
+  -- it goes on at the part i of a node
+  pub record StandsAtPart (i round : ℕ) (v : Values) (draft : Draft) : Type 0 where
+    pub ready : IsReady round v draft
+    pub is_formed : Formed d.nodes (fields_of v) (suc round) i
+
+  -- it goes on at the parts of a node, whose later ones see the earlier ones or do not
+  pub record StandsAtParts (shows : Bool) (parts : List ℕ) (round : ℕ) (v : Values) (draft : Draft) : Type 0 where
+    pub ready : IsReady round v draft
+    pub are_formed : PartsFormed d.nodes shows (fields_of v) (suc round) parts
+
+-- ---- what has become of a draft
+
+-- bits, which are as many as a spare part has, miss it: a sender writes others, or a block has no room for them
+pub data MissesSpare (reading : Reading) (symbol : Symbol) (o : ℕ) (b : List ℕ) (why : MisfitWhy) : Type 0 where
+  not_sent : reading ≡ Sent → ¬ IsSpare Sent symbol o b → why ≡ WrongSpare → MissesSpare reading symbol o b why
+  no_room : IsSpare reading symbol o b → IsPast o (length b) → why ≡ TooManyBits → MissesSpare reading symbol o b why
+
+-- bits were added that mean this, and all else is as it was
+pub record Added (means : List ℕ → Type 0) (old new : Draft) : Type 0 where
+  pub added : List ℕ
+  pub meant : means added
+  pub bits : new.bits ≡ old.bits ++ added
+  pub within : length new.bits ≤ most_bits
+  pub path : new.path ≡ old.path
+  pub numbers : new.numbers.items ≡ old.numbers.items
+
+-- the path goes on to the place where a tree misses
+pub record Missed (misses : List ℕ → MisfitWhy → Type 0) (old new : Draft) (why : MisfitWhy) : Type 0 where
+  pub below : List ℕ
+  pub misfit : misses below why
+  pub path : new.path ≡ old.path ++ below
+
+abbrev pub IfMisfit : Stop → (MisfitWhy → Type 0) → Type 0
+IfMisfit (Misfit why) P = P why
+IfMisfit NoMemory P = Unit {0}
+
+module _ (d : DescV) where
+  -- the bits of a tree at this node were added, or the tree misses it
+  abbrev pub AddsNode : Node → Values → TreeV → Draft → Draft → Type 0
+  AddsNode n v t old new = Added (λ b. NodeMeans d n (length old.bits) v b t) old new
+
+  abbrev pub MissesNodeBy : Node → Values → TreeV → Draft → Draft → MisfitWhy → Type 0
+  MissesNodeBy n v t old new why = Missed (λ path reason. MissesIn d n (length old.bits) v t path reason) old new why
+
+  -- the same at the node with a number
+  abbrev pub Adds : ℕ → Values → TreeV → Draft → Draft → Type 0
+  Adds i v t old new = Added (λ b. NMeans d i (length old.bits) v b t) old new
+
+  abbrev pub MissesBy : ℕ → Values → TreeV → Draft → Draft → MisfitWhy → Type 0
+  MissesBy i v t old new why = Missed (λ path reason. Misses d i (length old.bits) v t path reason) old new why
+
+  -- at a part, which is one step further
+  abbrev pub MissesBelow : ℕ → ℕ → Values → TreeV → Draft → Draft → MisfitWhy → Type 0
+  MissesBelow at i v t old new why =
+      Missed (λ path reason. (below : List ℕ) × (path ≡ at ∷ below) × Misses d i (length old.bits) v t below reason) old new why
+
+  -- the trees of the first few parts
+  abbrev pub AddsParts : List ℕ → Values → Trees → Draft → Draft → ℕ → Type 0
+  AddsParts parts v ts old new kept =
+      Added (λ b. (pieces : List (List ℕ)) × (b ≡ joined pieces) × HavePieces d parts (length old.bits) v ts pieces × (kept ≡ kept_count pieces)) old new

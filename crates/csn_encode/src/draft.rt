@@ -1,0 +1,153 @@
+//! The bits that are written of a tree.
+
+ghost use Rattle.std.specs.Prelude.{◌≡◌, ℕ, ◌+◌, ◌-◌, ◌*◌, ◌<◌, ◌≤◌, [], ◌∷◌, ◌++◌, Bool, true, length, drop, if◌then◌else◌, OnOk, IfErr, Some, IsTrue, IsOk};
+ghost use Rattle.csn_bits.specs.Octets.{most_bits, IsBits};
+ghost use Rattle.csn_bits.specs.Numbers.{number_of};
+ghost use Rattle.csn_desc.specs.Nodes.{DescV};
+ghost use Rattle.csn_desc.specs.Spelled.{spelled};
+ghost use Rattle.csn_desc.specs.Values.{Values, count_of};
+ghost use Rattle.csn_desc.specs.Formed.{is_counted};
+ghost use Rattle.csn_encode.specs.declared.misfit.MisfitWhy.TheVariants.{TooManyBits};
+ghost use Rattle.csn_encode.specs.Misfits.{IsPast};
+ghost use Rattle.csn_encode.specs.Writing.{KeepsCount, Added, IfMisfit};
+
+use crate::fault::Stop;
+use crate::misfit::MisfitWhy;
+use crate::numbers::{MOST_NUMBERS, Number, last_value};
+use crate::path::Path;
+use crate::symbols::symbol_bit;
+use arrayvec::ArrayVec;
+use csn_bits::{Bits, BitsFault, MOST_BITS};
+use csn_certify::Plan;
+use csn_desc::{Count, Run};
+use std::alloc::Global;
+
+/// What is written so far of a tree, and where in the tree the writing stands.
+#[derive(Drop)]
+pub(crate) struct Draft {
+    pub bits: Bits,
+    /// The way from the root to the tree that is written, or to the one that does not fit.
+    pub path: Path,
+    /// The numbers of the labelled fields that the node sees and that counts stand on.
+    pub numbers: ArrayVec<Number, MOST_NUMBERS>,
+}
+
+impl Draft {
+    /// Nothing is written. It takes no memory.
+    pub fn new(alloc: Global) -> Draft
+        ensures bits { result.bits ≡ [] }
+        ensures path { result.path ≡ [] }
+        ensures numbers { result.numbers.items ≡ [] }
+    {
+        Draft {
+            bits: Bits::new(alloc),
+            path: Path::new(alloc),
+            numbers: ArrayVec::new(),
+        }
+    }
+
+    /// Adds a bit where a block has room for it.
+    fn push(&mut self, bit: u8) -> Result<(), Stop>
+        requires bit { bit ≤ 1 }
+        requires room { length self.old.bits < most_bits }
+        ensures bits { OnOk result (self.new.bits ≡ self.old.bits ++ bit ∷ []) }
+        ensures memory { IfErr result (λ stop. stop ≡ Stop.NoMemory) }
+        ensures path { self.new.path ≡ self.old.path }
+        ensures numbers { self.new.numbers ≡ self.old.numbers }
+    {
+        match self.bits.push(bit) {
+            Ok(()) => Ok(()),
+            Err(BitsFault::NoMemory) => Err(Stop::NoMemory),
+            Err(_) => unreachable!(),
+        }
+    }
+
+    /// Adds the bits of a leaf, where a block has room for them.
+    pub fn add(&mut self, leaf: &Bits) -> Result<(), Stop>
+        ensures added { OnOk result (Added (λ b. (b ≡ leaf.now) × IsBits b) self.old self.new) }
+        ensures past { IfErr result (λ stop. IfMisfit stop (λ why. (why ≡ TooManyBits) × IsPast (length self.old.bits) (length leaf.now))) }
+        ensures path { self.new.path ≡ self.old.path }
+        ensures bits { IsBits leaf.now }
+    {
+        if leaf.len() > MOST_BITS - self.bits.len() {
+            return Err(Stop::Misfit(MisfitWhy::TooManyBits));
+        }
+        for at in 0..leaf.len() {
+            self.push(leaf.get(at))?;
+        }
+        Ok(())
+    }
+
+    /// Adds the bits of a literal, where a block has room for them.
+    pub fn spell(&mut self, run: &Run) -> Result<(), Stop>
+        ensures added { OnOk result (Added (λ b. b ≡ spelled run.now (length self.old.bits)) self.old self.new) }
+        ensures past { IfErr result (λ stop. IfMisfit stop (λ why. (why ≡ TooManyBits) × IsPast (length self.old.bits) (length run.now))) }
+        ensures path { self.new.path ≡ self.old.path }
+    {
+        if run.len() > MOST_BITS - self.bits.len() {
+            return Err(Stop::Misfit(MisfitWhy::TooManyBits));
+        }
+        for at in 0..run.len() {
+            let place = self.bits.len();
+            self.push(symbol_bit(run.get(at), place))?;
+        }
+        Ok(())
+    }
+
+    /// How many a count is.
+    pub fn count_of(&self, count: &Count) -> u32
+        requires { (d : DescV) × (v : Values) × KeepsCount d v self.now.numbers.items count.now }
+        ensures count { (d : DescV) (v : Values) → KeepsCount d v self.now.numbers.items count.now → count_of v count.now ≡ Some result }
+        ensures small { result < 16777216 }
+    {
+        match count {
+            Count::Fixed(n) => *n,
+            Count::Counted { m, field, c } => match last_value(&self.numbers, *field) {
+                Some(number) => times_and_more(*m, number, *c),
+                None => unreachable!(),
+            },
+        }
+    }
+
+    /// Keeps the number of a part whose bits begin at the place `from`, where counts stand on it.
+    pub fn keep(&mut self, plan: &Plan, part: u16, from: u32)
+        requires part { part < length plan.now.nodes }
+        requires from { from ≤ length self.old.bits }
+        requires few { IsTrue (is_counted plan.now.nodes part) → length self.old.bits ≤ from + 16 }
+        requires room { IsTrue (is_counted plan.now.nodes part) → length self.old.numbers.items < MOST_NUMBERS }
+        ensures numbers { self.new.numbers.items
+            ≡ (if is_counted plan.now.nodes part
+            then self.old.numbers.items ++ record { field = part; value = number_of (drop from self.old.bits) } ∷ []
+            else self.old.numbers.items) }
+        ensures bits { self.new.bits ≡ self.old.bits }
+        ensures path { self.new.path ≡ self.old.path }
+    {
+        if plan.counts(part) {
+            let value = self.value_from(from);
+            self.numbers.push(Number { field: part, value });
+        }
+    }
+
+    /// The number that the bits from the place `from` on write, at most 16 of them.
+    fn value_from(&self, from: u32) -> u32
+        requires from { from ≤ length self.now.bits }
+        requires few { length self.now.bits ≤ from + 16 }
+        ensures { result ≡ number_of (drop from self.now.bits) }
+    {
+        let mut value = 0;
+        for at in from..self.bits.len() {
+            value = 2 * value + u32::from(self.bits.get(at));
+        }
+        value
+    }
+}
+
+/// So many times a number of up to 16 bits, and `c` more.
+fn times_and_more(m: u8, number: u32, c: u32) -> u32
+    requires number { number < 65536 }
+    requires more { c ≤ 65535 }
+    ensures sum { result ≡ m * number + c }
+    ensures small { result < 16777216 }
+{
+    u32::from(m) * number + c
+}
