@@ -18,6 +18,10 @@ mod catalogue;
 #[cfg(test)]
 mod descriptions;
 #[cfg(test)]
+mod judged;
+#[cfg(test)]
+mod shown;
+#[cfg(test)]
 mod tests;
 #[cfg(test)]
 mod texts;

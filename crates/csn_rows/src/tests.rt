@@ -1,7 +1,6 @@
 ghost use Rattle.std.specs.Prelude.{◌≤◌};
 
 use super::*;
-use crate::catalogue::CATALOGUE;
 use std::process::Abort;
 use std::test::Fail;
 
@@ -15,7 +14,7 @@ const SHOW: &[&str] = &["show", "F", "M", "received"];
 const OLD: &[u8] =
     b"[. <A>=3'5 b #16383:[] <GPRS Cell/2 o'k>=b11111111111111111111111111111111111111111111111111111111111111111 [64'18446744073709551615]]";
 
-fn words_of(alloc: Global, words: &[&str]) -> Result<Vec<String>, AllocError> {
+pub(crate) fn words_of(alloc: Global, words: &[&str]) -> Result<Vec<String>, AllocError> {
     let mut owned = Vec::new(alloc);
     for word in words {
         owned.push(String::from_str(alloc, word)?)?;
@@ -24,7 +23,7 @@ fn words_of(alloc: Global, words: &[&str]) -> Result<Vec<String>, AllocError> {
 }
 
 /// A shelf's files: the one file F.
-fn file(alloc: Global, text: &[u8]) -> Result<BTreeMap<String, Vec<u8>>, AllocError> {
+pub(crate) fn file(alloc: Global, text: &[u8]) -> Result<BTreeMap<String, Vec<u8>>, AllocError> {
     let mut files = BTreeMap::new(alloc);
     let name = String::from_str(alloc, "F")?;
     files.insert(name, Vec::from_slice(alloc, text)?)?;
@@ -65,7 +64,7 @@ fn ran_in_pieces(
     Ok(Ran { ended, text })
 }
 
-fn expect(rt: &impl Abort, ran: &Ran, text: &[u8], status: u8, what: &str) {
+pub(crate) fn expect(rt: &impl Abort, ran: &Ran, text: &[u8], status: u8, what: &str) {
     assert_eq!(rt; ran.text.as_slice(), text, "{what}");
     assert_eq!(rt; ran.ended.status(), status, "{what}");
 }
@@ -96,8 +95,8 @@ fn blocks_are_shown(rt: HostRuntime) -> Result<(), Fail> {
             1,
         ),
         (literal, b"40/2\n", b"ok .\n", 0),
-        (b"<M> ::= { 0 } ;", b"A5\n", b"later\n", 3),
-        (b"<N> ::= <A : bit (3)> ;", b"A5\n", b"later\n", 3),
+        (b"<M> ::= { 0 } ;", b"A5\n", b"no 0 bit\n", 1),
+        (b"<N> ::= <A : bit (3)> ;", b"A5\n", b"description 1 0\n", 3),
     ];
     for (description, input, text, status) in cases {
         let ran = shown(rt.alloc(), description, input)?;
@@ -180,17 +179,12 @@ fn texts_without_rules_are_refused(rt: HostRuntime) -> Result<(), Fail> {
 }
 
 #[test]
-fn catalogue_is_read(rt: HostRuntime) -> Result<(), Fail> {
-    let ran = shown(rt.alloc(), CATALOGUE, b"A5\n")?;
-    expect(&rt, &ran, b"later\n", 3, "the catalogue");
-    Ok(())
-}
-
-#[test]
 fn words_are_held_against_the_table(rt: HostRuntime) -> Result<(), Fail> {
     let alloc = rt.alloc();
     let cases = [
         [].as_slice(),
+        &["check"],
+        &["check", "F", "M", "both"],
         &["show"],
         &["show", "F", "M", "both"],
         &["show", "F", "-M", "sent"],
@@ -335,5 +329,50 @@ fn faults_keep_what_was_migrated(rt: HostRuntime) -> Result<(), Fail> {
     let first = vec![in alloc; 0]?;
     let ran = ran_in_pieces(alloc, words, b"", 4096, Vec::new(alloc), first)?;
     expect(&rt, &ran, b"", 6, "the flush fails");
+    Ok(())
+}
+
+#[test]
+fn longest_block_is_followed(rt: HostRuntime) -> Result<(), Fail> {
+    let alloc = rt.alloc();
+    let text = b"<M> ::= { 1 <A : bit(7)> } ** 0 <spare padding> ;";
+    let ran = shown(alloc, text, &vec![in alloc; b'F'; 131_072]?)?;
+    expect(&rt, &ran, b"no 524288 ended\n", 1, "the longest block");
+    Ok(())
+}
+
+#[test]
+fn input_is_left_alone_before_its_lines(rt: HostRuntime) -> Result<(), Fail> {
+    let alloc = rt.alloc();
+    for (words, text, status) in [
+        (
+            ["check", "F", "M", "received"],
+            b"certified 6\n".as_slice(),
+            0,
+        ),
+        (["check", "F", "N", "sent"], b"description 1 0\n", 3),
+        (["show", "F", "N", "sent"], b"description 1 0\n", 3),
+    ] {
+        // The first take would fail.
+        let first = vec![in alloc; 0]?;
+        let ran = ran_in_pieces(alloc, &words, b"A5\n", 7, first, Vec::new(alloc))?;
+        expect(&rt, &ran, text, status, "no take");
+    }
+    Ok(())
+}
+
+#[test]
+fn shelf_that_fails_ends_the_run(rt: HostRuntime) -> Result<(), Fail> {
+    let alloc = rt.alloc();
+    for command in ["check", "show"] {
+        let words = words_of(alloc, &[command, "F", "M", "received"])?;
+        let first = vec![in alloc; 0]?;
+        let mut shelf = MemShelf::new(file(alloc, FIELDS)?, first);
+        let mut source = MemSource::new(Vec::from_slice(alloc, b"A5\n")?, 7, Vec::new(alloc));
+        let mut sink = MemSink::new(alloc, 7, Vec::new(alloc));
+        let ended = run(alloc, &words, &mut shelf, &mut source, &mut sink);
+        assert_eq!(rt; ended.status(), 5, "{command}");
+        assert_eq!(rt; sink.taken().len(), 0, "{command}");
+    }
     Ok(())
 }

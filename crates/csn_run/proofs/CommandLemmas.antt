@@ -1,8 +1,23 @@
 -- Words, and the rows of the command table.
-use Rattle.std.proofs.Common.{◌≡◌, ◌↔◌, ℕ, List, Option, None, IsSome, subst}
-use Rattle.csn_run.specs.Command.{IsCommand}
+use Rattle.std.proofs.Common.{◌≡◌, ◌↔◌, ◌⊎◌, inl, inr, ℕ, List, Option, None, IsSome, subst, sym}
+use Rattle.csn_desc.specs.declared.reading.Reading.{Reading}
+use Rattle.csn_run.specs.Command.{IsCommand, IsOverRule, IsShow, IsMigrate, NamesFile, ReadsLines}
 use Rattle.csn_run.specs.declared.command.Command.{Command}
+use Rattle.csn_run.proofs.OneResult.{one_rule, over, not_both, not_migrate}
 
 -- words that no command stands for are no row
 pub no_row : (words : List (List ℕ)) (command : Option Command) → (IsSome command ↔ IsCommand words) → command ≡ None → IsCommand words → ⊥
 no_row words command row none is = let some : IsSome {T = Command} None = subst IsSome none (row.1 is) in absurd (cc)
+
+-- words that name a rule name its file alone
+pub one_file : {words : List (List ℕ)} {file name : List ℕ} {reading : Reading} → IsOverRule words file name reading → (other : List ℕ) → NamesFile words other → file ≡ other
+one_file row other names = (one_rule (over row).row (over names.2).row).file_is
+
+pub show_reads : {words : List (List ℕ)} {file name : List ℕ} {reading : Reading} → IsShow words file name reading → ReadsLines words
+show_reads row file name reading check = not_both check row
+
+pub migrate_reads : {words : List (List ℕ)} → IsMigrate words → ReadsLines words
+migrate_reads is file name reading check = not_migrate (over (inl check)) is
+
+pub migrate_names : {words : List (List ℕ)} → IsMigrate words → (file : List ℕ) → NamesFile words file → ⊥
+migrate_names is file names = not_migrate (over names.2) is

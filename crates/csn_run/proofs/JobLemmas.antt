@@ -1,30 +1,36 @@
 -- How jobs are over.
-use Rattle.std.proofs.Common.{◌≡◌, ℕ, ◌+◌, ◌<◌, ◌≤◌, Bool, inl, inr, List, [], ◌∷◌, ◌++◌, length, Option, Some, None, IsSome, Result, Ok, Err, IfOk, IfErr, codes, refl, sym, ◌∙◌, ap, subst, take, arith}
+use Rattle.std.proofs.Common.{◌≡◌, ℕ, ◌+◌, ◌<◌, ◌≤◌, ◌⊎◌, Bool, inl, inr, List, [], ◌∷◌, ◌++◌, length, Option, Some, None, Result, Ok, Err, IfOk, IfErr, codes, refl, sym, ◌∙◌, ap, subst, take, arith}
 use Rattle.std.specs.List.{AllZip}
 use Rattle.std.specs.Option.{option_map}
-use Rattle.std.proofs.lemmas.List.{length-take, length-take-le, take_all}
+use Rattle.std.proofs.lemmas.List.{length-take, take_all}
 use Rattle.csn_desc.specs.declared.reading.Reading.{Reading}
+use Rattle.csn_desc.specs.Nodes.{DescV}
+use Rattle.csn_grammar.specs.declared.fault.GrammarFault.TheVariants.{Syntax, NoMemory as no_memory_for_rules}
+use Rattle.csn_resolve.specs.declared.fault.ResolveFault.{ResolveFault}
+use Rattle.csn_resolve.specs.declared.fault.ResolveFault.TheVariants.{Refused, NoMemory as no_memory_for_nodes}
+use Rattle.csn_resolve.specs.declared.why.Why.{Why}
+use Rattle.csn_resolve.specs.Resolved.{IsRefused}
 use Rattle.csn_grammar.specs.RulesV.{RulesV}
-use Rattle.csn_grammar.specs.Place.{HasRules, IsSyntaxPlace}
-use Rattle.csn_grammar.specs.Answers.{OnSyntax}
+use Rattle.csn_grammar.specs.Place.{HasRules}
+use Rattle.csn_certify.specs.declared.certifying.CertifyFault.TheVariants.{Conflict, NoMemory as no_memory_for_plan}
 use Rattle.csn_io.specs.ShelfFault.{BeginsFile}
+use Rattle.csn_run.specs.declared.command.RuleWords.{RuleWords}
+use Rattle.csn_run.specs.declared.compile.NoPlan.{NoPlan}
+use Rattle.csn_run.specs.declared.compile.NoPlan.TheVariants.{Rules, Description, Plan}
+use Rattle.csn_run.specs.declared.compile.TheConstants.{MOST_DESCRIPTION}
 use Rattle.csn_run.specs.declared.ended.Ended.{Ended}
-use Rattle.csn_run.specs.declared.ended.Ended.TheVariants.{BadDescription as Bad, TooLong as Long}
+use Rattle.csn_run.specs.declared.ended.Ended.TheVariants.{Done, SomeRefused, BadDescription, NotCertified, TooLong as Long}
 use Rattle.csn_run.specs.declared.fault.Fault.{Fault}
 use Rattle.csn_run.specs.declared.fault.Fault.TheVariants.{Read, Write, Memory, TooLong}
-use Rattle.csn_run.specs.declared.top.Outcome.{Outcome}
-use Rattle.csn_run.specs.declared.top.Outcome.TheVariants.{BadDescription}
-use Rattle.csn_run.specs.declared.top.TheConstants.{MOST_DESCRIPTION}
+use Rattle.csn_run.specs.declared.planned.Unplanned.{Unplanned}
+use Rattle.csn_run.specs.declared.planned.Unplanned.TheVariants.{File, Text}
 use Rattle.csn_run.specs.Lines.{answered}
-use Rattle.csn_run.specs.declared.simple.things.Thing.{Thing}
 use Rattle.csn_run.specs.Progress.{Answers, AnswersAll, StopsAfter, StopsWithin, StopsBy, Stops}
-use Rattle.csn_run.specs.Simple.{IsSimple, things_of}
-use Rattle.csn_run.specs.Command.{IsShow, IsMigrate}
-use Rattle.csn_run.specs.Job.{IsDescription, IsLongFile, Asked, GivesAlways, JobEnds, unread, too_long, bad_description, all_lines, some_lines, outcome_of}
-use Rattle.csn_run.specs.Result.{LineJob, showing, migrating, AnswersLine, asks_show, asks_migrate, ShowsNone, long_text, no_rules, no_line}
-use Rattle.csn_grammar.specs.declared.fault.GrammarFault.{GrammarFault}
-use Rattle.csn_grammar.specs.declared.fault.GrammarFault.TheVariants.{Syntax}
-use Rattle.std.specs.Fmt.{decimal}
+use Rattle.csn_run.specs.Command.{IsCheck, IsShow, IsMigrate, IsOverRule}
+use Rattle.csn_run.specs.Compiled.{HasNoPlan, no_rules, rules_refused, not_certified, IsReason, Tells, certified_line}
+use Rattle.csn_run.specs.Planned.{IsPlanned, IsWhy, Refuses}
+use Rattle.csn_run.specs.Job.{IsDescription, IsBeforeLines, Asked, EndedBefore, JobEnds, unread, before_lines, all_lines, some_lines}
+use Rattle.csn_run.specs.Result.{LineJob, showing, migrating, AnswersLine, asks_show, asks_migrate, HasNoJob, long_text, no_plan, EndsBefore, no_job, checked, end_of}
 
 -- ---- answers that hold of more
 
@@ -54,7 +60,7 @@ module _ (A B : List ℕ → List ℕ → Type 0) (w : (line answer : List ℕ) 
   by_weaker TooLong given text h = (h.0, after_weaker h.1)
 
   pub stops_weaker : {left left' taken taken' : Option (List ℕ)} {waits : List ℕ} (fault : Fault) → Stops A fault left left' taken taken' waits → Stops B fault left left' taken taken' waits
-  stops_weaker fault s = record { given = s.given; took = s.took; source = s.source; sink = s.sink; by = by_weaker fault s.given _ s.by }
+  stops_weaker fault s = record { given = s.given; took = s.took; source = s.source; few = s.few; sink = s.sink; by = by_weaker fault s.given _ s.by }
 
 -- ---- what the words ask for over told files
 
@@ -79,63 +85,149 @@ whole_file files file text is = go (files file) refl is.front
         let few : length t ≤ MOST_DESCRIPTION + 1 = omega (arith, is.fits, ap length same, length-take (MOST_DESCRIPTION + 1) t) in
         held ∙ ap Some (sym (take_all (MOST_DESCRIPTION + 1) t few) ∙ same)
 
-pub is_simple : (rules : RulesV) (name : List ℕ) (things : List Thing) → things_of rules name ≡ Some things → IsSimple rules name
-is_simple rules name things e = subst IsSome (sym e) refl
-
--- `show` over a description that can be shown
-pub asked_show : (words : List (List ℕ)) (files : Option (List ℕ → Option (List ℕ))) (file name text : List ℕ) (reading : Reading) (rules : RulesV) (things : List Thing) → IsShow words file name reading → IsDescription files file text → HasRules text rules → things_of rules name ≡ Some things → Asked words files (showing rules name reading)
-asked_show words None file name text reading rules things row is has are = tt
-asked_show words (Some files) file name text reading rules things row is has are =
-    asks_show file name text reading rules row (whole_file files file text is) is.fits has (is_simple rules name things are) refl
+-- `show` by a plan
+pub asked_show :
+    (words : List (List ℕ)) (files : Option (List ℕ → Option (List ℕ))) (rule : RuleWords) (d : DescV)
+    → IsShow words rule.file.now rule.name.now rule.reading → (is : IsPlanned files rule d)
+    → Asked words files (showing is.rules rule.name.now rule.reading)
+asked_show words None rule d row is = tt
+asked_show words (Some files) rule d row is =
+    asks_show rule.file.now rule.name.now is.text rule.reading is.rules d row (whole_file files rule.file.now is.text is.fetched) is.fetched.fits is.compiled refl
 
 pub asked_migrate : (words : List (List ℕ)) (files : Option (List ℕ → Option (List ℕ))) → IsMigrate words → Asked words files migrating
 asked_migrate words None row = tt
 asked_migrate words (Some files) row = asks_migrate row refl
 
--- `show` over a description for which it comes to no line
-pub none_shown : (words : List (List ℕ)) (files : Option (List ℕ → Option (List ℕ))) (file name text written : List ℕ) (reading : Reading) (ended : Ended) → IsShow words file name reading → IsDescription files file text → ShowsNone name text written ended → GivesAlways words files written ended
-none_shown words None file name text written reading ended row is none = tt
-none_shown words (Some files) file name text written reading ended row is none = λ input. no_line file name text reading row (whole_file files file text is) none
+-- `check` by a plan
+pub ended_checked :
+    (words : List (List ℕ)) (files : Option (List ℕ → Option (List ℕ))) (rule : RuleWords) (d : DescV)
+    → IsCheck words rule.file.now rule.name.now rule.reading → IsPlanned files rule d
+    → EndedBefore words files (certified_line d ++ 10 ∷ []) Done
+ended_checked words None rule d row is = inr (refl, λ reads. reads rule.file.now rule.name.now rule.reading row)
+ended_checked words (Some files) rule d row is =
+    checked rule.file.now rule.name.now is.text rule.reading is.rules d row (whole_file files rule.file.now is.text is.fetched) is.fetched.fits is.compiled refl refl
 
--- `show` over a description that is too long
-long_shown : (words : List (List ℕ)) (files : Option (List ℕ → Option (List ℕ))) (file name front : List ℕ) (reading : Reading) → IsShow words file name reading → BeginsFile files file (MOST_DESCRIPTION + 1) front → MOST_DESCRIPTION < length front → GivesAlways words files [] Long
-long_shown words None file name front reading row begins long = tt
-long_shown words (Some files) file name front reading row begins long = λ input.
-    let text = long_file files file front begins long in
-    no_line file name text.0 reading row text.1 (long_text text.2 refl refl)
+-- the reason why a text gives no plan, with its line
+no_plan_of :
+    (text name : List ℕ) (reading : Reading) (reason : NoPlan) (line : List ℕ) (ended : Ended)
+    → IsReason text name reading reason → Tells reason line ended → HasNoPlan text name reading line ended
+no_plan_of text name reading (Rules (Syntax place)) line ended is tells = no_rules place is tells.0 tells.1
+no_plan_of text name reading (Rules no_memory_for_rules) line ended is tells = absurd tells
+no_plan_of text name reading (Description (Refused why place)) line ended is tells = rules_refused is.0 why place is.1 is.2 tells.0 tells.1
+no_plan_of text name reading (Description no_memory_for_nodes) line ended is tells = absurd tells
+no_plan_of text name reading (Plan (Conflict conflict)) line ended is tells = not_certified is.0 is.1 conflict is.2 is.3 is.4 tells.0 tells.1
+no_plan_of text name reading (Plan no_memory_for_plan) line ended is tells = absurd tells
+
+-- it comes before the lines
+tells_before : (reason : NoPlan) (line : List ℕ) (ended : Ended) → Tells reason line ended → IsBeforeLines ended
+tells_before (Rules (Syntax place)) line ended tells = inl tells.1
+tells_before (Rules no_memory_for_rules) line ended tells = absurd tells
+tells_before (Description (Refused why place)) line ended tells = inl tells.1
+tells_before (Description no_memory_for_nodes) line ended tells = absurd tells
+tells_before (Plan (Conflict conflict)) line ended tells = inr (inl tells.1)
+tells_before (Plan no_memory_for_plan) line ended tells = absurd tells
+
+module _ (words : List (List ℕ)) (rule : RuleWords) (row : IsOverRule words rule.file.now rule.name.now rule.reading) where
+  ended_by_text :
+      (files : Option (List ℕ → Option (List ℕ))) (text written : List ℕ) (reason : NoPlan) (line : List ℕ) (ended : Ended)
+      → IsDescription files rule.file.now text → IsReason text rule.name.now rule.reading reason → Tells reason line ended
+      → written ≡ line ++ 10 ∷ [] → EndedBefore words files written ended
+  ended_by_text None text written reason line ended is reasons tells e = inl (tells_before reason line ended tells)
+  ended_by_text (Some files) text written reason line ended is reasons tells e =
+      no_job rule.file.now rule.name.now text rule.reading row (whole_file files rule.file.now text is) (no_plan line is.fits (no_plan_of text rule.name.now rule.reading reason line ended reasons tells) e)
+
+  ended_by_length :
+      (files : Option (List ℕ → Option (List ℕ))) (front written : List ℕ) → written ≡ []
+      → BeginsFile files rule.file.now (MOST_DESCRIPTION + 1) front → MOST_DESCRIPTION < length front → EndedBefore words files written Long
+  ended_by_length None front written none begins long = inl (inr (inr refl))
+  ended_by_length (Some files) front written none begins long =
+      let text = long_file files rule.file.now front begins long in
+      no_job rule.file.now rule.name.now text.0 rule.reading row text.1 (long_text text.2 none refl)
+
+  -- the job is over before it has a plan
+  pub refused_ends :
+      (files : Option (List ℕ → Option (List ℕ))) (left taken : Option (List ℕ)) (waits : List ℕ) (why : Unplanned) (end : Result Ended Fault)
+      → IsWhy files rule why → Refuses why waits end → JobEnds words files left left taken taken waits end
+  refused_ends files left taken waits (File fault) end is refuses = by_fault fault is refuses
+    where
+      by_fault :
+          (fault : Fault) → IsWhy files rule (File fault) → Refuses (File fault) waits end
+          → JobEnds words files left left taken taken waits end
+      by_fault Read is refuses = unread refl refl refuses.1 (inl refuses.0)
+      by_fault Write is refuses = absurd (is.0 refl)
+      by_fault Memory is refuses = unread refl refl refuses.1 (inr refuses.0)
+      by_fault TooLong is refuses =
+          let long = is.1 refl in
+          let P : Result Ended Fault → Type 0 = λ e. JobEnds words files left left taken taken waits e in
+          subst P (sym refuses.0) (before_lines (ended_by_length files long.0 waits refuses.1 long.1 long.2) refl refl)
+  refused_ends files left taken waits (Text reason) (Ok ended) is refuses =
+      before_lines (ended_by_text files is.0 waits reason refuses.0 ended is.1 is.2 refuses.2 refuses.1) refl refl
+  refused_ends files left taken waits (Text reason) (Err fault) is refuses = unread refl refl refuses.1 (inr (ap Err refuses.0))
 
 -- ---- ends of jobs
 
-pub not_simple : (rules : RulesV) (name : List ℕ) → None ≡ things_of rules name → IsSimple rules name → ⊥
-not_simple rules name e simple = let some : IsSome {T = List Thing} None = subst IsSome (sym e) simple in absurd (cc)
-
 -- the job is over with its lines
-pub lines_end : (A : List ℕ → List ℕ → Type 0) (words : List (List ℕ)) (files : Option (List ℕ → Option (List ℕ))) (job : LineJob) (left left' taken taken' : Option (List ℕ)) (waits : List ℕ) (refused : Bool) (end : Result Outcome Fault) → Asked words files job → ((line answer : List ℕ) → A line answer → AnswersLine job line answer) → IfOk end (λ outcome. AnswersAll A left left' taken taken' waits refused × (outcome ≡ outcome_of refused)) → IfErr end (λ fault. Stops A fault left left' taken taken' waits) → JobEnds words files left left' taken taken' waits end
-lines_end A words files job left left' taken taken' waits refused (Ok outcome) asked weaker ok err = all_lines job refused asked (all_weaker A (AnswersLine job) weaker ok.0) (ap Ok ok.1)
+pub lines_end :
+    (A : List ℕ → List ℕ → Type 0) (words : List (List ℕ)) (files : Option (List ℕ → Option (List ℕ))) (job : LineJob) (left left' taken taken' : Option (List ℕ)) (waits : List ℕ) (refused : Bool) (end : Result Ended Fault)
+    → Asked words files job → ((line answer : List ℕ) → A line answer → AnswersLine job line answer)
+    → IfOk end (λ ended. AnswersAll A left left' taken taken' waits refused × (ended ≡ end_of refused))
+    → IfErr end (λ fault. Stops A fault left left' taken taken' waits) → JobEnds words files left left' taken taken' waits end
+lines_end A words files job left left' taken taken' waits refused (Ok ended) asked weaker ok err = all_lines job refused asked (all_weaker A (AnswersLine job) weaker ok.0) (ap Ok ok.1)
 lines_end A words files job left left' taken taken' waits refused (Err fault) asked weaker ok err = some_lines job fault asked (stops_weaker A (AnswersLine job) weaker fault err) refl
 
--- the job is over before its description was there
-pub fetch_ends : (words : List (List ℕ)) (files : Option (List ℕ → Option (List ℕ))) (file name : List ℕ) (reading : Reading) (left taken : Option (List ℕ)) (waits : List ℕ) (fault : Fault) → IsShow words file name reading → waits ≡ [] → (fault ≡ Write → ⊥) → (fault ≡ TooLong → (front : List ℕ) × BeginsFile files file (MOST_DESCRIPTION + 1) front × (MOST_DESCRIPTION < length front)) → JobEnds words files left left taken taken waits (Err fault)
-fetch_ends words files file name reading left taken waits Read row none not_write long = unread refl refl none (inl refl)
-fetch_ends words files file name reading left taken waits Write row none not_write long = absurd (not_write refl)
-fetch_ends words files file name reading left taken waits Memory row none not_write long = unread refl refl none (inr refl)
-fetch_ends words files file name reading left taken waits TooLong row none not_write long =
-    let l = long refl in
-    too_long (long_shown words files file name l.0 reading row l.1 l.2) refl refl none refl
+-- the job of `check` is over by a plan
+pub check_ends :
+    (words : List (List ℕ)) (files : Option (List ℕ → Option (List ℕ))) (rule : RuleWords) (d : DescV) (left taken : Option (List ℕ)) (waits : List ℕ) (end : Result Ended Fault)
+    → IsCheck words rule.file.now rule.name.now rule.reading → IsPlanned files rule d
+    → IfOk end (λ ended. (ended ≡ Done) × (waits ≡ certified_line d ++ 10 ∷ [])) → IfErr end (λ fault. (fault ≡ Memory) × (waits ≡ []))
+    → JobEnds words files left left taken taken waits end
+check_ends words files rule d left taken waits (Ok ended) row is ok err =
+    let P : Ended → Type 0 = λ e. EndedBefore words files waits e in
+    let Q : List ℕ → Type 0 = λ w. EndedBefore words files w Done in
+    before_lines (subst P (sym ok.0) (subst Q (sym ok.1) (ended_checked words files rule d row is))) refl refl
+check_ends words files rule d left taken waits (Err fault) row is ok err = unread refl refl err.1 (inr (ap Err err.0))
 
--- the job is over with a text that has no rules
-pub text_refused : (words : List (List ℕ)) (files : Option (List ℕ → Option (List ℕ))) (file name : List ℕ) (reading : Reading) (left taken : Option (List ℕ)) (waits text : List ℕ) (fault : GrammarFault) (end : Result Outcome Fault) → IsShow words file name reading → IsDescription files file text → OnSyntax fault (IsSyntaxPlace text) → IfOk end (λ outcome. (outcome ≡ BadDescription) × (place : ℕ) × (fault ≡ Syntax place) × (waits ≡ codes "syntax " ++ (decimal place ++ 10 ∷ []))) → IfErr end (λ cause. (cause ≡ Memory) × (waits ≡ [])) → JobEnds words files left left taken taken waits end
-text_refused words files file name reading left taken waits text fault (Ok outcome) row is place ok err =
-    bad_description (none_shown words files file name text waits reading Bad row is (no_rules ok.1 is.fits (subst (λ f. OnSyntax f (IsSyntaxPlace text)) ok.2 place) ok.3 refl)) refl refl (ap Ok ok.0)
-text_refused words files file name reading left taken waits text fault (Err cause) row is place ok err = unread refl refl err.1 (inr (ap Err err.0))
+-- why rules that are refused give no plan
+pub resolved_reason :
+    {T : Type 0} (text name : List ℕ) (reading : Reading) (rules : RulesV) (fault : ResolveFault) → HasRules text rules
+    → ((why : Why) (place : ℕ) → ◌≡◌ {A = Result T ResolveFault} (Err fault) (Err (Refused why place)) → IsRefused rules name reading why place)
+    → IsReason text name reading (Description fault)
+resolved_reason text name reading rules (Refused why place) has is = (rules, has, is why place refl)
+resolved_reason text name reading rules no_memory_for_nodes has is = tt
 
--- a description that was fetched is not of a longer file
-pub not_long : (files : Option (List ℕ → Option (List ℕ))) (file text : List ℕ) → IsDescription files file text → IsLongFile files file → ⊥
-not_long None file text is long = absurd long
-not_long (Some files) file text is long =
-    let front : option_map (λ f. take (MOST_DESCRIPTION + 1) f) (files file) ≡ Some text = is.front in
-    let same : Some (take (MOST_DESCRIPTION + 1) long.0) ≡ Some text = rw long.1 at front in
-    let taken : take (MOST_DESCRIPTION + 1) long.0 ≡ text = cc in
-    let count : length (take (MOST_DESCRIPTION + 1) long.0) ≡ MOST_DESCRIPTION + 1 = length-take-le (MOST_DESCRIPTION + 1) long.0 (omega (arith, long.2)) in
-    let whole : length (take (MOST_DESCRIPTION + 1) long.0) ≡ length text = ap length taken in
-    omega (arith, count, whole, is.fits)
+-- ---- a job that is over before it has a plan
+
+-- what could not be read is the file
+pub refused_read : (why : Unplanned) (waits : List ℕ) (end : Result Ended Fault) → Refuses why waits end → end ≡ Err Read → why ≡ File Read
+refused_read (File fault) waits end refuses e = let same : fault ≡ Read = cc in ap File same
+refused_read (Text reason) waits (Ok ended) refuses e = absurd (cc)
+refused_read (Text reason) waits (Err fault) refuses e = let clash : Memory ≡ Read = cc in absurd (cc)
+
+-- nothing was written
+pub refused_write :
+    (files : Option (List ℕ → Option (List ℕ))) (rule : RuleWords) (why : Unplanned) (waits : List ℕ) (end : Result Ended Fault)
+    → IsWhy files rule why → Refuses why waits end → end ≡ Err Write → ⊥
+refused_write files rule (File fault) waits end is refuses e = let same : fault ≡ Write = cc in is.0 same
+refused_write files rule (Text reason) waits (Ok ended) is refuses e = cc
+refused_write files rule (Text reason) waits (Err fault) is refuses e = let clash : Memory ≡ Write = cc in cc
+
+-- a file that could not be read, or for which there was no memory
+pub refused_missing :
+    {T : Type 0} (result : Result T Unplanned) (why : Unplanned) (waits : List ℕ) (end : Result Ended Fault)
+    → result ≡ Err why → Refuses why waits end → (result ≡ Err (File Read)) ⊎ (result ≡ Err (File Memory))
+    → ((end ≡ Err Read) ⊎ (end ≡ Err Memory)) × (waits ≡ [])
+refused_missing {T} result why waits end is refuses (inl e) =
+    let same : why ≡ File Read = cc in
+    let P : Unplanned → Type 0 = λ w. Refuses w waits end in
+    let r = subst P same refuses in (inl r.0, r.1)
+refused_missing {T} result why waits end is refuses (inr e) =
+    let same : why ≡ File Memory = cc in
+    let P : Unplanned → Type 0 = λ w. Refuses w waits end in
+    let r = subst P same refuses in (inr r.0, r.1)
+
+-- a job that could not read its file has met a fault of the shelf
+pub refused_by_file : {T : Type 0} (result : Result T Unplanned) (why : Unplanned) (waits : List ℕ) (end : Result Ended Fault) → result ≡ Err why → Refuses why waits end → result ≡ Err (File Read) → end ≡ Err Read
+refused_by_file {T} result why waits end is refuses e =
+    let same : why ≡ File Read = cc in
+    let P : Unplanned → Type 0 = λ w. Refuses w waits end in
+    (subst P same refuses).0

@@ -4,6 +4,7 @@ use Rattle.std.proofs.lemmas.List.{append-nil, length-take, take-append-drop, ta
 use Rattle.std.proofs.Math.Seq.{take-append-add}
 use Rattle.csn_io.specs.Put.{Appended}
 use Rattle.csn_io.specs.Got.{Gave}
+use Rattle.csn_run.specs.Outside.{Keeps}
 
 -- a slice from p on is what is left behind p
 pub slice_from : (p : ℕ) (xs : List ℕ) → take (length xs - p) (drop p xs) ≡ drop p xs
@@ -36,3 +37,38 @@ last_byte n xs some fits =
       ap (λ k. take k xs) (sym back) ∙ take_more_of (n - 1) 1 xs (omega arith),
       omega (arith, length-take 1 (take (length xs - (n - 1)) (drop (n - 1) xs)), ap length (slice_from (n - 1) xs), length-drop (n - 1) xs),
     )
+
+-- ---- what holds of an object over calls
+
+-- an object that is not to blame
+pub keeps_quiet : {was is : Type 0} {before after : ℕ} {to_blame : Type 0} → (to_blame → ⊥) → Keeps was is before after to_blame → Keeps was is before after ⊥
+keeps_quiet never keeps = (keeps.0, keeps.1, λ none. keeps.2 never)
+
+-- calls after which it is not to blame, and then some more
+pub keeps_then :
+    {was now is : Type 0} {before between after : ℕ} {to_blame : Type 0}
+    → Keeps was now before between ⊥ → Keeps now is between after to_blame → Keeps was is before after to_blame
+keeps_then first next = (
+  omega (arith, first.0, next.0),
+  λ steady. (let here = first.1 steady in let there = next.1 here.0 in (there.0, there.1 ∙ here.1)),
+  λ none. next.2 none ∙ first.2 (λ e. e),
+)
+
+-- what is to blame for less is to blame for more
+pub keeps_along : {was is : Type 0} {before after : ℕ} {to_blame other : Type 0} → (to_blame → other) → Keeps was is before after to_blame → Keeps was is before after other
+keeps_along f keeps = (keeps.0, keeps.1, λ no_other. keeps.2 (λ p. no_other (f p)))
+
+-- no call at all
+pub keeps_still : {was : Type 0} {before : ℕ} {to_blame : Type 0} → Keeps was was before before to_blame
+keeps_still = (omega arith, λ steady. (steady, refl), λ none. refl)
+
+-- some calls, and then some more
+pub keeps_both :
+    {was now is : Type 0} {before between after : ℕ} {first_blame next_blame to_blame : Type 0}
+    → (first_blame → to_blame) → (next_blame → to_blame) → Keeps was now before between first_blame
+    → Keeps now is between after next_blame → Keeps was is before after to_blame
+keeps_both f g first next = (
+  omega (arith, first.0, next.0),
+  λ steady. (let here = first.1 steady in let there = next.1 here.0 in (there.0, there.1 ∙ here.1)),
+  λ none. next.2 (λ q. none (g q)) ∙ first.2 (λ p. none (f p)),
+)

@@ -1,5 +1,5 @@
 -- What a run has written when it is over, over files, an input and an output that are told.
-use Rattle.std.proofs.Common.{◌≡◌, ℕ, ◌≤◌, Bool, true, false, ◌⊎◌, inl, inr, List, [], ◌∷◌, ◌++◌, length, take, Option, Some, None, Result, Ok, Err, refl, sym, ◌∙◌, ap, subst, arith, append_assoc, length-append}
+use Rattle.std.proofs.Common.{◌≡◌, ℕ, ◌+◌, ◌≤◌, Bool, true, false, ◌⊎◌, inl, inr, List, [], ◌∷◌, ◌++◌, length, take, Option, Some, None, Result, Ok, Err, refl, sym, ◌∙◌, ap, subst, arith, append_assoc, length-append}
 use Rattle.std.proofs.lemmas.List.{append-nil, take-append-le}
 use Rattle.std.specs.Option.{option_map}
 use Rattle.csn_io.specs.Got.{Gave, NothingLeft}
@@ -8,18 +8,17 @@ use Rattle.csn_run.specs.declared.ended.Ended.{Ended}
 use Rattle.csn_run.specs.declared.ended.Ended.TheVariants.{Done, SomeRefused, Usage, BadDescription, NotCertified, ReadFault, WriteFault, NoMemory, TooLong as Long}
 use Rattle.csn_run.specs.declared.fault.Fault.{Fault}
 use Rattle.csn_run.specs.declared.fault.Fault.TheVariants.{Read, Write, Memory, TooLong}
-use Rattle.csn_run.specs.declared.top.Outcome.{Outcome}
-use Rattle.csn_run.specs.declared.top.Outcome.TheVariants as outcome
 use Rattle.csn_run.specs.declared.lines.TheConstants.{MOST_INPUT}
 use Rattle.csn_run.specs.Lines.{between_feeds}
 use Rattle.csn_run.specs.Progress.{Answers, EndsIn, StopsBy}
-use Rattle.csn_run.specs.Command.{IsCommand}
-use Rattle.csn_run.specs.Job.{JobEnds, unread, too_long, bad_description, all_lines, some_lines, IsEndOf, outcome_of}
+use Rattle.csn_run.specs.Command.{IsCheck, IsOverRule, ReadsLines}
+use Rattle.csn_run.specs.Known.{Known, KnownOfTexts}
+use Rattle.csn_run.specs.Compiled.{HasNoPlan, no_rules, rules_refused, not_certified}
+use Rattle.csn_run.specs.Job.{JobEnds, unread, before_lines, all_lines, some_lines, end_by, end_with, IsBeforeLines, EndedBefore, Asked}
 use Rattle.csn_run.specs.Result as whole
 use Rattle.csn_run.specs.Laws.{LinesHaveAnswers}
-use Rattle.csn_grammar.specs.Laws.{TextsAreDecided}
 use Rattle.csn_run.proofs.Extends.{extends}
-use Rattle.csn_run.proofs.ResultExists.{begins_from_empty}
+use Rattle.csn_run.proofs.OneResult.{before_or_job}
 use Rattle.csn_run.proofs.Within.{within_input}
 
 -- ---- what is told
@@ -28,9 +27,6 @@ use Rattle.csn_run.proofs.Within.{within_input}
 no_front : (front rest : List ℕ) → front ++ rest ≡ [] → front ≡ []
 no_front [] rest e = refl
 no_front (x ∷ front) rest e = cc
-
-some_one : {X : Type 0} (x y : X) → Some x ≡ Some y → x ≡ y
-some_one x y e = cc
 
 -- bytes that a told source gave are the front of what it had
 pub given_front : (whole given : List ℕ) (left' : Option (List ℕ)) → Gave (Some whole) left' given → (rest : List ℕ) × (whole ≡ given ++ rest) × (left' ≡ Some rest)
@@ -47,142 +43,210 @@ pub taken_then : (before : List ℕ) (taken' taken'' : Option (List ℕ)) (took 
 taken_then before taken' taken'' took front job rest =
     rest ∙ ap (option_map (λ taken. taken ++ front)) job ∙ ap Some (append_assoc before took front)
 
+-- what waited of a job that had handed on nothing
+handed_front : (before front : List ℕ) (taken' taken'' : Option (List ℕ)) → taken' ≡ Some before → Appended taken' taken'' front → taken'' ≡ Some (before ++ front)
+handed_front before front taken' taken'' same handed = handed ∙ ap (option_map (λ taken. taken ++ front)) same
+
 -- ---- the end of a run
 
--- ends of a run that are none of a finished one
-unfinished_read : (ended : Ended) → IsEndOf (Err Read) ended → whole.IsFinished ended → ⊥
-unfinished_read ended is h = subst whole.IsFinished is h
+end_after_lines : (refused : Bool) (ended : Ended) (end : Result Ended Fault) → ended ≡ end_with end → end ≡ Ok (whole.end_of refused) → ended ≡ whole.end_of refused
+end_after_lines refused ended end is e = is ∙ ap end_with e
 
-unfinished_write : (ended : Ended) → IsEndOf (Err Write) ended → whole.IsFinished ended → ⊥
-unfinished_write ended is h = subst whole.IsFinished is h
+-- a fault that ends a job ends no finished run, but for an input that is too long
+unfinished : (fault : Fault) (ended : Ended) (end : Result Ended Fault) → ended ≡ end_with end → end ≡ Err fault → whole.IsFinished ended → whole.IsFinished (end_by fault)
+unfinished fault ended end is e finished = subst whole.IsFinished (is ∙ ap end_with e) finished
 
-unfinished_memory : (ended : Ended) → IsEndOf (Err Memory) ended → whole.IsFinished ended → ⊥
-unfinished_memory ended is h = subst whole.IsFinished is h
+module _ (words : List (List ℕ)) (files : List ℕ → Option (List ℕ)) (input before : List ℕ) where
+  abbrev Written : Option (List ℕ) → (List ℕ → Type 0) → Type 0
+  Written taken'' P = (written : List ℕ) × (taken'' ≡ Some (before ++ written)) × P written
 
-end_after_lines : (refused : Bool) (ended : Ended) → IsEndOf (Ok (outcome_of refused)) ended → ended ≡ whole.end_of refused
-end_after_lines true ended is = is
-end_after_lines false ended is = is
+  -- what a run has written whose job is over, where all that waited was handed on
+  pub result_of :
+      (left' taken' taken'' : Option (List ℕ)) (waits : List ℕ) (end : Result Ended Fault) (ended : Ended)
+      → JobEnds words (Some files) (Some input) left' (Some before) taken' waits end → Appended taken' taken'' waits
+      → ended ≡ end_with end → whole.IsFinished ended → Written taken'' (λ written. whole.Result words files input written ended)
+  result_of left' taken' taken'' waits end ended (unread same_left same_taken none cause) handed is finished =
+      elim cause [
+        | inl e ↦ absurd (unfinished Read ended end is e finished)
+        | inr e ↦ absurd (unfinished Memory ended end is e finished)
+      ]
+  result_of left' taken' taken'' waits end ended (before_lines gives same_left same_taken) handed is finished = (
+    waits,
+    handed_front before waits taken' taken'' same_taken handed,
+    whole.no_line (subst (λ (d : Ended). whole.EndsBefore words files waits d) (sym is) gives),
+  )
+  result_of left' taken' taken'' waits end ended (all_lines job refused asked a e) handed is finished =
+      let all = given_all input a.given left' a.source a.nothing_left in (
+        a.took ++ waits,
+        taken_then before taken' taken'' a.took waits a.sink handed,
+        whole.lines job asked (subst (λ (i : List ℕ). whole.AnswersInput (whole.AnswersLine job) i (a.took ++ waits) ended) (sym all) (whole.answers_all refused a.fits a.answers (end_after_lines refused ended end is e))),
+      )
+  result_of left' taken' taken'' waits end ended (some_lines job Read asked s e) handed is finished = absurd (unfinished Read ended end is e finished)
+  result_of left' taken' taken'' waits end ended (some_lines job Write asked s e) handed is finished = absurd (unfinished Write ended end is e finished)
+  result_of left' taken' taken'' waits end ended (some_lines job Memory asked s e) handed is finished = absurd (unfinished Memory ended end is e finished)
+  result_of left' taken' taken'' waits end ended (some_lines job TooLong asked s e) handed is finished =
+      let front = given_front input s.given left' s.source in
+      let after = s.by.1 in
+      let fits : MOST_INPUT ≤ length s.given = omega (arith, s.by.0) in
+      let same : take MOST_INPUT s.given ≡ take MOST_INPUT input = sym (take-append-le MOST_INPUT s.given front.0 fits) ∙ ap (take MOST_INPUT) (sym front.1) in (
+        s.took ++ waits,
+        taken_then before taken' taken'' s.took waits s.sink handed,
+        whole.lines job asked (whole.answers_front after.ended after.line after.refused (omega (arith, s.by.0, ap length front.1, length-append s.given front.0)) (subst (λ (i : List ℕ). EndsIn i after.ended after.line) same after.ends) after.answers (is ∙ ap end_with e)),
+      )
 
--- what a run has written whose job is over, where all that waited was handed on
-pub result_of : (words : List (List ℕ)) (files : List ℕ → Option (List ℕ)) (input before : List ℕ) (left' taken' taken'' : Option (List ℕ)) (waits : List ℕ) (end : Result Outcome Fault) (ended : Ended) → JobEnds words (Some files) (Some input) left' (Some before) taken' waits end → Appended taken' taken'' waits → IsEndOf end ended → whole.IsFinished ended → (written : List ℕ) × (taken'' ≡ Some (before ++ written)) × whole.Result words files input written ended
-result_of words files input before left' taken' taken'' waits end ended (unread same_left same_taken none cause) handed is finished =
-    elim cause [
-      | inl e ↦ absurd (unfinished_read ended (subst (λ (r : Result Outcome Fault). IsEndOf r ended) e is) finished)
-      | inr e ↦ absurd (unfinished_memory ended (subst (λ (r : Result Outcome Fault). IsEndOf r ended) e is) finished)
-    ]
-result_of words files input before left' taken' taken'' waits end ended (too_long gives same_left same_taken none e) handed is finished = (
-  waits,
-  handed ∙ ap (option_map (λ taken. taken ++ waits)) same_taken,
-  subst (λ (w : List ℕ). whole.Result words files input w ended) (sym none) (subst (λ (d : Ended). whole.Result words files input [] d) (sym (subst (λ (r : Result Outcome Fault). IsEndOf r ended) e is)) (gives input)),
-)
-result_of words files input before left' taken' taken'' waits end ended (bad_description gives same_left same_taken e) handed is finished = (
-  waits,
-  handed ∙ ap (option_map (λ taken. taken ++ waits)) same_taken,
-  subst (λ (d : Ended). whole.Result words files input waits d) (sym (subst (λ (r : Result Outcome Fault). IsEndOf r ended) e is)) (gives input),
-)
-result_of words files input before left' taken' taken'' waits end ended (all_lines job refused asked a e) handed is finished =
-    let all = given_all input a.given left' a.source a.nothing_left in (
-      a.took ++ waits,
-      taken_then before taken' taken'' a.took waits a.sink handed,
-      whole.lines job asked (subst (λ (i : List ℕ). whole.AnswersInput (whole.AnswersLine job) i (a.took ++ waits) ended) (sym all) (whole.answers_all refused a.fits a.answers (end_after_lines refused ended (subst (λ (r : Result Outcome Fault). IsEndOf r ended) e is)))),
-    )
-result_of words files input before left' taken' taken'' waits end ended (some_lines job Read asked s e) handed is finished =
-    absurd (unfinished_read ended (subst (λ (r : Result Outcome Fault). IsEndOf r ended) e is) finished)
-result_of words files input before left' taken' taken'' waits end ended (some_lines job Write asked s e) handed is finished =
-    absurd (unfinished_write ended (subst (λ (r : Result Outcome Fault). IsEndOf r ended) e is) finished)
-result_of words files input before left' taken' taken'' waits end ended (some_lines job Memory asked s e) handed is finished =
-    absurd (unfinished_memory ended (subst (λ (r : Result Outcome Fault). IsEndOf r ended) e is) finished)
-result_of words files input before left' taken' taken'' waits end ended (some_lines job TooLong asked s e) handed is finished =
-    let front = given_front input s.given left' s.source in
-    let after = s.by.1 in
-    let fits : MOST_INPUT ≤ length s.given = omega (arith, s.by.0) in
-    let same : take MOST_INPUT s.given ≡ take MOST_INPUT input = sym (take-append-le MOST_INPUT s.given front.0 fits) ∙ ap (take MOST_INPUT) (sym front.1) in (
-      s.took ++ waits,
-      taken_then before taken' taken'' s.took waits s.sink handed,
-      whole.lines job asked (whole.answers_front after.ended after.line after.refused (omega (arith, s.by.0, ap length front.1, length-append s.given front.0)) (subst (λ (i : List ℕ). EndsIn i after.ended after.line) same after.ends) after.answers (subst (λ (r : Result Outcome Fault). IsEndOf r ended) e is)),
-    )
+  -- ---- what stands written where a run was stopped
 
--- ---- what stands written where a run was stopped
+  -- what a run has written, of which the sink took the front of what waited
+  pub begun_of :
+      LinesHaveAnswers → (left' taken' taken'' : Option (List ℕ)) (waits front rest : List ℕ) (end : Result Ended Fault)
+      → JobEnds words (Some files) (Some input) left' (Some before) taken' waits end → waits ≡ front ++ rest
+      → Appended taken' taken'' front → Written taken'' (whole.BeginsResult words files input)
+  begun_of each_in_job left' taken' taken'' waits front rest end (unread same_left same_taken none cause) split handed =
+      (front, handed_front before front taken' taken'' same_taken handed, whole.begins_none (no_front front rest (sym split ∙ none)))
+  begun_of each_in_job left' taken' taken'' waits front rest end (before_lines gives same_left same_taken) split handed = (
+    front,
+    handed_front before front taken' taken'' same_taken handed,
+    whole.begins_whole rest (end_with end) (whole.no_line (subst (λ (w : List ℕ). whole.EndsBefore words files w (end_with end)) split gives)),
+  )
+  begun_of each_in_job left' taken' taken'' waits front rest end (all_lines job refused asked a e) split handed =
+      let all = given_all input a.given left' a.source a.nothing_left in
+      let text_is : a.took ++ waits ≡ (a.took ++ front) ++ rest = ap (λ l. a.took ++ l) split ∙ sym (append_assoc a.took front rest) in (
+        a.took ++ front,
+        taken_then before taken' taken'' a.took front a.sink handed,
+        whole.begins_whole rest (whole.end_of refused) (whole.lines job asked (subst (λ (i : List ℕ). whole.AnswersInput (whole.AnswersLine job) i ((a.took ++ front) ++ rest) (whole.end_of refused)) (sym all) (whole.answers_all refused a.fits (subst (λ (t : List ℕ). Answers (whole.AnswersLine job) (between_feeds a.given) t refused) text_is a.answers) refl))),
+      )
+  begun_of each_in_job left' taken' taken'' waits front rest end (some_lines job fault asked s e) split handed =
+      let given = given_front input s.given left' s.source in
+      let text_is : s.took ++ waits ≡ (s.took ++ front) ++ rest = ap (λ l. s.took ++ l) split ∙ sym (append_assoc s.took front rest) in
+      let within = within_input (whole.AnswersLine job) fault input s.given given.0 (s.took ++ waits) (s.took ++ front) rest given.1 text_is s.by in
+      let all = extends (whole.AnswersLine job) (λ line some. each_in_job words files job asked line) input (s.took ++ front) within in (
+        s.took ++ front,
+        taken_then before taken' taken'' s.took front s.sink handed,
+        whole.begins_whole all.0 all.1 (whole.lines job asked all.2),
+      )
 
--- what a run has written, of which the sink took the front of what waited
-pub begun_of : LinesHaveAnswers → TextsAreDecided → (words : List (List ℕ)) (files : List ℕ → Option (List ℕ)) (input before : List ℕ) (left' taken' taken'' : Option (List ℕ)) (waits front rest : List ℕ) (end : Result Outcome Fault) → IsCommand words → JobEnds words (Some files) (Some input) left' (Some before) taken' waits end → waits ≡ front ++ rest → Appended taken' taken'' front → (written : List ℕ) × (taken'' ≡ Some (before ++ written)) × whole.BeginsResult words files input written
-begun_of each_in_job decided words files input before left' taken' taken'' waits front rest end row (unread same_left same_taken none cause) split handed =
-    (front, handed ∙ ap (option_map (λ taken. taken ++ front)) same_taken, begins_from_empty each_in_job decided words files input front row (no_front front rest (sym split ∙ none)))
-begun_of each_in_job decided words files input before left' taken' taken'' waits front rest end row (too_long gives same_left same_taken none e) split handed = (
-  front,
-  handed ∙ ap (option_map (λ taken. taken ++ front)) same_taken,
-  whole.begins_whole rest Long (subst (λ (w : List ℕ). whole.Result words files input w Long) (sym none ∙ split) (gives input)),
-)
-begun_of each_in_job decided words files input before left' taken' taken'' waits front rest end row (bad_description gives same_left same_taken e) split handed = (
-  front,
-  handed ∙ ap (option_map (λ taken. taken ++ front)) same_taken,
-  whole.begins_whole rest BadDescription (subst (λ (w : List ℕ). whole.Result words files input w BadDescription) split (gives input)),
-)
-begun_of each_in_job decided words files input before left' taken' taken'' waits front rest end row (all_lines job refused asked a e) split handed =
-    let all = given_all input a.given left' a.source a.nothing_left in
-    let text_is : a.took ++ waits ≡ (a.took ++ front) ++ rest = ap (λ l. a.took ++ l) split ∙ sym (append_assoc a.took front rest) in (
-      a.took ++ front,
-      taken_then before taken' taken'' a.took front a.sink handed,
-      whole.begins_whole rest (whole.end_of refused) (whole.lines job asked (subst (λ (i : List ℕ). whole.AnswersInput (whole.AnswersLine job) i ((a.took ++ front) ++ rest) (whole.end_of refused)) (sym all) (whole.answers_all refused a.fits (subst (λ (t : List ℕ). Answers (whole.AnswersLine job) (between_feeds a.given) t refused) text_is a.answers) refl))),
-    )
-begun_of each_in_job decided words files input before left' taken' taken'' waits front rest end row (some_lines job fault asked s e) split handed =
-    let given = given_front input s.given left' s.source in
-    let text_is : s.took ++ waits ≡ (s.took ++ front) ++ rest = ap (λ l. s.took ++ l) split ∙ sym (append_assoc s.took front rest) in
-    let within = within_input (whole.AnswersLine job) fault input s.given given.0 (s.took ++ waits) (s.took ++ front) rest given.1 text_is s.by in
-    let all = extends (whole.AnswersLine job) (λ line some. each_in_job words files job asked line) input (s.took ++ front) within in (
-      s.took ++ front,
-      taken_then before taken' taken'' s.took front s.sink handed,
-      whole.begins_whole all.0 all.1 (whole.lines job asked all.2),
-    )
+  -- ---- a fault of the outside while it is read
 
--- ---- a fault of the outside while it is read
+  -- what a run has written that a fault of the source, or of the shelf, stopped
+  pub read_of :
+      (left' taken' taken'' : Option (List ℕ)) (waits : List ℕ) (end : Result Ended Fault)
+      → JobEnds words (Some files) (Some input) left' (Some before) taken' waits end → Appended taken' taken'' waits
+      → ReadFault ≡ end_with end → Written taken'' (whole.StopsReading words files input left')
+  read_of left' taken' taken'' waits end (unread same_left same_taken none cause) handed fault =
+      (waits, handed_front before waits taken' taken'' same_taken handed, whole.before_reading same_left none)
+  read_of left' taken' taken'' waits end (before_lines gives same_left same_taken) handed fault =
+      absurd (no_read waits (subst (λ (d : Ended). whole.EndsBefore words files waits d) (sym fault) gives))
+    where
+      no_read : (written : List ℕ) → whole.EndsBefore words files written ReadFault → ⊥
+      no_read written (whole.no_job file name text reading row held (whole.long_text long is e)) = cc
+      no_read written (whole.no_job file name text reading row held (whole.no_plan line fits (no_rules place at is e) ends)) = cc
+      no_read written (whole.no_job file name text reading row held (whole.no_plan line fits (rules_refused rules why place has why_not is e) ends)) = cc
+      no_read written (whole.no_job file name text reading row held (whole.no_plan line fits (not_certified rules d c has resolved first is e) ends)) = cc
+      no_read written (whole.checked file name text reading rules d row held fits compiled is e) = cc
+  read_of left' taken' taken'' waits end (all_lines job refused asked a e) handed fault = absurd (no_read refused (fault ∙ ap end_with e))
+    where
+      no_read : (refused : Bool) → ReadFault ≡ whole.end_of refused → ⊥
+      no_read true e = cc
+      no_read false e = cc
+  read_of left' taken' taken'' waits end (some_lines job cause asked s e) handed fault =
+      let given = given_front input s.given left' s.source in
+      let is_read : cause ≡ Read = is_read_end cause (fault ∙ ap end_with e) in (
+        s.took ++ waits,
+        taken_then before taken' taken'' s.took waits s.sink handed,
+        whole.while_reading s.given given.0 given.1 given.2 (record {
+          job = job;
+          asked = asked;
+          stopped = (subst (λ (f : Fault). StopsBy (whole.AnswersLine job) f s.given (s.took ++ waits)) is_read s.by).1;
+        }),
+      )
+    where
+      is_read_end : (cause : Fault) → ReadFault ≡ end_by cause → cause ≡ Read
+      is_read_end Read e = refl
+      is_read_end Write e = cc
+      is_read_end Memory e = cc
+      is_read_end TooLong e = cc
 
-not_long : (end : Result Outcome Fault) → end ≡ Err TooLong → end ≡ Err Read → ⊥
-not_long end e f = cc
+-- ---- what is left of the input
 
-not_ok : (end : Result Outcome Fault) (o : Outcome) (x : Fault) → end ≡ Ok o → end ≡ Err x → ⊥
-not_ok end o x e f = cc
+-- the end of a job whose lines were all answered, one or more being refused or none
+abbrev pub IsAnswered : Ended → Type 0
+IsAnswered ended = (ended ≡ Done) ⊎ (ended ≡ SomeRefused)
 
-err_one : (end : Result Outcome Fault) (x y : Fault) → end ≡ Err x → end ≡ Err y → x ≡ y
-err_one end x y e f = cc
+-- an end that is another
+pub ended_apart : (ended x : Ended) → ended ≡ x → (x ≡ Done → ⊥) → (x ≡ SomeRefused → ⊥) → IsAnswered ended → ⊥
+ended_apart ended x is done refused (inl e) = done (sym is ∙ e)
+ended_apart ended x is done refused (inr e) = refused (sym is ∙ e)
 
-ok_one : (end : Result Outcome Fault) (x y : Outcome) → end ≡ Ok x → end ≡ Ok y → x ≡ y
-ok_one end x y e f = cc
+-- a run that comes to no line and is done has checked
+before_answered : (words : List (List ℕ)) (files : Option (List ℕ → Option (List ℕ))) (written : List ℕ) (ended : Ended) → EndedBefore words files written ended → IsAnswered ended → ReadsLines words → ⊥
+before_answered words None written ended (inl before) answered reads = no_line before
+  where
+    no_line : IsBeforeLines ended → ⊥
+    no_line (inl e) = ended_apart ended BadDescription e (λ h. cc) (λ h. cc) answered
+    no_line (inr (inl e)) = ended_apart ended NotCertified e (λ h. cc) (λ h. cc) answered
+    no_line (inr (inr e)) = ended_apart ended Long e (λ h. cc) (λ h. cc) answered
+before_answered words None written ended (inr done) answered reads = done.1 reads
+before_answered words (Some files) written ended gives answered reads = by_end gives answered
+  where
+    by_end : whole.EndsBefore words files written ended → IsAnswered ended → ⊥
+    by_end (whole.no_job file name text reading row held (whole.long_text long is e)) answered = ended_apart ended Long e (λ h. cc) (λ h. cc) answered
+    by_end (whole.no_job file name text reading row held (whole.no_plan line fits (no_rules place at is e) ends)) answered = ended_apart ended BadDescription e (λ h. cc) (λ h. cc) answered
+    by_end (whole.no_job file name text reading row held (whole.no_plan line fits (rules_refused rules why place has why_not is e) ends)) answered = ended_apart ended BadDescription e (λ h. cc) (λ h. cc) answered
+    by_end (whole.no_job file name text reading row held (whole.no_plan line fits (not_certified rules d c has resolved first is e) ends)) answered = ended_apart ended NotCertified e (λ h. cc) (λ h. cc) answered
+    by_end (whole.checked file name text reading rules d row held fits compiled is e) answered = reads file name reading row
 
-not_bad : (refused : Bool) → outcome.BadDescription ≡ outcome_of refused → ⊥
-not_bad true e = cc
-not_bad false e = cc
-
--- what a run has written that a fault of the source, or of the shelf, stopped
-pub read_of : (words : List (List ℕ)) (files : List ℕ → Option (List ℕ)) (input before : List ℕ) (left' taken' taken'' : Option (List ℕ)) (waits : List ℕ) (end : Result Outcome Fault) → JobEnds words (Some files) (Some input) left' (Some before) taken' waits end → Appended taken' taken'' waits → end ≡ Err Read → (written : List ℕ) × (taken'' ≡ Some (before ++ written)) × whole.StopsReading words files input left' written
-read_of words files input before left' taken' taken'' waits end (unread same_left same_taken none cause) handed fault =
-    (waits, handed ∙ ap (option_map (λ taken. taken ++ waits)) same_taken, whole.before_reading same_left none)
-read_of words files input before left' taken' taken'' waits end (too_long gives same_left same_taken none e) handed fault =
-    absurd (not_long end e fault)
-read_of words files input before left' taken' taken'' waits end (bad_description gives same_left same_taken e) handed fault =
-    absurd (not_ok end _ _ e fault)
-read_of words files input before left' taken' taken'' waits end (all_lines job refused asked a e) handed fault =
-    absurd (not_ok end _ _ e fault)
-read_of words files input before left' taken' taken'' waits end (some_lines job cause asked s e) handed fault =
-    let given = given_front input s.given left' s.source in
-    let is_read : cause ≡ Read = err_one end cause Read e fault in (
-      s.took ++ waits,
-      taken_then before taken' taken'' s.took waits s.sink handed,
-      whole.while_reading s.given given.0 given.1 given.2 (record {
-        job = job;
-        asked = asked;
-        stopped = (subst (λ (f : Fault). StopsBy (whole.AnswersLine job) f s.given (s.took ++ waits)) is_read s.by).1;
-      }),
-    )
+pub fault_answered : (fault : Fault) → IsAnswered (end_by fault) → ⊥
+fault_answered Read (inl e) = cc
+fault_answered Read (inr e) = cc
+fault_answered Write (inl e) = cc
+fault_answered Write (inr e) = cc
+fault_answered Memory (inl e) = cc
+fault_answered Memory (inr e) = cc
+fault_answered TooLong (inl e) = cc
+fault_answered TooLong (inr e) = cc
 
 -- the source has nothing left where all lines are answered
-pub nothing_left_of : (words : List (List ℕ)) (files : Option (List ℕ → Option (List ℕ))) (left left' taken taken' : Option (List ℕ)) (waits : List ℕ) (end : Result Outcome Fault) (refused : Bool) → JobEnds words files left left' taken taken' waits end → end ≡ Ok (outcome_of refused) → NothingLeft left'
-nothing_left_of words files left left' taken taken' waits end refused (unread same_left same_taken none cause) is =
-    elim cause [ inl e ↦ absurd (not_ok end _ _ is e) | inr e ↦ absurd (not_ok end _ _ is e) ]
-nothing_left_of words files left left' taken taken' waits end refused (too_long gives same_left same_taken none e) is = absurd (not_ok end _ _ is e)
-nothing_left_of words files left left' taken taken' waits end refused (bad_description gives same_left same_taken e) is = absurd (not_bad refused (ok_one end _ _ e is))
-nothing_left_of words files left left' taken taken' waits end refused (all_lines job some asked a e) is = a.nothing_left
-nothing_left_of words files left left' taken taken' waits end refused (some_lines job fault asked s e) is = absurd (not_ok end _ _ is e)
+pub nothing_left_of :
+    (words : List (List ℕ)) (files : Option (List ℕ → Option (List ℕ))) (left left' taken taken' : Option (List ℕ)) (waits : List ℕ) (end : Result Ended Fault)
+    → JobEnds words files left left' taken taken' waits end → IsAnswered (end_with end) → ReadsLines words → NothingLeft left'
+nothing_left_of words files left left' taken taken' waits end (unread same_left same_taken none cause) answered reads =
+    elim cause [
+      | inl e ↦ absurd (fault_answered Read (subst (λ (r : Result Ended Fault). IsAnswered (end_with r)) e answered))
+      | inr e ↦ absurd (fault_answered Memory (subst (λ (r : Result Ended Fault). IsAnswered (end_with r)) e answered))
+    ]
+nothing_left_of words files left left' taken taken' waits end (before_lines gives same_left same_taken) answered reads = absurd (before_answered words files waits (end_with end) gives answered reads)
+nothing_left_of words files left left' taken taken' waits end (all_lines job some asked a e) answered reads = a.nothing_left
+nothing_left_of words files left left' taken taken' waits end (some_lines job fault asked s e) answered reads =
+    absurd (fault_answered fault (subst (λ (r : Result Ended Fault). IsAnswered (end_with r)) e answered))
+
+-- no more is taken of a source than a byte past its limit
+pub bounded_of :
+    (words : List (List ℕ)) (files : Option (List ℕ → Option (List ℕ))) (whole rest : List ℕ) (left' taken taken' : Option (List ℕ)) (waits : List ℕ) (end : Result Ended Fault)
+    → JobEnds words files (Some whole) left' taken taken' waits end → left' ≡ Some rest → length whole ≤ length rest + MOST_INPUT + 1
+bounded_of words files whole rest left' taken taken' waits end (unread same_left same_taken none cause) is = as_before whole rest (sym same_left ∙ is)
+  where
+    as_before : (whole rest : List ℕ) → Some whole ≡ Some rest → length whole ≤ length rest + MOST_INPUT + 1
+    as_before whole rest e = let same : whole ≡ rest = cc in omega (arith, ap length same)
+bounded_of words files whole rest left' taken taken' waits end (before_lines gives same_left same_taken) is = as_before whole rest (sym same_left ∙ is)
+  where
+    as_before : (whole rest : List ℕ) → Some whole ≡ Some rest → length whole ≤ length rest + MOST_INPUT + 1
+    as_before whole rest e = let same : whole ≡ rest = cc in omega (arith, ap length same)
+bounded_of words files whole rest left' taken taken' waits end (all_lines job some asked a e) is =
+    let none = given_all whole a.given left' a.source a.nothing_left in omega (arith, ap length none, a.fits)
+bounded_of words files whole rest left' taken taken' waits end (some_lines job fault asked s e) is =
+    let front = given_front whole s.given left' s.source in
+    let same : front.0 ≡ rest = (let there : Some front.0 ≡ Some rest = sym front.2 ∙ is in cc) in
+    omega (arith, ap length same, ap length front.1, length-append s.given front.0, s.few)
+
+-- ---- a run that comes to no line
+
+-- it leaves the source alone
+pub untouched :
+    {S : Type 0} (known : KnownOfTexts) (words : List (List ℕ)) (files : List ℕ → Option (List ℕ)) (written : List ℕ) (ended : Ended) (old new : S)
+    → whole.EndsBefore words files written ended
+    → (new ≡ old) ⊎ (ReadsLines words × (job : whole.LineJob) × Asked words (Some files) job) → new ≡ old
+untouched known words files written ended old new before (inl same) = same
+untouched known words files written ended old new before (inr (reads, job, asked)) = absurd (before_or_job known words files job before asked)
 
 -- ---- a file that is told as not held
 
@@ -195,21 +259,113 @@ pub nothing_taken : (taken taken' taken'' : Option (List ℕ)) (waits front rest
 nothing_taken taken taken' taken'' waits front rest same none split handed =
     appended_none taken' taken'' (subst (λ (t : List ℕ). Appended taken' taken'' t) (no_front front rest (sym split ∙ none)) handed) ∙ same
 
-unread_end : (end : Result Outcome Fault) (ended : Ended) → (end ≡ Err Read) ⊎ (end ≡ Err Memory) → IsEndOf end ended → (ended ≡ ReadFault → ⊥) → (ended ≡ NoMemory → ⊥) → ⊥
-unread_end end ended (inl e) is no_read no_memory = no_read (subst (λ (r : Result Outcome Fault). IsEndOf r ended) e is)
-unread_end end ended (inr e) is no_read no_memory = no_memory (subst (λ (r : Result Outcome Fault). IsEndOf r ended) e is)
+-- an end is one of two, or none of them
+faulty : (ended : Ended) → (ended ≡ WriteFault) ⊎ ((ended ≡ NoMemory) ⊎ ((ended ≡ WriteFault → ⊥) × (ended ≡ NoMemory → ⊥)))
+faulty WriteFault = inl refl
+faulty NoMemory = inr (inl refl)
+faulty Done = inr (inr ((λ h. cc), (λ h. cc)))
+faulty SomeRefused = inr (inr ((λ h. cc), (λ h. cc)))
+faulty Usage = inr (inr ((λ h. cc), (λ h. cc)))
+faulty BadDescription = inr (inr ((λ h. cc), (λ h. cc)))
+faulty NotCertified = inr (inr ((λ h. cc), (λ h. cc)))
+faulty ReadFault = inr (inr ((λ h. cc), (λ h. cc)))
+faulty Long = inr (inr ((λ h. cc), (λ h. cc)))
+
+-- the end of a run that a fault stopped, where what waited was handed on or not
+stopped : (fault : Fault) → whole.IsStopped (end_by fault) → (end : Result Ended Fault) (ended : Ended) → end ≡ Err fault
+    → ((ended ≡ WriteFault → ⊥) → (ended ≡ NoMemory → ⊥) → ended ≡ end_with end) → whole.IsStopped ended
+stopped fault is end ended e unless = elim (faulty ended) [
+  | inl write ↦ inr (inl write)
+  | inr other ↦ elim other [
+    | inl memory ↦ inr (inr memory)
+    | inr none ↦ (let P : Ended → Type 0 = λ x. whole.IsStopped x in subst P (sym (unless none.0 none.1 ∙ ap end_with e)) is)
+  ]
+]
 
 -- the ends of a run that could not read, or had no memory
-pub unread_ends : (end : Result Outcome Fault) (ended : Ended) → (end ≡ Err Read) ⊎ (end ≡ Err Memory) → ((ended ≡ WriteFault → ⊥) → (ended ≡ NoMemory → ⊥) → IsEndOf end ended) → (ended ≡ ReadFault) ⊎ ((ended ≡ WriteFault) ⊎ (ended ≡ NoMemory))
-unread_ends end ReadFault cause is = inl refl
-unread_ends end WriteFault cause is = inr (inl refl)
-unread_ends end NoMemory cause is = inr (inr refl)
-unread_ends end Done cause is = absurd (unread_end end Done cause (is (λ h. cc) (λ h. cc)) (λ h. cc) (λ h. cc))
-unread_ends end SomeRefused cause is = absurd (unread_end end SomeRefused cause (is (λ h. cc) (λ h. cc)) (λ h. cc) (λ h. cc))
-unread_ends end Usage cause is = absurd (unread_end end Usage cause (is (λ h. cc) (λ h. cc)) (λ h. cc) (λ h. cc))
-unread_ends end BadDescription cause is = absurd (unread_end end BadDescription cause (is (λ h. cc) (λ h. cc)) (λ h. cc) (λ h. cc))
-unread_ends end NotCertified cause is = absurd (unread_end end NotCertified cause (is (λ h. cc) (λ h. cc)) (λ h. cc) (λ h. cc))
-unread_ends end Long cause is = absurd (unread_end end Long cause (is (λ h. cc) (λ h. cc)) (λ h. cc) (λ h. cc))
+pub unread_ends :
+    (end : Result Ended Fault) (ended : Ended) → (end ≡ Err Read) ⊎ (end ≡ Err Memory)
+    → ((ended ≡ WriteFault → ⊥) → (ended ≡ NoMemory → ⊥) → ended ≡ end_with end) → whole.IsStopped ended
+unread_ends end ended (inl e) unless = stopped Read (inl refl) end ended e unless
+unread_ends end ended (inr e) unless = stopped Memory (inr (inr refl)) end ended e unless
+
+-- the end of a run that could not write
+pub unwritten_ends :
+    (end : Result Ended Fault) (ended : Ended) → end ≡ Err Write
+    → ((ended ≡ WriteFault → ⊥) → (ended ≡ NoMemory → ⊥) → ended ≡ end_with end) → whole.IsStopped ended
+unwritten_ends end ended e unless = stopped Write (inr (inl refl)) end ended e unless
+
+-- ---- which jobs end so
+
+-- an end that a run of no job has, but by a fault
+abbrev pub OnlyBy : Ended → Type 0
+OnlyBy x = (x ≡ Done → ⊥) × (x ≡ SomeRefused → ⊥) × (x ≡ BadDescription → ⊥) × (x ≡ NotCertified → ⊥) × (x ≡ Long → ⊥)
+
+before_apart : (words : List (List ℕ)) (files : Option (List ℕ → Option (List ℕ))) (written : List ℕ) (ended : Ended) → EndedBefore words files written ended → OnlyBy ended → ⊥
+before_apart words None written ended (inl (inl e)) only = only.2 e
+before_apart words None written ended (inl (inr (inl e))) only = only.3 e
+before_apart words None written ended (inl (inr (inr e))) only = only.4 e
+before_apart words None written ended (inr done) only = only.0 done.0
+before_apart words (Some files) written ended gives only = by_end gives
+  where
+    by_end : whole.EndsBefore words files written ended → ⊥
+    by_end (whole.no_job file name text reading row held (whole.long_text long is e)) = only.4 e
+    by_end (whole.no_job file name text reading row held (whole.no_plan line fits (no_rules place at is e) ends)) = only.2 e
+    by_end (whole.no_job file name text reading row held (whole.no_plan line fits (rules_refused rules why place has why_not is e) ends)) = only.2 e
+    by_end (whole.no_job file name text reading row held (whole.no_plan line fits (not_certified rules d c has resolved first is e) ends)) = only.3 e
+    by_end (whole.checked file name text reading rules d row held fits compiled is e) = only.0 e
+
+-- a job that ends so met a fault
+pub by_fault :
+    {words : List (List ℕ)} {files : Option (List ℕ → Option (List ℕ))} {left left' taken taken' : Option (List ℕ)} {waits : List ℕ} (end : Result Ended Fault) (x : Ended)
+    → JobEnds words files left left' taken taken' waits end → end_with end ≡ x → OnlyBy x
+    → (fault : Fault) × (end ≡ Err fault) × (end_by fault ≡ x)
+by_fault end x (unread same_left same_taken none (inl e)) is only = (Read, e, sym (ap end_with e) ∙ is)
+by_fault end x (unread same_left same_taken none (inr e)) is only = (Memory, e, sym (ap end_with e) ∙ is)
+by_fault {words} {files} {waits = waits} end x (before_lines gives same_left same_taken) is only =
+    let P : Ended → Type 0 = λ y. EndedBefore words files waits y in absurd (before_apart words files waits x (subst P is gives) only)
+by_fault end x (all_lines job refused asked a e) is only = absurd (answered refused (sym (ap end_with e) ∙ is))
+  where
+    answered : (refused : Bool) → whole.end_of refused ≡ x → ⊥
+    answered true same = only.1 (sym same)
+    answered false same = only.0 (sym same)
+by_fault end x (some_lines job fault asked s e) is only = (fault, e, sym (ap end_with e) ∙ is)
+
+pub not_usage : {words : List (List ℕ)} {files : Option (List ℕ → Option (List ℕ))} {left left' taken taken' : Option (List ℕ)} {waits : List ℕ} (end : Result Ended Fault) → JobEnds words files left left' taken taken' waits end → end_with end ≡ Usage → ⊥
+not_usage end ends is = no_fault by.0 by.2
+  where
+    by : (fault : Fault) × (end ≡ Err fault) × (end_by fault ≡ Usage)
+    by = by_fault end Usage ends is ((λ h. cc), (λ h. cc), (λ h. cc), (λ h. cc), (λ h. cc))
+
+    no_fault : (fault : Fault) → end_by fault ≡ Usage → ⊥
+    no_fault Read e = cc
+    no_fault Write e = cc
+    no_fault Memory e = cc
+    no_fault TooLong e = cc
+
+pub read_stopped : {words : List (List ℕ)} {files : Option (List ℕ → Option (List ℕ))} {left left' taken taken' : Option (List ℕ)} {waits : List ℕ} (end : Result Ended Fault) → JobEnds words files left left' taken taken' waits end → end_with end ≡ ReadFault → end ≡ Err Read
+read_stopped end ends is = by.1 ∙ ap Err (is_read by.0 by.2)
+  where
+    by : (fault : Fault) × (end ≡ Err fault) × (end_by fault ≡ ReadFault)
+    by = by_fault end ReadFault ends is ((λ h. cc), (λ h. cc), (λ h. cc), (λ h. cc), (λ h. cc))
+
+    is_read : (fault : Fault) → end_by fault ≡ ReadFault → fault ≡ Read
+    is_read Read e = refl
+    is_read Write e = cc
+    is_read Memory e = cc
+    is_read TooLong e = cc
+
+pub write_stopped : {words : List (List ℕ)} {files : Option (List ℕ → Option (List ℕ))} {left left' taken taken' : Option (List ℕ)} {waits : List ℕ} (end : Result Ended Fault) → JobEnds words files left left' taken taken' waits end → end_with end ≡ WriteFault → end ≡ Err Write
+write_stopped end ends is = by.1 ∙ ap Err (is_write by.0 by.2)
+  where
+    by : (fault : Fault) × (end ≡ Err fault) × (end_by fault ≡ WriteFault)
+    by = by_fault end WriteFault ends is ((λ h. cc), (λ h. cc), (λ h. cc), (λ h. cc), (λ h. cc))
+
+    is_write : (fault : Fault) → end_by fault ≡ WriteFault → fault ≡ Write
+    is_write Read e = cc
+    is_write Write e = refl
+    is_write Memory e = cc
+    is_write TooLong e = cc
 
 -- ---- every end is one of these
 
@@ -230,38 +386,27 @@ finished_no_write ended h e = subst whole.IsFinished e h
 pub finished_no_memory : (ended : Ended) → whole.IsFinished ended → ended ≡ NoMemory → ⊥
 finished_no_memory ended h e = subst whole.IsFinished e h
 
-pub read_no_write : (ended : Ended) → ended ≡ ReadFault → ended ≡ WriteFault → ⊥
-read_no_write ended e f = cc
-
-pub read_no_memory : (ended : Ended) → ended ≡ ReadFault → ended ≡ NoMemory → ⊥
-read_no_memory ended e f = cc
-
 -- a sink that took the front of what waited, where nothing stands behind it, took all
 pub handed_all : (taken taken' : Option (List ℕ)) (waits front rest : List ℕ) → waits ≡ front ++ rest → Appended taken taken' front → rest ≡ [] → Appended taken taken' waits
 handed_all taken taken' waits front rest split handed none = subst (λ (t : List ℕ). Appended taken taken' t) (sym (split ∙ ap (λ l. front ++ l) none ∙ append-nil front)) handed
 
-clash : (ended x y : Ended) → ended ≡ x → ended ≡ y → (x ≡ y → ⊥) → ⊥
-clash ended x y e f differ = differ (sym e ∙ f)
-
--- which job ends so
-pub was_done : (end : Result Outcome Fault) (ended : Ended) → IsEndOf end ended → ended ≡ Done → end ≡ Ok (outcome_of false)
-was_done (Ok outcome.Done) ended is e = refl
-was_done (Ok outcome.SomeRefused) ended is e = absurd (clash ended _ _ is e (λ h. cc))
-was_done (Ok outcome.BadDescription) ended is e = absurd (clash ended _ _ is e (λ h. cc))
-was_done (Err Read) ended is e = absurd (clash ended _ _ is e (λ h. cc))
-was_done (Err Write) ended is e = absurd (clash ended _ _ is e (λ h. cc))
-was_done (Err Memory) ended is e = absurd (clash ended _ _ is e (λ h. cc))
-was_done (Err TooLong) ended is e = absurd (clash ended _ _ is e (λ h. cc))
-
-pub was_refused : (end : Result Outcome Fault) (ended : Ended) → IsEndOf end ended → ended ≡ SomeRefused → end ≡ Ok (outcome_of true)
-was_refused (Ok outcome.Done) ended is e = absurd (clash ended _ _ is e (λ h. cc))
-was_refused (Ok outcome.SomeRefused) ended is e = refl
-was_refused (Ok outcome.BadDescription) ended is e = absurd (clash ended _ _ is e (λ h. cc))
-was_refused (Err Read) ended is e = absurd (clash ended _ _ is e (λ h. cc))
-was_refused (Err Write) ended is e = absurd (clash ended _ _ is e (λ h. cc))
-was_refused (Err Memory) ended is e = absurd (clash ended _ _ is e (λ h. cc))
-was_refused (Err TooLong) ended is e = absurd (clash ended _ _ is e (λ h. cc))
-
 -- two ends are not one
 pub ends_apart : (ended x y : Ended) → ended ≡ x → (x ≡ y → ⊥) → ended ≡ y → ⊥
 ends_apart ended x y e differ f = differ (sym e ∙ f)
+
+-- a job that ends as no fault does
+pub ok_of : (end : Result Ended Fault) (x : Ended) → end_with end ≡ x → ((fault : Fault) → end_by fault ≡ x → ⊥) → end ≡ Ok x
+ok_of (Ok ended) x is no_fault = ap Ok is
+ok_of (Err fault) x is no_fault = absurd (no_fault fault is)
+
+pub no_fault_bad : (fault : Fault) → end_by fault ≡ BadDescription → ⊥
+no_fault_bad Read e = cc
+no_fault_bad Write e = cc
+no_fault_bad Memory e = cc
+no_fault_bad TooLong e = cc
+
+pub no_fault_uncertified : (fault : Fault) → end_by fault ≡ NotCertified → ⊥
+no_fault_uncertified Read e = cc
+no_fault_uncertified Write e = cc
+no_fault_uncertified Memory e = cc
+no_fault_uncertified TooLong e = cc

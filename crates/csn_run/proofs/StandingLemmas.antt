@@ -23,8 +23,8 @@ stops_by_within Answer fault given text cause h =
     elim cause [ inl e ↦ subst (λ f. StopsBy Answer f given text) (sym e) h | inr e ↦ subst (λ f. StopsBy Answer f given text) (sym e) h ]
 
 -- a job stops in a piece of which it went through `fed`
-pub stops_halted : (Answer : List ℕ → List ℕ → Type 0) (fault : Fault) (left left' left'' taken taken' taken'' : Option (List ℕ)) (line waits waits' piece fed past : List ℕ) (r : Bool) (room : ℕ) → Standing Answer left left' taken taken' line waits r room → Gave left' left'' piece → piece ≡ fed ++ past → length fed < room → HaltsAt Answer (line ++ fed) taken' taken'' waits' → (fault ≡ Write) ⊎ (fault ≡ Memory) → Stops Answer fault left left'' taken taken'' waits'
-stops_halted Answer fault left left' left'' taken taken' taken'' line waits waits' piece fed past r room st gave is few h cause =
+pub stops_halted : (Answer : List ℕ → List ℕ → Type 0) (fault : Fault) (left left' left'' taken taken' taken'' : Option (List ℕ)) (line waits waits' piece fed past : List ℕ) (r : Bool) (room : ℕ) → Standing Answer left left' taken taken' line waits r room → Gave left' left'' piece → piece ≡ fed ++ past → length fed < room → length piece ≤ room → HaltsAt Answer (line ++ fed) taken' taken'' waits' → (fault ≡ Write) ⊎ (fault ≡ Memory) → Stops Answer fault left left'' taken taken'' waits'
+stops_halted Answer fault left left' left'' taken taken' taken'' line waits waits' piece fed past r room st gave is few within h cause =
     let front : List ℕ = st.given ++ fed in
     let fits : length front ≤ MOST_INPUT = omega (arith, st.room_is, length-append st.given fed) in
     let longer = take_longer MOST_INPUT front past fits in
@@ -33,6 +33,7 @@ stops_halted Answer fault left left' left'' taken taken' taken'' line waits wait
       given = st.given ++ piece;
       took = st.took ++ h.took;
       source = gave_more _ _ _ _ _ st.source gave;
+      few = omega (arith, st.room_is, within, length-append st.given piece);
       sink = appended_more _ _ _ _ _ st.sink h.sink;
       by = stops_by_within Answer fault _ _ cause (within_longer Answer (take MOST_INPUT (st.given ++ piece)) front longer.0 _ whole (record {
         ended = st.advances.ended ++ h.halts.ended;
@@ -66,6 +67,7 @@ stops_read Answer left left' left'' taken taken' line waits r room st stays = re
   given = st.given;
   took = st.took;
   source = subst (λ (o : Option (List ℕ)). Gave left o st.given) (sym stays) st.source;
+  few = omega (arith, standing_fits st);
   sink = st.sink;
   by = (
     standing_fits st,
@@ -85,6 +87,7 @@ stops_last Answer left left' left'' taken taken' line waits waits' r room st sta
   given = st.given;
   took = st.took;
   source = subst (λ (o : Option (List ℕ)). Gave left o st.given) (sym stays) st.source;
+  few = omega (arith, standing_fits st);
   sink = st.sink;
   by = subst (λ (l : List ℕ). StopsWithin Answer l (st.took ++ waits')) (sym (take_all MOST_INPUT st.given (standing_fits st))) (record {
     ended = st.advances.ended;
@@ -136,6 +139,7 @@ stops_too_long Answer left left' left'' taken taken' taken'' line line' waits wa
   given = st.given ++ piece;
   took = st.took ++ passes.text;
   source = gave_more _ _ _ _ _ st.source gave;
+  few = omega (arith, st.room_is, len, one, length-append st.given piece, ap length is, length-append fed past);
   sink = appended_more _ _ _ _ _ st.sink passes.sink;
   by = (
     omega (arith, st.room_is, length-append st.given piece, ap length is, length-append fed past),

@@ -1,9 +1,10 @@
 -- The command table. It is this project's own choice.
-use Rattle.std.specs.Prelude.{◌≡◌, ◌≢◌, ℕ, List, [], ◌∷◌, codes}
+use Rattle.std.specs.Prelude.{◌≡◌, ◌≢◌, ◌⊎◌, ℕ, List, [], ◌∷◌, codes}
 use Rattle.csn_desc.specs.declared.reading.Reading.{Reading}
 use Rattle.csn_desc.specs.declared.reading.Reading.TheVariants.{Received, Sent}
+use Rattle.csn_run.specs.declared.command.RuleWords.{RuleWords}
 use Rattle.csn_run.specs.declared.command.Command.{Command}
-use Rattle.csn_run.specs.declared.command.Command.TheVariants.{Show, Migrate}
+use Rattle.csn_run.specs.declared.command.Command.TheVariants.{Check, Show, Migrate}
 
 -- a word that can be an argument: it is not empty, and does not begin with `-`
 abbrev pub IsArgument : List ℕ → Type 0
@@ -15,26 +16,47 @@ abbrev pub word_of : Reading → List ℕ
 word_of Received = codes "received"
 word_of Sent = codes "sent"
 
--- the words are `show FILE NAME READING`
-pub record IsShow (words : List (List ℕ)) (file name : List ℕ) (reading : Reading) : Type 0 where
-  pub words_are : words ≡ codes "show" ∷ file ∷ name ∷ word_of reading ∷ []
+-- the words are `COMMAND FILE NAME READING`
+pub record NamesRule (command : List ℕ) (words : List (List ℕ)) (file name : List ℕ) (reading : Reading) : Type 0 where
+  pub words_are : words ≡ command ∷ file ∷ name ∷ word_of reading ∷ []
   pub file_fits : IsArgument file
   pub name_fits : IsArgument name
 
--- the word is `migrate`
+-- `check FILE NAME READING`
+abbrev pub IsCheck : List (List ℕ) → List ℕ → List ℕ → Reading → Type 0
+IsCheck = NamesRule (codes "check")
+
+-- `show FILE NAME READING`
+abbrev pub IsShow : List (List ℕ) → List ℕ → List ℕ → Reading → Type 0
+IsShow = NamesRule (codes "show")
+
+-- `migrate`
 abbrev pub IsMigrate : List (List ℕ) → Type 0
 IsMigrate words = words ≡ codes "migrate" ∷ []
 
+-- the words are a command over this rule of the description in this file
+abbrev pub IsOverRule : List (List ℕ) → List ℕ → List ℕ → Reading → Type 0
+IsOverRule words file name reading = IsCheck words file name reading ⊎ IsShow words file name reading
+
 -- the words are a row of the command table
 pub data IsCommand (words : List (List ℕ)) : Type 0 where
-  show_row : (file name : List ℕ) (reading : Reading) → IsShow words file name reading → IsCommand words
+  rule_row : (file name : List ℕ) (reading : Reading) → IsOverRule words file name reading → IsCommand words
   migrate_row : IsMigrate words → IsCommand words
+
+-- no command but `check` leaves the input alone
+abbrev pub ReadsLines : List (List ℕ) → Type 0
+ReadsLines words = (file name : List ℕ) (reading : Reading) → ¬ IsCheck words file name reading
 
 -- the words name a file
 abbrev pub NamesFile : List (List ℕ) → List ℕ → Type 0
-NamesFile words file = (name : List ℕ) × (reading : Reading) × IsShow words file name reading
+NamesFile words file = (name : List ℕ) × (reading : Reading) × IsOverRule words file name reading
+
+-- the words are `COMMAND` and those that name this rule
+abbrev pub AreRuleWords : List ℕ → List (List ℕ) → RuleWords → Type 0
+AreRuleWords command words rule = NamesRule command words rule.file.now rule.name.now rule.reading
 
 -- the words are the row of the command table that this command stands for
 abbrev pub IsRowOf : List (List ℕ) → Command → Type 0
-IsRowOf words (Show show) = IsShow words show.file.now show.name.now show.reading
+IsRowOf words (Check rule) = AreRuleWords (codes "check") words rule
+IsRowOf words (Show rule) = AreRuleWords (codes "show") words rule
 IsRowOf words Migrate = IsMigrate words

@@ -1,7 +1,15 @@
 -- Laws over the definitions.
-use Rattle.std.specs.Prelude.{◌≡◌, ℕ, List, Option, IsSome}
+use Rattle.std.specs.Prelude.{◌≡◌, ◌⊎◌, ℕ, List, Option, Some, IsSome}
+use Rattle.csn_desc.specs.declared.reading.Reading.{Reading}
+use Rattle.csn_desc.specs.Nodes.{DescV}
+use Rattle.csn_grammar.specs.RulesV.{RulesV}
+use Rattle.csn_grammar.specs.Place.{HasRules}
+use Rattle.csn_resolve.specs.Resolved.{IsResolved}
+use Rattle.csn_look.specs.declared.word.TheConstants.{MOST_WORD}
+use Rattle.csn_certify.specs.declared.conflict.Conflict.{Conflict}
+use Rattle.csn_certify.specs.Conflicts.{Certified, IsFirstConflict}
 use Rattle.csn_run.specs.declared.ended.Ended.{Ended}
-use Rattle.csn_run.specs.Command.{IsCommand, NamesFile}
+use Rattle.csn_run.specs.Command.{IsCommand, IsOverRule, NamesFile}
 use Rattle.csn_run.specs.Result.{LineJob, AnswersLine, AsksFor, Result}
 
 -- each line has an answer, in each job over lines that words ask for
@@ -16,11 +24,18 @@ LinesHaveOneAnswer =
     (words : List (List ℕ)) (files : List ℕ → Option (List ℕ)) (job : LineJob) → AsksFor words files job
     → (line answer other : List ℕ) → AnswersLine job line answer → AnswersLine job line other → answer ≡ other
 
--- the words of a command whose files are there have a result
+-- it is decided whether the rule that the words name is certified, where it has a description
+abbrev pub IsDecided : List (List ℕ) → (List ℕ → Option (List ℕ)) → Type 0
+IsDecided words files =
+    (file name text : List ℕ) (reading : Reading) (rules : RulesV) (d : DescV) → IsOverRule words file name reading
+    → files file ≡ Some text → HasRules text rules → IsResolved rules name reading d
+    → Certified d MOST_WORD ⊎ ((conflict : Conflict) × IsFirstConflict d MOST_WORD conflict)
+
+-- the words of a command whose files are there have a result, where that is decided
 abbrev pub RunsHaveResults : Type 0
 RunsHaveResults =
     (words : List (List ℕ)) (files : List ℕ → Option (List ℕ)) (input : List ℕ)
-    → IsCommand words → ((file : List ℕ) → NamesFile words file → IsSome (files file))
+    → IsCommand words → ((file : List ℕ) → NamesFile words file → IsSome (files file)) → IsDecided words files
     → (written : List ℕ) × (ended : Ended) × Result words files input written ended
 
 -- a run has one result

@@ -4,8 +4,9 @@ pub mod Lines
 pub mod OutLine
 pub mod Outside
 pub mod Progress
-pub mod Simple
-pub mod SimpleSlots
+pub mod Compiled
 pub mod Result
 pub mod Job
+pub mod Planned
+pub mod Known
 pub mod Laws

@@ -1,18 +1,22 @@
 -- What answers one line of the input. The texts are this project's own.
-use Rattle.std.specs.Prelude.{◌≡◌, ℕ, nat_lt, if◌then◌else◌, List, [], ◌++◌, length, codes, Some}
+use Rattle.std.specs.Prelude.{◌≡◌, ℕ, nat_lt, if◌then◌else◌, List, [], ◌++◌, length, codes}
 use Rattle.std.specs.Fmt.{decimal}
 use Rattle.csn_bits.specs.Line.{BlockLine}
 use Rattle.csn_bits.specs.Fault.{IsLineFault}
 use Rattle.csn_bits.specs.declared.fault.BitsFault.{BitsFault}
 use Rattle.csn_bits.specs.declared.fault.BitsFault.TheVariants.{BadDigit, BadLength, BadFill, TooManyBits, NoMemory}
 use Rattle.csn_desc.specs.declared.reading.Reading.{Reading}
+use Rattle.csn_desc.specs.Nodes.{DescV}
 use Rattle.csn_desc.specs.TreeV.{TreeV}
+use Rattle.csn_desc.specs.Means.{NMeans}
+use Rattle.csn_desc.specs.Follows as desc
+use Rattle.csn_decode.specs.declared.verdict.DecodeFault.{DecodeFault}
+use Rattle.csn_decode.specs.declared.verdict.DecodeFault.TheVariants.{Refused, NoMemory as no_memory}
 use Rattle.csn_grammar.specs.RulesV.{RulesV}
 use Rattle.csn_grammar.specs.Strings.{Strings, IsPlace}
 use Rattle.csn_treetext.specs.declared.version.Version.TheVariants.{First}
 use Rattle.csn_treetext.specs.Place.{TreeText, OldText, IsFaultPlace}
-use Rattle.csn_run.specs.declared.simple.things.Thing.{Thing}
-use Rattle.csn_run.specs.Simple.{things_of}
+use Rattle.csn_run.specs.Compiled.{IsCompiled}
 
 -- the answer to a line that is no block line: the number of its fault, and the column of a bad digit
 abbrev pub fault_text : BitsFault → List ℕ
@@ -39,10 +43,15 @@ pub data ShowsLine (rules : RulesV) (name : List ℕ) (reading : Reading) (line 
   shows_fault : (fault : BitsFault) → IsLineFault line fault → answer ≡ fault_text fault
       → ShowsLine rules name reading line answer
 
--- the same for each description that has these things, in either reading
-abbrev pub ShowsThings : List Thing → List ℕ → List ℕ → Type 0
-ShowsThings things line answer =
-    (rules : RulesV) (name : List ℕ) (reading : Reading) → things_of rules name ≡ Some things
+-- why a block has no tree by a description: it has none, and this place; for want of memory nothing is known
+abbrev pub IsRefusalOf : DescV → List ℕ → DecodeFault → Type 0
+IsRefusalOf d block (Refused place) = desc.IsPlace d block place × ((t : TreeV) → ¬ NMeans d 0 0 [] block t)
+IsRefusalOf d block no_memory = Unit {0}
+
+-- the same by a description, for each rule that has it
+abbrev pub ShowsBy : DescV → List ℕ → List ℕ → Type 0
+ShowsBy d line answer =
+    (text : List ℕ) (rules : RulesV) (name : List ℕ) (reading : Reading) → IsCompiled text name reading rules d
     → ShowsLine rules name reading line answer
 
 -- `migrate`: the text of a tree as it was written before is answered by its text of today; and a line that

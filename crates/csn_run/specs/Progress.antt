@@ -102,5 +102,6 @@ pub record Stops (Answer : List ℕ → List ℕ → Type 0) (fault : Fault) (le
   pub given : List ℕ
   pub took : List ℕ
   pub source : Gave left left' given
+  pub few : length given ≤ MOST_INPUT + 1
   pub sink : Appended taken taken' took
   pub by : StopsBy Answer fault given (took ++ waits)

@@ -1,20 +1,22 @@
 -- What a run writes, and how it ends: for the words, the files that they name and the whole input. The
 -- order of the ends is this project's own choice: first the length of the description, then what it is,
 -- then the lines.
-use Rattle.std.specs.Prelude.{◌≡◌, ℕ, ◌<◌, ◌≤◌, Bool, if◌then◌else◌, List, [], ◌∷◌, ◌++◌, length, take, codes, Option, Some, None}
-use Rattle.std.specs.Fmt.{decimal}
+use Rattle.std.specs.Prelude.{◌≡◌, ℕ, ◌<◌, ◌≤◌, ◌⊎◌, Bool, if◌then◌else◌, List, [], ◌∷◌, ◌++◌, length, take, Option, Some, None}
 use Rattle.csn_desc.specs.declared.reading.Reading.{Reading}
+use Rattle.csn_desc.specs.Nodes.{DescV}
+use Rattle.csn_desc.specs.TreeV.{TreeV}
 use Rattle.csn_grammar.specs.RulesV.{RulesV}
-use Rattle.csn_grammar.specs.Place.{HasRules, IsSyntaxPlace}
+use Rattle.csn_grammar.specs.Place.{HasRules}
+use Rattle.csn_grammar.specs.Strings.{Strings}
 use Rattle.csn_run.specs.declared.ended.Ended.{Ended}
 use Rattle.csn_run.specs.declared.ended.Ended.TheVariants.{Done, SomeRefused, Usage, BadDescription, NotCertified, ReadFault, WriteFault, NoMemory, TooLong}
 use Rattle.csn_run.specs.declared.lines.TheConstants.{LINE_FEED, MOST_INPUT}
-use Rattle.csn_run.specs.declared.top.TheConstants.{MOST_DESCRIPTION}
-use Rattle.csn_run.specs.Command.{IsShow, IsMigrate, NamesFile}
+use Rattle.csn_run.specs.declared.compile.TheConstants.{MOST_DESCRIPTION}
+use Rattle.csn_run.specs.Command.{IsCheck, IsShow, IsMigrate, IsOverRule}
+use Rattle.csn_run.specs.Compiled.{IsCompiled, HasNoPlan, certified_line}
 use Rattle.csn_run.specs.Lines.{between_feeds}
 use Rattle.csn_run.specs.OutLine.{ShowsLine, MigratesLine}
 use Rattle.csn_run.specs.Progress.{Answers, EndsIn, StopsAfter}
-use Rattle.csn_run.specs.Simple.{IsSimple}
 
 -- the jobs that answer the lines of the input: `show` by a rule of some rules, and `migrate`
 pub data LineJob : Type 0 where
@@ -27,10 +29,10 @@ AnswersLine (showing rules name reading) = ShowsLine rules name reading
 AnswersLine migrating = MigratesLine
 
 -- the words ask for this job. For `show` the file that they name is there, is no longer than a description
--- may be, and its rules can be shown
+-- may be, and the rule that they name has a certified description
 pub data AsksFor (words : List (List ℕ)) (files : List ℕ → Option (List ℕ)) (job : LineJob) : Type 0 where
-  asks_show : (file name text : List ℕ) (reading : Reading) (rules : RulesV) → IsShow words file name reading
-      → files file ≡ Some text → length text ≤ MOST_DESCRIPTION → HasRules text rules → IsSimple rules name
+  asks_show : (file name text : List ℕ) (reading : Reading) (rules : RulesV) (d : DescV) → IsShow words file name reading
+      → files file ≡ Some text → length text ≤ MOST_DESCRIPTION → IsCompiled text name reading rules d
       → job ≡ showing rules name reading → AsksFor words files job
   asks_migrate : IsMigrate words → job ≡ migrating → AsksFor words files job
 
@@ -48,21 +50,26 @@ pub data AnswersInput (Answer : List ℕ → List ℕ → Type 0) (input written
       → EndsIn (take MOST_INPUT input) lines line → Answers Answer lines written refused → ended ≡ TooLong
       → AnswersInput Answer input written ended
 
--- what `show` writes for the text of its file, and how it ends, where it comes to no line
-pub data ShowsNone (name text written : List ℕ) (ended : Ended) : Type 0 where
-  long_text : MOST_DESCRIPTION < length text → written ≡ [] → ended ≡ TooLong → ShowsNone name text written ended
-  no_rules : (place : ℕ) → length text ≤ MOST_DESCRIPTION → IsSyntaxPlace text place
-      → written ≡ codes "syntax " ++ (decimal place ++ LINE_FEED ∷ []) → ended ≡ BadDescription
-      → ShowsNone name text written ended
-  not_built : (rules : RulesV) → length text ≤ MOST_DESCRIPTION → HasRules text rules
-      → (IsSimple rules name → ⊥) → written ≡ codes "later" ++ LINE_FEED ∷ [] → ended ≡ BadDescription
-      → ShowsNone name text written ended
+-- what a command over a rule writes for the text of its file, and how it ends, where the text gives it no certified
+-- description
+pub data HasNoJob (text name : List ℕ) (reading : Reading) (written : List ℕ) (ended : Ended) : Type 0 where
+  long_text : MOST_DESCRIPTION < length text → written ≡ [] → ended ≡ TooLong → HasNoJob text name reading written ended
+  no_plan : (line : List ℕ) → length text ≤ MOST_DESCRIPTION → HasNoPlan text name reading line ended
+      → written ≡ line ++ LINE_FEED ∷ [] → HasNoJob text name reading written ended
+
+-- what a run writes, and how it ends, where it comes to no line of the input and the files that its words name are
+-- there
+pub data EndsBefore (words : List (List ℕ)) (files : List ℕ → Option (List ℕ)) (written : List ℕ) (ended : Ended) : Type 0 where
+  no_job : (file name text : List ℕ) (reading : Reading) → IsOverRule words file name reading
+      → files file ≡ Some text → HasNoJob text name reading written ended → EndsBefore words files written ended
+  checked : (file name text : List ℕ) (reading : Reading) (rules : RulesV) (d : DescV) → IsCheck words file name reading
+      → files file ≡ Some text → length text ≤ MOST_DESCRIPTION → IsCompiled text name reading rules d
+      → written ≡ certified_line d ++ LINE_FEED ∷ [] → ended ≡ Done → EndsBefore words files written ended
 
 -- what a run writes, and how it ends, where each file that its words name is there: it comes to no line,
 -- or answers the lines of the input
 pub data Result (words : List (List ℕ)) (files : List ℕ → Option (List ℕ)) (input written : List ℕ) (ended : Ended) : Type 0 where
-  no_line : (file name text : List ℕ) (reading : Reading) → IsShow words file name reading
-      → files file ≡ Some text → ShowsNone name text written ended → Result words files input written ended
+  no_line : EndsBefore words files written ended → Result words files input written ended
   lines : (job : LineJob) → AsksFor words files job → AnswersInput (AnswersLine job) input written ended
       → Result words files input written ended
 
@@ -78,11 +85,13 @@ IsFinished WriteFault = ⊥
 IsFinished NoMemory = ⊥
 IsFinished TooLong = Unit {0}
 
--- what stands written however a run ended: nothing where the file that the words name is not there, and else
--- the front of what a whole run writes
+-- the ends of a run that was stopped before its job was done
+abbrev pub IsStopped : Ended → Type 0
+IsStopped ended = (ended ≡ ReadFault) ⊎ ((ended ≡ WriteFault) ⊎ (ended ≡ NoMemory))
+
+-- what stands written however a run ended: nothing, or the front of what a whole run writes
 pub data BeginsResult (words : List (List ℕ)) (files : List ℕ → Option (List ℕ)) (input written : List ℕ) : Type 0 where
-  begins_none : (file : List ℕ) → NamesFile words file → files file ≡ None → written ≡ []
-      → BeginsResult words files input written
+  begins_none : written ≡ [] → BeginsResult words files input written
   begins_whole : (rest : List ℕ) (ended : Ended) → Result words files input (written ++ rest) ended
       → BeginsResult words files input written
 
@@ -99,3 +108,10 @@ pub data StopsReading (words : List (List ℕ)) (files : List ℕ → Option (Li
   before_reading : left ≡ Some input → written ≡ [] → StopsReading words files input left written
   while_reading : (given rest : List ℕ) → input ≡ given ++ rest → left ≡ Some rest
       → AnswersGiven words files given written → StopsReading words files input left written
+
+-- by the rule that the words name, in the text of the file that is there, bits of any length have at most one tree
+abbrev pub RulesHaveOneTree : List (List ℕ) → (List ℕ → Option (List ℕ)) → Type 0
+RulesHaveOneTree words files =
+    (file name text : List ℕ) (reading : Reading) (rules : RulesV) → IsOverRule words file name reading
+    → files file ≡ Some text → HasRules text rules
+    → (b : List ℕ) (t u : TreeV) → Strings rules name reading b t → Strings rules name reading b u → t ≡ u

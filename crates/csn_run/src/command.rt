@@ -1,13 +1,13 @@
-ghost use Rattle.std.specs.Prelude.{◌≡◌, ◌↔◌, IsTrue, IsSome, IfSome, List, ℕ, map};
+ghost use Rattle.std.specs.Prelude.{◌≡◌, ◌↔◌, IsTrue, IsSome, IfSome, List, ℕ, codes, map};
 ghost use Rattle.std.specs.String.{string_bytes};
 ghost use Rattle.csn_desc.specs.declared.reading.Reading.{Reading};
-ghost use Rattle.csn_run.specs.Command.{IsArgument, IsCommand, IsMigrate, IsRowOf, IsShow, word_of};
+ghost use Rattle.csn_run.specs.Command.{AreRuleWords, IsArgument, IsCommand, IsMigrate, IsRowOf, NamesRule, word_of};
 
 use csn_desc::Reading;
 
-/// The words `show FILE NAME READING`, with what they name.
+/// The words that name a rule of a description and a reading, behind a command.
 #[derive(Clone, Copy)]
-pub struct ShowWords<'a> {
+pub struct RuleWords<'a> {
     /// The file of the description.
     pub file: &'a str,
     /// The name of the rule.
@@ -18,8 +18,10 @@ pub struct ShowWords<'a> {
 /// A row of the command table, with what its words name.
 #[derive(Clone, Copy)]
 pub enum Command<'a> {
-    /// Shows the blocks of the input by a rule of a description.
-    Show(ShowWords<'a>),
+    /// Tells whether the rule has a certified description. The input is not read.
+    Check(RuleWords<'a>),
+    /// Shows the blocks of the input by the rule.
+    Show(RuleWords<'a>),
     /// Writes the old texts of trees in the input as they are written today.
     Migrate,
 }
@@ -45,17 +47,17 @@ fn reading_of(word: &str) -> Option<Reading>
     }
 }
 
-/// What the words `show FILE NAME READING` name, where these are such words.
-fn show_words(words: &[String]) -> Option<ShowWords<'_>>
-    ensures names { IfSome result (λ show. IsShow (map string_bytes words.now) show.file.now show.name.now show.reading) }
-    ensures none { (file name : List ℕ) (reading : Reading) → IsShow (map string_bytes words.now) file name reading → IsSome result }
+/// The rule that the words `COMMAND FILE NAME READING` name, where these are such words.
+fn rule_words<'a>(command: &str, words: &'a [String]) -> Option<RuleWords<'a>>
+    ensures names { IfSome result (λ rule. AreRuleWords command.now (map string_bytes words.now) rule) }
+    ensures none { (file name : List ℕ) (reading : Reading) → NamesRule command.now (map string_bytes words.now) file name reading → IsSome result }
 {
-    let [command, file, name, reading] = words else {
+    let [first, file, name, reading] = words else {
         return None;
     };
     let reading = reading_of(reading.as_str())?;
-    if command.as_str() == "show" && is_argument(file.as_str()) && is_argument(name.as_str()) {
-        Some(ShowWords {
+    if first.as_str() == command && is_argument(file.as_str()) && is_argument(name.as_str()) {
+        Some(RuleWords {
             file: file.as_str(),
             name: name.as_str(),
             reading,
@@ -82,6 +84,9 @@ pub fn command_of(words: &[String]) -> Option<Command<'_>>
     if is_migrate(words) {
         return Some(Command::Migrate);
     }
-    let show = show_words(words)?;
-    Some(Command::Show(show))
+    if let Some(rule) = rule_words("check", words) {
+        return Some(Command::Check(rule));
+    }
+    let rule = rule_words("show", words)?;
+    Some(Command::Show(rule))
 }

@@ -1,6 +1,8 @@
 ghost use Rattle.std.specs.Prelude.{◌≡◌};
 ghost use Rattle.csn_run.specs.declared.fault.Fault.TheVariants.{Memory};
+ghost use Rattle.csn_run.specs.Job.{end_by};
 
+use crate::ended::Ended;
 use std::alloc::{AllocError, AllocFailed};
 
 /// Why a run stopped before its job was done.
@@ -14,6 +16,20 @@ pub enum Fault {
     Memory,
     /// A description or the input is longer than its limit.
     TooLong,
+}
+
+impl Fault {
+    /// The end of a run that the fault stopped.
+    pub fn end(self) -> Ended
+        ensures { result ≡ end_by self }
+    {
+        match self {
+            Fault::Read => Ended::ReadFault,
+            Fault::Write => Ended::WriteFault,
+            Fault::Memory => Ended::NoMemory,
+            Fault::TooLong => Ended::TooLong,
+        }
+    }
 }
 
 impl From<AllocError> for Fault {

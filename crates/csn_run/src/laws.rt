@@ -1,16 +1,39 @@
 //! Laws over the definitions, each the contract of a function that does nothing.
 
+ghost use Rattle.csn_run.specs.Known.{Known};
 ghost use Rattle.csn_run.specs.Laws.{LinesHaveAnswers, LinesHaveOneAnswer, RunsHaveResults, RunsHaveOneResult};
+
+/// What the laws of the crates below say, as the lemmas here take it.
+pub(crate) fn known()
+    ensures { Known }
+{
+    csn_bits::laws::spells_one_block();
+    csn_bits::laws::fault_or_block();
+    csn_desc::laws::blocks_have_one_place();
+    csn_desc::laws::following_is_decided();
+    csn_grammar::laws::texts_are_decided();
+    csn_grammar::laws::one_list_of_rules();
+    csn_grammar::laws::rules_of_texts_are_shaped();
+    csn_grammar::laws::blocks_have_one_place();
+    csn_grammar::laws::meanings_are_bits();
+    csn_resolve::laws::names_are_answered();
+    csn_resolve::laws::refusals_are_one();
+    csn_resolve::laws::descriptions_are_one();
+    csn_resolve::laws::resolved_are_descriptions();
+    csn_resolve::laws::resolving_keeps_meanings();
+    csn_certify::laws::first_conflict_is_one();
+    csn_certify::laws::blocks_have_one_tree();
+    csn_treetext::laws::texts_are_decided();
+    csn_treetext::laws::texts_are_of_one_tree();
+    csn_treetext::laws::versions_share_trees();
+}
 
 /// Each line has one answer, in each job over lines.
 pub fn lines_have_one_answer()
     ensures some_answer { LinesHaveAnswers }
     ensures one_answer { LinesHaveOneAnswer }
 {
-    csn_grammar::laws::rules_of_texts_are_shaped();
-    csn_treetext::laws::texts_are_decided();
-    csn_treetext::laws::texts_are_of_one_tree();
-    csn_treetext::laws::versions_share_trees();
+    known();
 }
 
 /// The words, the files and the whole input settle what a run writes and how it ends.
@@ -18,7 +41,6 @@ pub fn runs_have_one_result()
     ensures some_result { RunsHaveResults }
     ensures one_result { RunsHaveOneResult }
 {
-    csn_grammar::laws::one_list_of_rules();
-    csn_grammar::laws::texts_are_decided();
+    known();
     lines_have_one_answer();
 }

@@ -3,14 +3,15 @@
 
 mod answers;
 mod command;
+mod compile;
 mod ended;
 mod fault;
 pub mod laws;
 mod lines;
 mod migrate;
 mod output;
+mod planned;
 mod show;
-mod simple;
 mod top;
 
 pub use ended::Ended;

@@ -6,7 +6,7 @@ ghost use Rattle.csn_io.specs.Got.{IfBytes, OnEnd, OnFailed, UnlessBytes, Gave, 
 ghost use Rattle.csn_io.specs.Put.{Appended};
 ghost use Rattle.csn_run.specs.declared.lines.TheConstants.{LINE_FEED, MOST_INPUT};
 ghost use Rattle.csn_run.specs.Lines.{HasNoFeed, without_return, is_refusal};
-ghost use Rattle.csn_run.specs.Outside.{KeepsSteady};
+ghost use Rattle.csn_run.specs.Outside.{Keeps};
 ghost use Rattle.csn_run.specs.Progress.{AddsAnswers, Advances, Halts, PassesOn, HaltsAt, AnswersAll, Stops};
 
 use crate::fault::Fault;
@@ -115,8 +115,7 @@ fn take_piece<S: Source>(input: &mut S, buffer: &mut [u8], room: usize) -> Got
     ensures end { OnEnd result (NothingLeft (S.left input.old)) }
     ensures left_stays { UnlessBytes result (S.left input.new ≡ S.left input.old) }
     ensures failed { OnFailed result (Rose (S.faults input.old) (S.faults input.new)) }
-    ensures never_falls { S.faults input.old ≤ S.faults input.new }
-    ensures steady { KeepsSteady (S.steady input.old) (S.steady input.new) (S.faults input.old) (S.faults input.new) }
+    ensures outside { Keeps (S.steady input.old) (S.steady input.new) (S.faults input.old) (S.faults input.new) (result ≡ Got.Failed) }
 {
     let most = room.min(buffer.len());
     input.take(&mut buffer[..most])
@@ -207,8 +206,7 @@ impl Lines {
             (K.taken out.old) (K.taken out.new) self.new.pending.items) }
         ensures causes { IfErr result (λ fault. (fault ≡ Fault.Write) ⊎ (fault ≡ Fault.Memory)) }
         ensures write { result ≡ Err Fault.Write → Rose (K.faults out.old) (K.faults out.new) }
-        ensures never_falls { K.faults out.old ≤ K.faults out.new }
-        ensures steady { KeepsSteady (K.steady out.old) (K.steady out.new) (K.faults out.old) (K.faults out.new) }
+        ensures out { Keeps (K.steady out.old) (K.steady out.new) (K.faults out.old) (K.faults out.new) (result ≡ Err Fault.Write) }
     {
         match self.take(command, alloc, piece) {
             Ok(()) => pass_on(&mut self.pending, out),
@@ -234,10 +232,8 @@ impl Lines {
             (K.taken out.old) (K.taken out.new) self.new.pending.items) }
         ensures read { result ≡ Err Fault.Read → Rose (S.faults input.old) (S.faults input.new) }
         ensures write { result ≡ Err Fault.Write → Rose (K.faults out.old) (K.faults out.new) }
-        ensures input_never_falls { S.faults input.old ≤ S.faults input.new }
-        ensures out_never_falls { K.faults out.old ≤ K.faults out.new }
-        ensures steady_input { KeepsSteady (S.steady input.old) (S.steady input.new) (S.faults input.old) (S.faults input.new) }
-        ensures steady_out { KeepsSteady (K.steady out.old) (K.steady out.new) (K.faults out.old) (K.faults out.new) }
+        ensures input { Keeps (S.steady input.old) (S.steady input.new) (S.faults input.old) (S.faults input.new) (result ≡ Err Fault.Read) }
+        ensures out { Keeps (K.steady out.old) (K.steady out.new) (K.faults out.old) (K.faults out.new) (result ≡ Err Fault.Write) }
     {
         let mut buffer = [0u8; PIECE];
         let mut room = MOST_INPUT + 1;

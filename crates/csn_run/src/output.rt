@@ -3,7 +3,7 @@
 ghost use Rattle.std.specs.Prelude.{◌≡◌, ◌≢◌, ◌≤◌, ◌⊎◌, ◌++◌, List, ℕ, [], OnOk, IfErr};
 ghost use Rattle.csn_io.specs.Faults.{Rose};
 ghost use Rattle.csn_io.specs.Put.{Appended, FlushedAll};
-ghost use Rattle.csn_run.specs.Outside.{KeepsSteady};
+ghost use Rattle.csn_run.specs.Outside.{Keeps};
 
 use crate::fault::Fault;
 use csn_io::{Put, Sink};
@@ -13,8 +13,7 @@ fn put_all<K: Sink>(text: &[u8], out: &mut K) -> Result<(), Fault>
     ensures took { (front rest : List ℕ) × (text.now ≡ front ++ rest) × Appended (K.taken out.old) (K.taken out.new) front × OnOk result (rest ≡ []) }
     ensures causes { IfErr result (λ fault. (fault ≡ Fault.Write) ⊎ (fault ≡ Fault.Memory)) }
     ensures write { result ≡ Err Fault.Write → Rose (K.faults out.old) (K.faults out.new) }
-    ensures never_falls { K.faults out.old ≤ K.faults out.new }
-    ensures steady { KeepsSteady (K.steady out.old) (K.steady out.new) (K.faults out.old) (K.faults out.new) }
+    ensures out { Keeps (K.steady out.old) (K.steady out.new) (K.faults out.old) (K.faults out.new) (result ≡ Err Fault.Write) }
 {
     let mut passed = 0;
     while passed < text.len() {
@@ -33,8 +32,7 @@ pub fn pass_on<K: Sink>(pending: &mut Vec<u8>, out: &mut K) -> Result<(), Fault>
     ensures emptied { pending.new.items ≡ [] }
     ensures causes { IfErr result (λ fault. (fault ≡ Fault.Write) ⊎ (fault ≡ Fault.Memory)) }
     ensures write { result ≡ Err Fault.Write → Rose (K.faults out.old) (K.faults out.new) }
-    ensures never_falls { K.faults out.old ≤ K.faults out.new }
-    ensures steady { KeepsSteady (K.steady out.old) (K.steady out.new) (K.faults out.old) (K.faults out.new) }
+    ensures out { Keeps (K.steady out.old) (K.steady out.new) (K.faults out.old) (K.faults out.new) (result ≡ Err Fault.Write) }
 {
     let passed = put_all(pending, out);
     pending.clear();
@@ -47,8 +45,7 @@ pub fn flush<K: Sink>(out: &mut K) -> Result<(), Fault>
     ensures taken_stays { K.taken out.new ≡ K.taken out.old }
     ensures causes { IfErr result (λ fault. (fault ≡ Fault.Write) ⊎ (fault ≡ Fault.Memory)) }
     ensures write { result ≡ Err Fault.Write → Rose (K.faults out.old) (K.faults out.new) }
-    ensures never_falls { K.faults out.old ≤ K.faults out.new }
-    ensures steady { KeepsSteady (K.steady out.old) (K.steady out.new) (K.faults out.old) (K.faults out.new) }
+    ensures out { Keeps (K.steady out.old) (K.steady out.new) (K.faults out.old) (K.faults out.new) (result ≡ Err Fault.Write) }
 {
     match out.flush() {
         Put::Took(_) => Ok(()),

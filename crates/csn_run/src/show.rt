@@ -1,14 +1,20 @@
 //! One line of `show`: a block line in, its tree or its refusal out.
 
-ghost use Rattle.std.specs.Prelude.{◌≡◌, ◌≤◌, ◌++◌, List, ℕ, length, true, false, codes, IfOk, IsErr, OnOk, OnErr};
-ghost use Rattle.csn_run.specs.OutLine.{ShowsThings, fault_text, refusal_text};
-ghost use Rattle.csn_run.specs.declared.simple.things.TheConstants.{MOST_THINGS};
+ghost use Rattle.std.specs.Prelude.{◌≡◌, ◌<◌, ◌++◌, [], List, ℕ, IfOk, IfErr, IsErr, OnOk, OnErr};
+ghost use Rattle.csn_desc.specs.Means.{NMeans};
+ghost use Rattle.csn_treetext.specs.Fits.{Fits};
+ghost use Rattle.csn_run.specs.OutLine.{IsRefusalOf, ShowsBy, fault_text, refusal_text};
 
 use crate::answers::{answer_tree, push_number};
+use crate::laws::known;
 use crate::lines::LineCommand;
-use crate::simple::{Decided, Thing, decide};
 use csn_bits::{Bits, BitsFault};
+use csn_certify::{Plan, Steps};
+use csn_decode::{DecodeFault, Decoder, Fed};
+use csn_desc::Tree;
 use std::alloc::{AllocError, Global};
+use std::marker::Brand;
+use std::sync::ledger::{Blank, Ledger};
 
 /// Writes the answer to a block that is refused at a place.
 fn answer_refusal(place: u32, bits: &Bits, out: &mut Vec<u8>) -> Result<(), AllocError>
@@ -21,6 +27,17 @@ fn answer_refusal(place: u32, bits: &Bits, out: &mut Vec<u8>) -> Result<(), Allo
         out.extend_from_slice(b" bit")
     } else {
         out.extend_from_slice(b" ended")
+    }
+}
+
+/// Writes the answer to a block that has no tree.
+fn answer_no_tree(fault: DecodeFault, bits: &Bits, out: &mut Vec<u8>) -> Result<(), AllocError>
+    ensures ok { OnOk result ((place : ℕ) × (fault ≡ DecodeFault.Refused place) × (out.new.items ≡ out.old.items ++ refusal_text place bits.now)) }
+    ensures err { OnErr result ((tail : List ℕ) × (out.new.items ≡ out.old.items ++ tail)) }
+{
+    match fault {
+        DecodeFault::Refused { place } => answer_refusal(place, bits, out),
+        DecodeFault::NoMemory => Err(AllocError),
     }
 }
 
@@ -43,18 +60,44 @@ fn answer_fault(fault: BitsFault, out: &mut Vec<u8>) -> Result<(), AllocError>
     }
 }
 
-/// The command `show` over a rule of these things.
+/// The tree of a block, or how many of its bits can be followed; with a counter of steps.
+fn decode<L: Ledger>(
+    alloc: Global,
+    plan: &Plan,
+    bits: &Bits,
+    blank: Blank,
+) -> Result<Tree, DecodeFault>
+    requires name { blank.name ≡ L.name }
+    requires parts { blank.parts ≡ L.parts }
+    requires some { 0 < blank.parts }
+    ensures tree { IfOk result (NMeans plan.now 0 0 [] bits.now) }
+    ensures fits { IfOk result Fits }
+    ensures refused { IfErr result (IsRefusalOf plan.now bits.now) }
+{
+    csn_desc::laws::strings_are_followed();
+    // its length tells that it is that of a description
+    let _count = plan.len();
+    let mut steps = Steps::<L>::new(blank);
+    let mut decoder = Decoder::new(alloc, plan);
+    match decoder.feed(bits.octets(), bits.len(), &mut steps) {
+        Fed::Going => decoder.finish(&mut steps),
+        Fed::Refused { place } => Err(DecodeFault::Refused { place }),
+        Fed::NoMemory => Err(DecodeFault::NoMemory),
+    }
+}
+
+/// The command `show` by a plan.
 #[derive(Drop)]
 pub struct Show<'a> {
-    pub things: &'a [Thing],
-    ghost few: { length things.now ≤ MOST_THINGS },
+    pub plan: &'a Plan,
 }
 
 impl LineCommand for Show<'_> {
-    // What answers the line for each description whose things these are.
-    ghost answers = { λ s line answer. ShowsThings s.things.now line answer };
+    // What answers the line for each rule that has the description.
+    ghost answers = { λ s line answer. ShowsBy s.plan.now line answer };
 
     fn answer(&self, alloc: Global, line: &[u8], out: &mut Vec<u8>) -> Result<bool, AllocError> {
+        known();
         let bits = match Bits::from_hex_line(alloc, line) {
             Ok(bits) => bits,
             Err(fault) => {
@@ -62,13 +105,13 @@ impl LineCommand for Show<'_> {
                 return Ok(true);
             }
         };
-        match decide(alloc, self.things, &bits)? {
-            Decided::Tree(tree) => {
+        match decode::<Brand>(alloc, self.plan, &bits, Blank::new(1)) {
+            Ok(tree) => {
                 answer_tree(alloc, &tree, out)?;
                 Ok(false)
             }
-            Decided::Refused { place } => {
-                answer_refusal(place, &bits, out)?;
+            Err(fault) => {
+                answer_no_tree(fault, &bits, out)?;
                 Ok(true)
             }
         }

@@ -1,93 +1,27 @@
-ghost use Rattle.std.specs.Prelude.{◌≡◌, ◌≢◌, ◌↔◌, ◌⊎◌, ◌+◌, ◌<◌, ◌≤◌, ◌++◌, [], List, ℕ, Option, Some, false, length, map, vec_len, Err, Ok, IfOk, IfErr, OnOk, ◌∷◌, codes};
-ghost use Rattle.std.specs.Fmt.{decimal};
+ghost use Rattle.std.specs.Prelude.{◌≡◌, ◌≢◌, ◌↔◌, ◌⊎◌, ◌+◌, ◌<◌, ◌≤◌, ◌++◌, [], List, ℕ, Option, Some, false, length, map, vec_len, Err, Ok, IfOk, IfErr, OnOk, ◌∷◌};
 ghost use Rattle.std.specs.String.{string_bytes};
 ghost use Rattle.csn_io.specs.Faults.{Rose};
 ghost use Rattle.csn_io.specs.Got.{NothingLeft};
 ghost use Rattle.csn_io.specs.Put.{Appended, FlushedAll};
-ghost use Rattle.csn_io.specs.ShelfFault.{BeginsFile, LacksFile};
-ghost use Rattle.csn_run.specs.declared.lines.TheConstants.{LINE_FEED};
-ghost use Rattle.csn_run.specs.Command.{IsCommand, IsRowOf, IsShow, NamesFile};
+ghost use Rattle.csn_io.specs.ShelfFault.{LacksFile};
+ghost use Rattle.csn_run.specs.declared.lines.TheConstants.{LINE_FEED, MOST_INPUT};
+ghost use Rattle.csn_run.specs.Command.{IsCheck, IsCommand, IsRowOf, NamesFile, ReadsLines};
 ghost use Rattle.csn_run.specs.Progress.{AnswersAll, Stops};
-ghost use Rattle.csn_run.specs.Outside.{CannotRead, KeepsSteady};
-ghost use Rattle.csn_desc.specs.declared.reading.Reading.{Reading};
-ghost use Rattle.csn_run.specs.Job.{IsDescription, IsLongFile, JobEnds, IsEndOf, outcome_of};
-ghost use Rattle.csn_run.specs.Result.{BeginsResult, IsFinished, Result, StopsReading};
-ghost use Rattle.csn_run.specs.declared.top.TheConstants.{MOST_DESCRIPTION};
+ghost use Rattle.csn_run.specs.Outside.{CannotRead, Keeps};
+ghost use Rattle.csn_run.specs.Job.{Asked, JobEnds, end_with};
+ghost use Rattle.csn_run.specs.Result.{BeginsResult, EndsBefore, IsFinished, IsStopped, LineJob, Result, RulesHaveOneTree, StopsReading, end_of};
 
-use crate::answers::push_number;
-use crate::command::{Command, command_of};
+use crate::command::{Command, RuleWords, command_of};
 use crate::ended::Ended;
 use crate::fault::Fault;
-use crate::laws::lines_have_one_answer;
+use crate::laws::{known, lines_have_one_answer};
 use crate::lines::{LineCommand, Lines};
 use crate::migrate::Migrate;
 use crate::output::{flush, pass_on};
+use crate::planned::{plan_of, refuse, tell_certified};
 use crate::show::Show;
-use crate::simple::things_of;
-use csn_grammar::{GrammarFault, read_rules};
-use csn_io::{Shelf, ShelfFault, Sink, Source};
-use csn_lexer::MOST_TEXT;
-use std::alloc::{AllocError, Global};
-
-/// The most bytes that a description may have.
-pub const MOST_DESCRIPTION: u32 = MOST_TEXT;
-
-/// How a job ended that met no fault.
-#[derive(Clone, Copy)]
-pub enum Outcome {
-    Done,
-    SomeRefused,
-    BadDescription,
-}
-
-/// Fetches a description.
-fn description<B: Shelf>(alloc: Global, shelf: &mut B, file: &str) -> Result<Vec<u8>, Fault>
-    ensures whole { IfOk result (λ text. IsDescription (B.files shelf.old) file.now text.items) }
-    ensures read { result ≡ Err Fault.Read
-        → CannotRead (B.files shelf.old) (B.faults shelf.old) (B.faults shelf.new) (B.last_fault shelf.new) file.now }
-    ensures too_long { result ≡ Err Fault.TooLong
-        → (front : List ℕ) × BeginsFile (B.files shelf.old) file.now (MOST_DESCRIPTION + 1) front × (MOST_DESCRIPTION < length front) }
-    ensures not_write { result ≢ Err Fault.Write }
-    ensures missing { LacksFile (B.files shelf.old) file.now → (result ≡ Err Fault.Read) ⊎ (result ≡ Err Fault.Memory) }
-    ensures never_falls { B.faults shelf.old ≤ B.faults shelf.new }
-    ensures steady { KeepsSteady (B.steady shelf.old) (B.steady shelf.new) (B.faults shelf.old) (B.faults shelf.new) }
-{
-    match shelf.fetch(alloc, file, MOST_DESCRIPTION + 1) {
-        Ok(text) if text.len() <= MOST_DESCRIPTION as usize => Ok(text),
-        Ok(_) => Err(Fault::TooLong),
-        Err(ShelfFault::Missing) => Err(Fault::Read),
-        Err(ShelfFault::Failed) => Err(Fault::Read),
-        Err(ShelfFault::NoMemory) => Err(Fault::Memory),
-    }
-}
-
-/// Writes the line that answers a text which has no rules.
-fn answer_syntax(place: u32, out: &mut Vec<u8>) -> Result<(), AllocError>
-    ensures ok { OnOk result (out.new.items ≡ out.old.items ++ (codes "syntax " ++ (decimal place ++ LINE_FEED ∷ []))) }
-{
-    out.extend_from_slice(b"syntax ")?;
-    push_number(out, place)?;
-    out.extend_from_slice(b"\n")
-}
-
-/// Refuses a text that has no rules.
-fn refuse_text(fault: GrammarFault, pending: &mut Vec<u8>) -> Result<Outcome, Fault>
-    requires { pending.old.items ≡ [] }
-    ensures ok { IfOk result (λ outcome. (outcome ≡ Outcome.BadDescription) × (place : ℕ) × (fault ≡ GrammarFault.Syntax place)
-        × (pending.new.items ≡ codes "syntax " ++ (decimal place ++ LINE_FEED ∷ []))) }
-    ensures err { IfErr result (λ cause. (cause ≡ Fault.Memory) × (pending.new.items ≡ [])) }
-{
-    match fault {
-        GrammarFault::Syntax { place } => match answer_syntax(place, pending) {
-            Ok(()) => Ok(Outcome::BadDescription),
-            Err(AllocError) => {
-                pending.clear();
-                Err(Fault::Memory)
-            }
-        },
-        GrammarFault::NoMemory => Err(Fault::Memory),
-    }
-}
+use csn_io::{Shelf, Sink, Source};
+use std::alloc::Global;
 
 /// Answers each line of the input.
 fn answer_lines<C: LineCommand, S: Source, K: Sink>(
@@ -96,102 +30,83 @@ fn answer_lines<C: LineCommand, S: Source, K: Sink>(
     input: &mut S,
     out: &mut K,
     lines: &mut Lines,
-) -> Result<Outcome, Fault>
+) -> Result<Ended, Fault>
     requires line { lines.old.line.items ≡ [] }
     requires pending { lines.old.pending.items ≡ [] }
     requires refused { lines.old.refused ≡ false }
-    ensures ok { IfOk result (λ outcome. AnswersAll (C.answers command.now) (S.left input.old) (S.left input.new)
-        (K.taken out.old) (K.taken out.new) lines.new.pending.items lines.new.refused × (outcome ≡ outcome_of lines.new.refused)) }
+    ensures ok { IfOk result (λ ended. AnswersAll (C.answers command.now) (S.left input.old) (S.left input.new)
+        (K.taken out.old) (K.taken out.new) lines.new.pending.items lines.new.refused × (ended ≡ end_of lines.new.refused)) }
     ensures err { IfErr result (λ fault. Stops (C.answers command.now) fault (S.left input.old) (S.left input.new)
         (K.taken out.old) (K.taken out.new) lines.new.pending.items) }
     ensures read { result ≡ Err Fault.Read → Rose (S.faults input.old) (S.faults input.new) }
     ensures write { result ≡ Err Fault.Write → Rose (K.faults out.old) (K.faults out.new) }
-    ensures input_never_falls { S.faults input.old ≤ S.faults input.new }
-    ensures out_never_falls { K.faults out.old ≤ K.faults out.new }
-    ensures steady_input { KeepsSteady (S.steady input.old) (S.steady input.new) (S.faults input.old) (S.faults input.new) }
-    ensures steady_out { KeepsSteady (K.steady out.old) (K.steady out.new) (K.faults out.old) (K.faults out.new) }
+    ensures input { Keeps (S.steady input.old) (S.steady input.new) (S.faults input.old) (S.faults input.new) (result ≡ Err Fault.Read) }
+    ensures out { Keeps (K.steady out.old) (K.steady out.new) (K.faults out.old) (K.faults out.new) (result ≡ Err Fault.Write) }
 {
     lines.answer_all(command, alloc, input, out)?;
     Ok(if lines.refused {
-        Outcome::SomeRefused
+        Ended::SomeRefused
     } else {
-        Outcome::Done
+        Ended::Done
     })
 }
 
-/// Shows each block of the input by the named rule of a text.
-fn show_text<S: Source, K: Sink>(
+/// Tells of the rule of a file whether it has a certified description.
+fn check<B: Shelf>(
     alloc: Global,
-    text: &[u8],
-    name: &[u8],
-    input: &mut S,
-    out: &mut K,
-    lines: &mut Lines,
-) -> Result<Outcome, Fault>
-    requires fits { length text.now ≤ MOST_DESCRIPTION }
-    requires line { lines.old.line.items ≡ [] }
-    requires pending { lines.old.pending.items ≡ [] }
-    requires refused { lines.old.refused ≡ false }
-    ensures ends { (words : List (List ℕ)) (files : Option (List ℕ → Option (List ℕ))) (file : List ℕ) (reading : Reading)
-        → IsShow words file name.now reading → IsDescription files file text.now
-        → JobEnds words files (S.left input.old) (S.left input.new)
-        (K.taken out.old) (K.taken out.new) lines.new.pending.items result }
-    ensures read { result ≡ Err Fault.Read → Rose (S.faults input.old) (S.faults input.new) }
-    ensures write { result ≡ Err Fault.Write → Rose (K.faults out.old) (K.faults out.new) }
-    ensures before_lines { result ≡ Ok Outcome.BadDescription → input.new ≡ input.old }
-    ensures input_never_falls { S.faults input.old ≤ S.faults input.new }
-    ensures out_never_falls { K.faults out.old ≤ K.faults out.new }
-    ensures steady_input { KeepsSteady (S.steady input.old) (S.steady input.new) (S.faults input.old) (S.faults input.new) }
-    ensures steady_out { KeepsSteady (K.steady out.old) (K.steady out.new) (K.faults out.old) (K.faults out.new) }
+    rule: RuleWords<'_>,
+    shelf: &mut B,
+    pending: &mut Vec<u8>,
+) -> Result<Ended, Fault>
+    requires pending { pending.old.items ≡ [] }
+    ensures ends { (words : List (List ℕ)) → IsRowOf words (Command.Check rule.entry) → (left taken : Option (List ℕ))
+        → JobEnds words (B.files shelf.old) left left taken taken pending.new.items result }
+    ensures read { result ≡ Err Fault.Read
+        → CannotRead (B.files shelf.old) (B.faults shelf.old) (B.faults shelf.new) (B.last_fault shelf.new) rule.entry.file.now }
+    ensures not_write { result ≢ Err Fault.Write }
+    ensures missing { LacksFile (B.files shelf.old) rule.entry.file.now → ((result ≡ Err Fault.Read) ⊎ (result ≡ Err Fault.Memory))
+        × (pending.new.items ≡ []) }
+    ensures shelf { Keeps (B.steady shelf.old) (B.steady shelf.new) (B.faults shelf.old) (B.faults shelf.new) (result ≡ Err Fault.Read) }
 {
-    let rules = match read_rules(alloc, text) {
-        Ok(rules) => rules,
-        Err(fault) => return refuse_text(fault, &mut lines.pending),
+    let plan = match plan_of(alloc, shelf, rule) {
+        Ok(plan) => plan,
+        Err(why) => return refuse(why, pending),
     };
-    match things_of(alloc, &rules, name)? {
-        Some(things) => {
-            let command = Show { things: &things };
-            answer_lines(alloc, &command, input, out, lines)
-        }
-        None => {
-            lines.pending.extend_from_slice(b"later\n")?;
-            Ok(Outcome::BadDescription)
-        }
-    }
+    tell_certified(&plan, pending)
 }
 
-/// Shows each block of the input by the named rule of a file.
+/// Shows each block of the input by the rule of a file.
 fn show<B: Shelf, S: Source, K: Sink>(
     alloc: Global,
-    file: &str,
-    name: &str,
+    rule: RuleWords<'_>,
     shelf: &mut B,
     input: &mut S,
     out: &mut K,
     lines: &mut Lines,
-) -> Result<Outcome, Fault>
+) -> Result<Ended, Fault>
     requires line { lines.old.line.items ≡ [] }
     requires pending { lines.old.pending.items ≡ [] }
     requires refused { lines.old.refused ≡ false }
-    ensures ends { (words : List (List ℕ)) (reading : Reading) → IsShow words file.now name.now reading
+    ensures ends { (words : List (List ℕ)) → IsRowOf words (Command.Show rule.entry)
         → JobEnds words (B.files shelf.old) (S.left input.old) (S.left input.new)
         (K.taken out.old) (K.taken out.new) lines.new.pending.items result }
     ensures read { result ≡ Err Fault.Read → Rose (S.faults input.old) (S.faults input.new)
-        ⊎ CannotRead (B.files shelf.old) (B.faults shelf.old) (B.faults shelf.new) (B.last_fault shelf.new) file.now }
+        ⊎ CannotRead (B.files shelf.old) (B.faults shelf.old) (B.faults shelf.new) (B.last_fault shelf.new) rule.entry.file.now }
     ensures write { result ≡ Err Fault.Write → Rose (K.faults out.old) (K.faults out.new) }
-    ensures before_lines { result ≡ Ok Outcome.BadDescription → input.new ≡ input.old }
-    ensures long_file { IsLongFile (B.files shelf.old) file.now → input.new ≡ input.old }
-    ensures missing { LacksFile (B.files shelf.old) file.now → ((result ≡ Err Fault.Read) ⊎ (result ≡ Err Fault.Memory))
+    ensures touches { (words : List (List ℕ)) → IsRowOf words (Command.Show rule.entry) → (input.new ≡ input.old)
+        ⊎ ((job : LineJob) × Asked words (B.files shelf.old) job) }
+    ensures before_lines { (result ≡ Ok Ended.BadDescription) ⊎ (result ≡ Ok Ended.NotCertified) → input.new ≡ input.old }
+    ensures missing { LacksFile (B.files shelf.old) rule.entry.file.now → ((result ≡ Err Fault.Read) ⊎ (result ≡ Err Fault.Memory))
         × (input.new ≡ input.old) × (out.new ≡ out.old) × (lines.new.pending.items ≡ []) }
-    ensures shelf_never_falls { B.faults shelf.old ≤ B.faults shelf.new }
-    ensures input_never_falls { S.faults input.old ≤ S.faults input.new }
-    ensures out_never_falls { K.faults out.old ≤ K.faults out.new }
-    ensures steady_shelf { KeepsSteady (B.steady shelf.old) (B.steady shelf.new) (B.faults shelf.old) (B.faults shelf.new) }
-    ensures steady_input { KeepsSteady (S.steady input.old) (S.steady input.new) (S.faults input.old) (S.faults input.new) }
-    ensures steady_out { KeepsSteady (K.steady out.old) (K.steady out.new) (K.faults out.old) (K.faults out.new) }
+    ensures shelf { Keeps (B.steady shelf.old) (B.steady shelf.new) (B.faults shelf.old) (B.faults shelf.new) (result ≡ Err Fault.Read) }
+    ensures input { Keeps (S.steady input.old) (S.steady input.new) (S.faults input.old) (S.faults input.new) (result ≡ Err Fault.Read) }
+    ensures out { Keeps (K.steady out.old) (K.steady out.new) (K.faults out.old) (K.faults out.new) (result ≡ Err Fault.Write) }
 {
-    let text = description(alloc, shelf, file)?;
-    show_text(alloc, &text, name.as_bytes(), input, out, lines)
+    let plan = match plan_of(alloc, shelf, rule) {
+        Ok(plan) => plan,
+        Err(why) => return refuse(why, &mut lines.pending),
+    };
+    answer_lines(alloc, &Show { plan: &plan }, input, out, lines)
 }
 
 /// Does the job of a command, up to the answers that wait.
@@ -202,7 +117,7 @@ fn perform<B: Shelf, S: Source, K: Sink>(
     input: &mut S,
     out: &mut K,
     lines: &mut Lines,
-) -> Result<Outcome, Fault>
+) -> Result<Ended, Fault>
     requires line { lines.old.line.items ≡ [] }
     requires pending { lines.old.pending.items ≡ [] }
     requires refused { lines.old.refused ≡ false }
@@ -213,77 +128,47 @@ fn perform<B: Shelf, S: Source, K: Sink>(
         → Rose (S.faults input.old) (S.faults input.new) ⊎ ((file : List ℕ) × NamesFile words file
         × CannotRead (B.files shelf.old) (B.faults shelf.old) (B.faults shelf.new) (B.last_fault shelf.new) file) }
     ensures write { result ≡ Err Fault.Write → Rose (K.faults out.old) (K.faults out.new) }
-    ensures before_lines { result ≡ Ok Outcome.BadDescription → input.new ≡ input.old }
-    ensures long_file { (words : List (List ℕ)) (file : List ℕ) → IsRowOf words command.entry → NamesFile words file
-        → IsLongFile (B.files shelf.old) file → input.new ≡ input.old }
+    ensures touches { (words : List (List ℕ)) → IsRowOf words command.entry → (input.new ≡ input.old)
+        ⊎ (ReadsLines words × (job : LineJob) × Asked words (B.files shelf.old) job) }
+    ensures before_lines { (result ≡ Ok Ended.BadDescription) ⊎ (result ≡ Ok Ended.NotCertified) → input.new ≡ input.old }
+    ensures no_file { (words : List (List ℕ)) → IsRowOf words command.entry
+        → ((file : List ℕ) → NamesFile words file → ⊥) → shelf.new ≡ shelf.old }
     ensures missing { (words : List (List ℕ)) (file : List ℕ) → IsRowOf words command.entry → NamesFile words file
         → LacksFile (B.files shelf.old) file → ((result ≡ Err Fault.Read) ⊎ (result ≡ Err Fault.Memory))
         × (input.new ≡ input.old) × (out.new ≡ out.old) × (lines.new.pending.items ≡ []) }
-    ensures shelf_never_falls { B.faults shelf.old ≤ B.faults shelf.new }
-    ensures input_never_falls { S.faults input.old ≤ S.faults input.new }
-    ensures out_never_falls { K.faults out.old ≤ K.faults out.new }
-    ensures steady_shelf { KeepsSteady (B.steady shelf.old) (B.steady shelf.new) (B.faults shelf.old) (B.faults shelf.new) }
-    ensures steady_input { KeepsSteady (S.steady input.old) (S.steady input.new) (S.faults input.old) (S.faults input.new) }
-    ensures steady_out { KeepsSteady (K.steady out.old) (K.steady out.new) (K.faults out.old) (K.faults out.new) }
+    ensures shelf { Keeps (B.steady shelf.old) (B.steady shelf.new) (B.faults shelf.old) (B.faults shelf.new) (result ≡ Err Fault.Read) }
+    ensures input { Keeps (S.steady input.old) (S.steady input.new) (S.faults input.old) (S.faults input.new) (result ≡ Err Fault.Read) }
+    ensures out { Keeps (K.steady out.old) (K.steady out.new) (K.faults out.old) (K.faults out.new) (result ≡ Err Fault.Write) }
 {
     match command {
-        Command::Show(named) => show(alloc, named.file, named.name, shelf, input, out, lines),
+        Command::Check(rule) => check(alloc, rule, shelf, &mut lines.pending),
+        Command::Show(rule) => show(alloc, rule, shelf, input, out, lines),
         Command::Migrate => answer_lines(alloc, &Migrate, input, out, lines),
     }
 }
 
-fn ended_by(fault: Fault) -> Ended
-    ensures end { IsEndOf (Err fault) result }
-    ensures not_usage { result ≢ Ended.Usage }
-    ensures read { result ≡ Ended.ReadFault → fault ≡ Fault.Read }
-    ensures write { (result ≡ Ended.WriteFault) ↔ (fault ≡ Fault.Write) }
-    ensures memory { (result ≡ Ended.NoMemory) ↔ (fault ≡ Fault.Memory) }
-{
-    match fault {
-        Fault::Read => Ended::ReadFault,
-        Fault::Write => Ended::WriteFault,
-        Fault::Memory => Ended::NoMemory,
-        Fault::TooLong => Ended::TooLong,
-    }
-}
-
-/// The end of a job whose answers were handed on and flushed.
-fn ended_with(outcome: Result<Outcome, Fault>) -> Ended
-    ensures end { IsEndOf outcome result }
-    ensures not_usage { result ≢ Ended.Usage }
-    ensures read { result ≡ Ended.ReadFault → outcome ≡ Err Fault.Read }
-    ensures write { result ≡ Ended.WriteFault → outcome ≡ Err Fault.Write }
-{
-    match outcome {
-        Ok(Outcome::Done) => Ended::Done,
-        Ok(Outcome::SomeRefused) => Ended::SomeRefused,
-        Ok(Outcome::BadDescription) => Ended::BadDescription,
-        Err(fault) => ended_by(fault),
-    }
-}
-
 /// Hands on what is pending and flushes the sink, but after a fault of the sink.
-fn finish<K: Sink>(outcome: Result<Outcome, Fault>, pending: &mut Vec<u8>, out: &mut K) -> Ended
-    ensures not_usage { result ≢ Ended.Usage }
-    ensures end { result ≢ Ended.WriteFault → result ≢ Ended.NoMemory → IsEndOf outcome result }
+fn finish<K: Sink>(end: Result<Ended, Fault>, pending: &mut Vec<u8>, out: &mut K) -> Ended
+    ensures end { result ≢ Ended.WriteFault → result ≢ Ended.NoMemory → result ≡ end_with end }
     ensures took { (front rest : List ℕ) × (pending.old.items ≡ front ++ rest) × Appended (K.taken out.old) (K.taken out.new) front
         × (result ≢ Ended.WriteFault → result ≢ Ended.NoMemory → rest ≡ []) }
-    ensures read { result ≡ Ended.ReadFault → outcome ≡ Err Fault.Read }
-    ensures write { result ≡ Ended.WriteFault → (outcome ≡ Err Fault.Write) ⊎ Rose (K.faults out.old) (K.faults out.new) }
+    ensures write { result ≡ Ended.WriteFault → (end_with end ≡ Ended.WriteFault) ⊎ Rose (K.faults out.old) (K.faults out.new) }
     ensures flushed { result ≢ Ended.WriteFault → result ≢ Ended.NoMemory → FlushedAll (K.taken out.new) (K.flushed out.new) }
-    ensures never_falls { K.faults out.old ≤ K.faults out.new }
-    ensures steady { KeepsSteady (K.steady out.old) (K.steady out.new) (K.faults out.old) (K.faults out.new) }
+    ensures out { Keeps (K.steady out.old) (K.steady out.new) (K.faults out.old) (K.faults out.new) (result ≡ Ended.WriteFault) }
 {
-    if let Err(Fault::Write) = outcome {
+    if let Err(Fault::Write) = end {
         return Ended::WriteFault;
     }
     if let Err(fault) = pass_on(pending, out) {
-        return ended_by(fault);
+        return fault.end();
     }
     if let Err(fault) = flush(out) {
-        return ended_by(fault);
+        return fault.end();
     }
-    ended_with(outcome)
+    match end {
+        Ok(ended) => ended,
+        Err(fault) => fault.end(),
+    }
 }
 
 /// Does the job that the words ask for.
@@ -319,11 +204,23 @@ pub fn run<B: Shelf, S: Source, K: Sink>(
         → (written : List ℕ) × (K.taken out.new ≡ Some (before ++ written))
         × StopsReading (map string_bytes words.now) files whole (S.left input.new) written }
 
-    // What is left of the input.
-    ensures input_read { (result ≡ Ended.Done) ⊎ (result ≡ Ended.SomeRefused) → NothingLeft (S.left input.new) }
-    ensures before_lines { result ≡ Ended.BadDescription → input.new ≡ input.old }
-    ensures long_file { (file : List ℕ) → NamesFile (map string_bytes words.now) file → IsLongFile (B.files shelf.old) file
-        → input.new ≡ input.old }
+    // What is left of the input. Where a run comes to no line, the source and its count are left alone, also after a
+    // fault.
+    ensures input_read { (result ≡ Ended.Done) ⊎ (result ≡ Ended.SomeRefused) → ReadsLines (map string_bytes words.now)
+        → NothingLeft (S.left input.new) }
+    ensures before_lines { (result ≡ Ended.BadDescription) ⊎ (result ≡ Ended.NotCertified) → input.new ≡ input.old }
+    ensures no_lines { (ReadsLines (map string_bytes words.now) → ⊥) → input.new ≡ input.old }
+    ensures no_job { (files : List ℕ → Option (List ℕ)) (written : List ℕ) (ended : Ended) → B.files shelf.old ≡ Some files
+        → EndsBefore (map string_bytes words.now) files written ended → input.new ≡ input.old }
+    ensures bounded { (whole rest : List ℕ) → S.left input.old ≡ Some whole → S.left input.new ≡ Some rest
+        → length whole ≤ length rest + MOST_INPUT + 1 }
+
+    // A command that names no file leaves the shelf alone.
+    ensures no_file { ((file : List ℕ) → NamesFile (map string_bytes words.now) file → ⊥) → shelf.new ≡ shelf.old }
+
+    // After these ends the rule that the words name gives no bits, of any length, two trees.
+    ensures one_tree { (result ≡ Ended.Done) ⊎ (result ≡ Ended.SomeRefused) → (files : List ℕ → Option (List ℕ))
+        → B.files shelf.old ≡ Some files → RulesHaveOneTree (map string_bytes words.now) files }
 
     // A file that is told as not held ends the run at once.
     ensures missing { (file : List ℕ) → NamesFile (map string_bytes words.now) file → LacksFile (B.files shelf.old) file
@@ -347,13 +244,14 @@ pub fn run<B: Shelf, S: Source, K: Sink>(
     ensures flushed { result ≢ Ended.Usage → result ≢ Ended.WriteFault → result ≢ Ended.NoMemory
         → FlushedAll (K.taken out.new) (K.flushed out.new) }
 
-    // An outside of which no call fails shows no fault.
-    ensures steady_shelf { KeepsSteady (B.steady shelf.old) (B.steady shelf.new) (B.faults shelf.old) (B.faults shelf.new) }
-    ensures steady_input { KeepsSteady (S.steady input.old) (S.steady input.new) (S.faults input.old) (S.faults input.new) }
-    ensures steady_out { KeepsSteady (K.steady out.old) (K.steady out.new) (K.faults out.old) (K.faults out.new) }
+    // No fault is swallowed: a count rises only where the end tells of it; and an outside of which no call fails shows
+    // none.
+    ensures shelf { Keeps (B.steady shelf.old) (B.steady shelf.new) (B.faults shelf.old) (B.faults shelf.new) (IsStopped result) }
+    ensures input { Keeps (S.steady input.old) (S.steady input.new) (S.faults input.old) (S.faults input.new) (IsStopped result) }
+    ensures out { Keeps (K.steady out.old) (K.steady out.new) (K.faults out.old) (K.faults out.new) (IsStopped result) }
 {
+    known();
     lines_have_one_answer();
-    csn_grammar::laws::texts_are_decided();
     let Some(command) = command_of(words) else {
         return Ended::Usage;
     };

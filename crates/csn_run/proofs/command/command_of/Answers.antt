@@ -1,6 +1,9 @@
-use Rattle.std.proofs.Common.{refl}
-use Rattle.csn_run.specs.Command.{show_row}
+use Rattle.std.proofs.Common.{refl, inl, inr}
+use Rattle.csn_run.specs.Command.{rule_row}
 use Rattle.csn_run.proofs.command.command_of.Goals as goal
 
+pub returns-in-Some-clause-row : goal.returns-in-Some-clause-row
+returns-in-Some-clause-row c = (λ _. rule_row _ _ _ (inl c.in-Some.ensures.names), λ _. refl)
+
 pub returns-clause-row : goal.returns-clause-row
-returns-clause-row c = (λ _. show_row _ _ _ c.in_ok-show.ensures.names, λ _. refl)
+returns-clause-row c = (λ _. rule_row _ _ _ (inr c.in_ok-rule.ensures.names), λ _. refl)

@@ -1,7 +1,7 @@
 use Rattle.std.proofs.Common.{◌≤◌, ◌+◌, length, take, drop, length-drop, arith, sym, subst, ◌∙◌}
 use Rattle.std.proofs.lemmas.List.{take-append-drop}
 use Rattle.csn_io.specs.Put.{Appended}
-use Rattle.csn_run.proofs.OutsideLemmas.{slice_from, take_more_of}
+use Rattle.csn_run.proofs.OutsideLemmas.{slice_from, take_more_of, keeps_then}
 use Rattle.csn_io.proofs.Told.{appended_more}
 use Rattle.csn_run.proofs.output.put_all.Goals as goal
 
@@ -13,8 +13,7 @@ loop-passed-preserved g c =
     record {
       within = within;
       took = subst (Appended (g.K.Sink.taken c.args.out.now) (g.K.Sink.taken c.put.new.self)) (sym more) (appended_more _ _ _ _ _ c.loop-passed.invariant.took c.in-Took.ensures.appended);
-      never_falls = omega arith;
-      steady = λ was. let now = c.loop-passed.invariant.steady was in (c.in-Took.ensures.steady_stays now.0, c.in-Took.ensures.steady_count now.0 ∙ now.1);
+      out = keeps_then c.loop-passed.invariant.out (omega (arith, c.in-Took.ensures.no_fault), λ was. (c.in-Took.ensures.steady_stays was, c.in-Took.ensures.steady_count was), λ none. c.in-Took.ensures.no_fault);
     }
 
 pub returns-in-Failed-clause-took : goal.returns-in-Failed-clause-took

@@ -1,6 +1,6 @@
 use Rattle.std.proofs.Common.{◌≤◌, ◌-◌, length, take}
 use Rattle.csn_io.specs.Put.{Appended}
-use Rattle.csn_run.specs.Outside.{KeepsSteady}
+use Rattle.csn_run.specs.Outside.{Keeps}
 use Rattle.csn_run.proofs.output.put_all.Given as goal
 
 abbrev pub invariant-loop-passed : goal.invariant-loop-passed
@@ -8,8 +8,7 @@ invariant-loop-passed g l =
     record {
       within : l.passed ≤ length l.text;
       took : Appended (g.K.Sink.taken l.fn.out) (g.K.Sink.taken l.out) (take l.passed l.text);
-      never_falls : g.K.Sink.faults l.fn.out ≤ g.K.Sink.faults l.out;
-      steady : KeepsSteady (g.K.Sink.steady l.fn.out) (g.K.Sink.steady l.out) (g.K.Sink.faults l.fn.out) (g.K.Sink.faults l.out);
+      out : Keeps (g.K.Sink.steady l.fn.out) (g.K.Sink.steady l.out) (g.K.Sink.faults l.fn.out) (g.K.Sink.faults l.out) ⊥;
     }
 
 abbrev pub decreases-loop-passed : goal.decreases-loop-passed

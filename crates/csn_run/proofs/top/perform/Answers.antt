@@ -1,10 +1,20 @@
+use Rattle.std.proofs.Common.{inl, inr}
 use Rattle.csn_run.specs.OutLine.{MigratesLine}
 use Rattle.csn_run.specs.Result.{migrating}
 use Rattle.csn_run.proofs.JobLemmas.{asked_migrate, lines_end}
 use Rattle.csn_run.proofs.top.perform.Goals as goal
 
+pub returns-in-Check-clause-ends : goal.returns-in-Check-clause-ends
+returns-in-Check-clause-ends g c = λ words row. c.check.ensures.ends words (rw c.in-Check.is at row) _ _
+
+pub returns-in-Check-clause-no_file : goal.returns-in-Check-clause-no_file
+returns-in-Check-clause-no_file g c = λ words row none. absurd (none c.in-Check.rule.file.now (c.in-Check.rule.name.now, c.in-Check.rule.reading, inl (rw c.in-Check.is at row)))
+
 pub returns-in-Show-clause-ends : goal.returns-in-Show-clause-ends
-returns-in-Show-clause-ends g c = λ words row. c.show.ensures.ends words c.in-Show.named.reading (rw c.in-Show.is at row)
+returns-in-Show-clause-ends g c = λ words row. c.show.ensures.ends words (rw c.in-Show.is at row)
+
+pub returns-in-Show-clause-no_file : goal.returns-in-Show-clause-no_file
+returns-in-Show-clause-no_file g c = λ words row none. absurd (none c.in-Show.rule.file.now (c.in-Show.rule.name.now, c.in-Show.rule.reading, inr (rw c.in-Show.is at row)))
 
 pub returns-in-Migrate-clause-ends : goal.returns-in-Migrate-clause-ends
 returns-in-Migrate-clause-ends g c = λ words row.

@@ -1,27 +1,65 @@
-use Rattle.std.proofs.Common.{true, false, inl, inr, refl, ap}
+use Rattle.std.proofs.Common.{false, true, inl, inr, refl, ap, sym, ◌∙◌}
 use Rattle.csn_io.proofs.Told.{rose_early, rose_late}
-use Rattle.csn_run.specs.Command.{show_row}
+use Rattle.csn_run.specs.declared.ended.Ended.TheVariants.{ReadFault, WriteFault, NoMemory}
+use Rattle.csn_run.specs.Command.{rule_row}
 use Rattle.csn_run.proofs.CommandLemmas.{no_row}
-use Rattle.csn_run.proofs.ResultLemmas.{complete_of, result_of, begun_of, read_of, nothing_left_of, finished_no_write, finished_no_memory, read_no_write, read_no_memory, handed_all, nothing_taken, unread_ends, was_done, was_refused, ends_apart}
+use Rattle.csn_run.proofs.OutsideLemmas.{keeps_along, keeps_both}
+use Rattle.csn_run.proofs.ResultLemmas.{complete_of, result_of, begun_of, read_of, nothing_left_of, bounded_of, untouched, finished_no_write, finished_no_memory, handed_all, nothing_taken, unread_ends, unwritten_ends, not_usage, ok_of, no_fault_bad, no_fault_uncertified, read_stopped, write_stopped, ends_apart}
+use Rattle.csn_run.proofs.OneTree.{one_tree_of}
 use Rattle.csn_run.proofs.top.run.Goals as goal
 
 pub returns-in_default-clause-usage : goal.returns-in_default-clause-usage
 returns-in_default-clause-usage g c = (λ e row. no_row _ c.command_of.result c.command_of.ensures.row c.in_default.is row, λ none. refl)
 
 pub returns-in_default-clause-missing : goal.returns-in_default-clause-missing
-returns-in_default-clause-missing g c = λ file names lacks. absurd (no_row _ c.command_of.result c.command_of.ensures.row c.in_default.is (show_row file names.0 names.1 names.2))
+returns-in_default-clause-missing g c = λ file names lacks. absurd (no_row _ c.command_of.result c.command_of.ensures.row c.in_default.is (rule_row file names.0 names.1 names.2))
 
 pub returns-in_default-clause-complete : goal.returns-in_default-clause-complete
 returns-in_default-clause-complete g c = λ row no_source no_sink no_file. absurd (no_row _ c.command_of.result c.command_of.ensures.row c.in_default.is row)
 
 pub returns-clause-usage : goal.returns-clause-usage
-returns-clause-usage g c = (λ e row. c.finish.ensures.not_usage e, λ none. absurd (none (c.in-Some.ensures.row.0 refl)))
+returns-clause-usage g c = (
+  λ e row. not_usage _ (c.perform-outcome.ensures.ends _ c.in-Some.ensures.names) (sym (c.finish.ensures.end (ends_apart _ _ _ e (λ h. cc)) (ends_apart _ _ _ e (λ h. cc))) ∙ e),
+  λ none. absurd (none (c.in-Some.ensures.row.0 refl)),
+)
 
 pub returns-clause-row : goal.returns-clause-row
 returns-clause-row g c = λ used. c.in-Some.ensures.row.0 refl
 
-pub returns-clause-long_file : goal.returns-clause-long_file
-returns-clause-long_file g c = λ file names long. c.perform-outcome.ensures.long_file _ file c.in-Some.ensures.names names long
+pub returns-clause-usage_shelf : goal.returns-clause-usage_shelf
+returns-clause-usage_shelf g c = λ e. absurd (not_usage _ (c.perform-outcome.ensures.ends _ c.in-Some.ensures.names) (sym (c.finish.ensures.end (ends_apart _ _ _ e (λ h. cc)) (ends_apart _ _ _ e (λ h. cc))) ∙ e))
+
+pub returns-clause-usage_input : goal.returns-clause-usage_input
+returns-clause-usage_input g c = λ e. absurd (not_usage _ (c.perform-outcome.ensures.ends _ c.in-Some.ensures.names) (sym (c.finish.ensures.end (ends_apart _ _ _ e (λ h. cc)) (ends_apart _ _ _ e (λ h. cc))) ∙ e))
+
+pub returns-clause-usage_out : goal.returns-clause-usage_out
+returns-clause-usage_out g c = λ e. absurd (not_usage _ (c.perform-outcome.ensures.ends _ c.in-Some.ensures.names) (sym (c.finish.ensures.end (ends_apart _ _ _ e (λ h. cc)) (ends_apart _ _ _ e (λ h. cc))) ∙ e))
+
+pub returns-clause-no_lines : goal.returns-clause-no_lines
+returns-clause-no_lines g c = λ never. elim (c.perform-outcome.ensures.touches _ c.in-Some.ensures.names) [ inl same ↦ same | inr reads ↦ absurd (never reads.0) ]
+
+pub returns-clause-no_job : goal.returns-clause-no_job
+returns-clause-no_job g c = λ files written ended f before.
+    untouched c.known.ensures.of_texts _ files written ended _ _ before (rw f at (c.perform-outcome.ensures.touches _ c.in-Some.ensures.names))
+
+pub returns-clause-before_lines : goal.returns-clause-before_lines
+returns-clause-before_lines g c = λ ended.
+    elim ended [
+      | inl e ↦ c.perform-outcome.ensures.before_lines (inl (ok_of _ _ (sym (c.finish.ensures.end (ends_apart _ _ _ e (λ h. cc)) (ends_apart _ _ _ e (λ h. cc))) ∙ e) no_fault_bad))
+      | inr e ↦ c.perform-outcome.ensures.before_lines (inr (ok_of _ _ (sym (c.finish.ensures.end (ends_apart _ _ _ e (λ h. cc)) (ends_apart _ _ _ e (λ h. cc))) ∙ e) no_fault_uncertified))
+    ]
+
+pub returns-clause-bounded : goal.returns-clause-bounded
+returns-clause-bounded g c = λ whole rest s left.
+    bounded_of _ _ whole rest _ _ _ _ _ (rw s at (c.perform-outcome.ensures.ends _ c.in-Some.ensures.names)) left
+
+pub returns-clause-one_tree : goal.returns-clause-one_tree
+returns-clause-one_tree g c = λ answered files f.
+    let ends = rw f at (c.perform-outcome.ensures.ends _ c.in-Some.ensures.names) in
+    elim answered [
+      | inl e ↦ one_tree_of c.known.ensures _ files _ ends (inl (sym (c.finish.ensures.end (ends_apart _ _ _ e (λ h. cc)) (ends_apart _ _ _ e (λ h. cc))) ∙ e))
+      | inr e ↦ one_tree_of c.known.ensures _ files _ ends (inr (sym (c.finish.ensures.end (ends_apart _ _ _ e (λ h. cc)) (ends_apart _ _ _ e (λ h. cc))) ∙ e))
+    ]
 
 pub returns-clause-missing : goal.returns-clause-missing
 returns-clause-missing g c = λ file names lacks.
@@ -29,17 +67,39 @@ returns-clause-missing g c = λ file names lacks.
     let took = c.finish.ensures.took in
     (m.1, nothing_taken _ _ _ _ _ _ (ap g.K.Sink.taken m.2) m.3 took.2 took.3, unread_ends _ _ m.0 c.finish.ensures.end)
 
+pub returns-clause-read_fault : goal.returns-clause-read_fault
+returns-clause-read_fault g c = λ e.
+    let is = sym (c.finish.ensures.end (ends_apart _ _ _ e (λ h. cc)) (ends_apart _ _ _ e (λ h. cc))) ∙ e in
+    c.perform-outcome.ensures.read (read_stopped _ (c.perform-outcome.ensures.ends _ c.in-Some.ensures.names) is) _ c.in-Some.ensures.names
+
+pub returns-clause-write_fault : goal.returns-clause-write_fault
+returns-clause-write_fault g c = λ e.
+    elim (c.finish.ensures.write e) [
+      | inl wrote ↦ rose_early _ _ _ (c.perform-outcome.ensures.write (write_stopped _ (c.perform-outcome.ensures.ends _ c.in-Some.ensures.names) wrote)) c.finish.ensures.out.0
+      | inr rose ↦ rose_late _ _ _ c.perform-outcome.ensures.out.0 rose
+    ]
+
 pub returns-clause-complete : goal.returns-clause-complete
 returns-clause-complete g c = λ row no_source no_sink no_file.
-    complete_of c.finish.result c.finish.ensures.not_usage
-    (λ e. elim (c.perform-outcome.ensures.read (c.finish.ensures.read e) _ c.in-Some.ensures.names) [ inl rose ↦ no_source rose | inr f ↦ no_file f.0 f.1 f.2 ])
+    let ends = c.perform-outcome.ensures.ends _ c.in-Some.ensures.names in
+    complete_of c.finish.result
+    (λ e. not_usage _ ends (sym (c.finish.ensures.end (ends_apart _ _ _ e (λ h. cc)) (ends_apart _ _ _ e (λ h. cc))) ∙ e))
+    (λ e.
+    let is = sym (c.finish.ensures.end (ends_apart _ _ _ e (λ h. cc)) (ends_apart _ _ _ e (λ h. cc))) ∙ e in
+    elim (c.perform-outcome.ensures.read (read_stopped _ ends is) _ c.in-Some.ensures.names) [ inl rose ↦ no_source rose | inr f ↦ no_file f.0 f.1 f.2 ])
     (λ e. elim (c.finish.ensures.write e) [
-      | inl wrote ↦ no_sink (rose_early _ _ _ (c.perform-outcome.ensures.write wrote) c.finish.ensures.never_falls)
-      | inr rose ↦ no_sink (rose_late _ _ _ c.perform-outcome.ensures.out_never_falls rose)
+      | inl wrote ↦ no_sink (rose_early _ _ _ (c.perform-outcome.ensures.write (write_stopped _ ends wrote)) c.finish.ensures.out.0)
+      | inr rose ↦ no_sink (rose_late _ _ _ c.perform-outcome.ensures.out.0 rose)
     ])
 
-pub returns-clause-read_fault : goal.returns-clause-read_fault
-returns-clause-read_fault g c = λ e. c.perform-outcome.ensures.read (c.finish.ensures.read e) _ c.in-Some.ensures.names
+pub returns-clause-shelf : goal.returns-clause-shelf
+returns-clause-shelf g c = keeps_along (λ e. unread_ends _ _ (inl e) c.finish.ensures.end) c.perform-outcome.ensures.shelf
+
+pub returns-clause-input : goal.returns-clause-input
+returns-clause-input g c = keeps_along (λ e. unread_ends _ _ (inl e) c.finish.ensures.end) c.perform-outcome.ensures.input
+
+pub returns-clause-out : goal.returns-clause-out
+returns-clause-out g c = keeps_both (λ e. unwritten_ends _ _ e c.finish.ensures.end) (λ e. inr (inl e)) c.perform-outcome.ensures.out c.finish.ensures.out
 
 pub returns-clause-result : goal.returns-clause-result
 returns-clause-result g c = λ finished files whole before f s k.
@@ -54,19 +114,21 @@ pub returns-clause-begins : goal.returns-clause-begins
 returns-clause-begins g c = λ used files whole before f s k.
     let ends = rw (f, s, k) at (c.perform-outcome.ensures.ends _ c.in-Some.ensures.names) in
     let took = c.finish.ensures.took in
-    begun_of c.lines_have_one_answer.ensures.some_answer c.texts_are_decided.ensures.decided _ files whole before _ _ _ _ _ _ _ (c.in-Some.ensures.row.0 refl) ends took.2 took.3
+    begun_of _ files whole before c.lines_have_one_answer.ensures.some_answer _ _ _ _ _ _ _ ends took.2 took.3
 
 pub returns-clause-reading : goal.returns-clause-reading
-returns-clause-reading g c = λ ended files whole before f s k.
+returns-clause-reading g c = λ e files whole before f s k.
     let ends = rw (f, s, k) at (c.perform-outcome.ensures.ends _ c.in-Some.ensures.names) in
     let took = c.finish.ensures.took in
-    let all = handed_all _ _ _ _ _ took.2 took.3 (took.4 (read_no_write _ ended) (read_no_memory _ ended)) in
-    read_of _ files whole before _ _ _ _ _ ends all (c.finish.ensures.read ended)
+    let no_write = ends_apart c.finish.result ReadFault WriteFault e (λ h. cc) in
+    let no_memory = ends_apart c.finish.result ReadFault NoMemory e (λ h. cc) in
+    let all = handed_all _ _ _ _ _ took.2 took.3 (took.4 no_write no_memory) in
+    read_of _ files whole before _ _ _ _ _ ends all (sym e ∙ c.finish.ensures.end no_write no_memory)
 
 pub returns-clause-input_read : goal.returns-clause-input_read
-returns-clause-input_read g c = λ read.
+returns-clause-input_read g c = λ read reads.
     let ends = c.perform-outcome.ensures.ends _ c.in-Some.ensures.names in
     elim read [
-      | inl e ↦ nothing_left_of _ _ _ _ _ _ _ _ false ends (was_done _ _ (c.finish.ensures.end (ends_apart _ _ _ e (λ h. cc)) (ends_apart _ _ _ e (λ h. cc))) e)
-      | inr e ↦ nothing_left_of _ _ _ _ _ _ _ _ true ends (was_refused _ _ (c.finish.ensures.end (ends_apart _ _ _ e (λ h. cc)) (ends_apart _ _ _ e (λ h. cc))) e)
+      | inl e ↦ nothing_left_of _ _ _ _ _ _ _ _ ends (inl (sym (c.finish.ensures.end (ends_apart _ _ _ e (λ h. cc)) (ends_apart _ _ _ e (λ h. cc))) ∙ e)) reads
+      | inr e ↦ nothing_left_of _ _ _ _ _ _ _ _ ends (inr (sym (c.finish.ensures.end (ends_apart _ _ _ e (λ h. cc)) (ends_apart _ _ _ e (λ h. cc))) ∙ e)) reads
     ]

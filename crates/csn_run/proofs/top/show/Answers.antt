@@ -1,15 +1,16 @@
-use Rattle.std.proofs.Common.{ap, sym, ◌∙◌, Err}
-use Rattle.std.proofs.lemmas.Result.{err_from_is_err_and}
-use Rattle.csn_run.proofs.JobLemmas.{fetch_ends, not_long}
+use Rattle.std.proofs.Common.{inl, inr}
+use Rattle.csn_run.specs.OutLine.{ShowsBy}
+use Rattle.csn_run.specs.Result.{showing}
+use Rattle.csn_run.proofs.JobLemmas.{asked_show, lines_end, refused_ends}
 use Rattle.csn_run.proofs.top.show.Goals as goal
 
-pub returns-in_err-text-clause-ends : goal.returns-in_err-text-clause-ends
-returns-in_err-text-clause-ends g c = λ words reading row.
-    let p = err_from_is_err_and c.from_residual.result c.from_residual.ensures.1 in
-    rw p.1 (fetch_ends words _ _ _ reading _ _ _ p.0 row c.requires.pending (λ e. c.in_err-text.ensures.not_write (ap Err (sym p.2 ∙ e))) (λ e. c.in_err-text.ensures.too_long (ap Err (sym p.2 ∙ e))))
+pub returns-in-Err-clause-ends : goal.returns-in-Err-clause-ends
+returns-in-Err-clause-ends g c = λ words row. refused_ends words c.args.rule (inr row) _ _ _ _ c.in-Err.why _ c.in-Err.ensures.none c.refuse.ensures
 
 pub returns-clause-ends : goal.returns-clause-ends
-returns-clause-ends g c = λ words reading row. c.show_text.ensures.ends words (g.B.Shelf.files c.args.shelf.now) c.args.file.now reading (rw c.as_bytes.ensures.value row) (rw c.deref.ensures.value c.in_ok-text.ensures.whole)
+returns-clause-ends g c = λ words row.
+    let is = c.in-Ok.ensures.plan in
+    lines_end (ShowsBy c.in-Ok.plan) words _ (showing is.rules c.args.rule.name.now c.args.rule.reading) _ _ _ _ _ _ _ (asked_show words _ c.args.rule c.in-Ok.plan row is) (λ line answer h. h is.text is.rules _ _ is.compiled) c.answer_lines.ensures.ok c.answer_lines.ensures.err
 
-pub returns-clause-long_file : goal.returns-clause-long_file
-returns-clause-long_file g c = λ long. absurd (not_long _ _ _ c.in_ok-text.ensures.whole long)
+pub returns-clause-touches : goal.returns-clause-touches
+returns-clause-touches g c = λ words row. inr (showing c.in-Ok.ensures.plan.rules c.args.rule.name.now c.args.rule.reading, asked_show words _ c.args.rule c.in-Ok.plan row c.in-Ok.ensures.plan)

@@ -3,7 +3,7 @@ use Rattle.std.proofs.lemmas.List.{append-nil, length-take, length-take-le}
 use Rattle.std.proofs.lemmas.Result.{err_from_is_err_and}
 use Rattle.csn_run.specs.declared.fault.Fault.TheVariants.{Write, Memory}
 use Rattle.csn_run.specs.Progress.{Stops}
-use Rattle.csn_run.proofs.OutsideLemmas.{last_byte}
+use Rattle.csn_run.proofs.OutsideLemmas.{last_byte, keeps_then, keeps_quiet}
 use Rattle.csn_run.proofs.StandingLemmas.{stops_halted, stops_read, stops_last, answers_last, standing_more, stops_too_long}
 use Rattle.csn_run.proofs.lines.Lines.answer_all.Goals as goal
 
@@ -11,7 +11,7 @@ pub returns-in_err-pass_piece-in-Bytes-clause-err : goal.returns-in_err-pass_pie
 returns-in_err-pass_piece-in-Bytes-clause-err g c =
     let p = err_from_is_err_and c.from_residual.result c.from_residual.ensures.1 in
     let past = last_byte c.in-Bytes.n c.take_piece.new.buffer c.in-Bytes.ensures.at_least_one c.in-Bytes.ensures.within in
-    rw p.1 (stops_halted _ _ _ _ _ _ _ _ _ _ _ _ _ _ _ _ c.pieces.invariant.standing c.in-Bytes.ensures.gave past.1 (omega (arith, length-take (c.in-Bytes.n - 1) c.take_piece.new.buffer, c.in-Bytes.ensures.within, c.in-Bytes.ensures.at_least_one, c.if-n-room.true)) c.in_err-pass_piece-in-Bytes.ensures.err (subst (λ f. (f ≡ Write) ⊎ (f ≡ Memory)) (sym p.2) c.in_err-pass_piece-in-Bytes.ensures.causes))
+    rw p.1 (stops_halted _ _ _ _ _ _ _ _ _ _ _ _ _ _ _ _ c.pieces.invariant.standing c.in-Bytes.ensures.gave past.1 (omega (arith, length-take (c.in-Bytes.n - 1) c.take_piece.new.buffer, c.in-Bytes.ensures.within, c.in-Bytes.ensures.at_least_one, c.if-n-room.true)) (omega (arith, length-take c.in-Bytes.n c.take_piece.new.buffer, c.in-Bytes.ensures.room)) c.in_err-pass_piece-in-Bytes.ensures.err (subst (λ f. (f ≡ Write) ⊎ (f ≡ Memory)) (sym p.2) c.in_err-pass_piece-in-Bytes.ensures.causes))
 
 pub returns-in-Bytes-clause-err : goal.returns-in-Bytes-clause-err
 returns-in-Bytes-clause-err g c =
@@ -21,15 +21,13 @@ returns-in-Bytes-clause-err g c =
 pub returns-in_err-pass_piece-in-Bytes-2-clause-err : goal.returns-in_err-pass_piece-in-Bytes-2-clause-err
 returns-in_err-pass_piece-in-Bytes-2-clause-err g c =
     let p = err_from_is_err_and c.from_residual-in_err-pass_piece-in-Bytes-2.result c.from_residual-in_err-pass_piece-in-Bytes-2.ensures.1 in
-    rw p.1 (stops_halted _ _ _ _ _ _ _ _ _ _ _ _ _ [] _ _ c.pieces.invariant.standing c.in-Bytes.ensures.gave (sym (append-nil _)) (omega (arith, length-take c.in-Bytes.n c.take_piece.new.buffer, c.in-Bytes.ensures.room, c.if-n-room.false)) c.in_err-pass_piece-in-Bytes-2.ensures.err (subst (λ f. (f ≡ Write) ⊎ (f ≡ Memory)) (sym p.2) c.in_err-pass_piece-in-Bytes-2.ensures.causes))
+    rw p.1 (stops_halted _ _ _ _ _ _ _ _ _ _ _ _ _ [] _ _ c.pieces.invariant.standing c.in-Bytes.ensures.gave (sym (append-nil _)) (omega (arith, length-take c.in-Bytes.n c.take_piece.new.buffer, c.in-Bytes.ensures.room, c.if-n-room.false)) (omega (arith, length-take c.in-Bytes.n c.take_piece.new.buffer, c.in-Bytes.ensures.room)) c.in_err-pass_piece-in-Bytes-2.ensures.err (subst (λ f. (f ≡ Write) ⊎ (f ≡ Memory)) (sym p.2) c.in_err-pass_piece-in-Bytes-2.ensures.causes))
 
 pub pieces-preserved : goal.pieces-preserved
 pieces-preserved g c = record {
   standing = standing_more _ _ _ _ _ _ _ _ _ _ _ _ _ _ _ _ c.pieces.invariant.standing c.in-Bytes.ensures.gave (length-take-le _ _ c.in-Bytes.ensures.within) (omega (arith, c.in-Bytes.ensures.room, c.if-n-room.false)) c.in_ok-pass_piece-in-Bytes-2.ensures.ok c.in_ok-pass_piece-in-Bytes-2.ensures.pending c.in_ok-pass_piece-in-Bytes-2.ensures.fits;
-  input_never_falls = omega arith;
-  out_never_falls = omega arith;
-  steady_input = λ was. let now = c.pieces.invariant.steady_input was in let next = c.take_piece.ensures.steady now.0 in (next.0, next.1 ∙ now.1);
-  steady_out = λ was. let now = c.pieces.invariant.steady_out was in let next = c.in_ok-pass_piece-in-Bytes-2.ensures.steady now.0 in (next.0, next.1 ∙ now.1);
+  input = keeps_then c.pieces.invariant.input (keeps_quiet (λ e. cc) c.take_piece.ensures.outside);
+  out = keeps_then c.pieces.invariant.out (keeps_quiet (λ e. cc) c.in_ok-pass_piece-in-Bytes-2.ensures.out);
 }
 
 pub returns-in_err-end_line-in-End-clause-err : goal.returns-in_err-end_line-in-End-clause-err

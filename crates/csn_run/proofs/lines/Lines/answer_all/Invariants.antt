@@ -1,15 +1,12 @@
-use Rattle.std.proofs.Common.{◌≤◌}
 use Rattle.csn_run.proofs.ProgressLemmas.{Standing}
-use Rattle.csn_run.specs.Outside.{KeepsSteady}
+use Rattle.csn_run.specs.Outside.{Keeps}
 use Rattle.csn_run.proofs.lines.Lines.answer_all.Given as goal
 
 abbrev pub invariant-pieces : goal.invariant-pieces
 invariant-pieces g l = record {
   standing : Standing (g.C.LineCommand.answers l.command) (g.S.Source.left l.fn.input) (g.S.Source.left l.input) (g.K.Sink.taken l.fn.out) (g.K.Sink.taken l.out) l.self.line.items l.self.pending.items l.self.refused l.room;
-  input_never_falls : g.S.Source.faults l.fn.input ≤ g.S.Source.faults l.input;
-  out_never_falls : g.K.Sink.faults l.fn.out ≤ g.K.Sink.faults l.out;
-  steady_input : KeepsSteady (g.S.Source.steady l.fn.input) (g.S.Source.steady l.input) (g.S.Source.faults l.fn.input) (g.S.Source.faults l.input);
-  steady_out : KeepsSteady (g.K.Sink.steady l.fn.out) (g.K.Sink.steady l.out) (g.K.Sink.faults l.fn.out) (g.K.Sink.faults l.out);
+  input : Keeps (g.S.Source.steady l.fn.input) (g.S.Source.steady l.input) (g.S.Source.faults l.fn.input) (g.S.Source.faults l.input) ⊥;
+  out : Keeps (g.K.Sink.steady l.fn.out) (g.K.Sink.steady l.out) (g.K.Sink.faults l.fn.out) (g.K.Sink.faults l.out) ⊥;
 }
 
 abbrev pub decreases-pieces : goal.decreases-pieces

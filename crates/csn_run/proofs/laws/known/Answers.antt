@@ -1,0 +1,37 @@
+use Rattle.csn_run.proofs.laws.known.Goals as goal
+
+pub returns : goal.returns
+returns c =
+    record {
+      of_lines = record { spells_one = c.spells_one_block.ensures; fault_or_block = c.fault_or_block.ensures };
+      of_texts = record {
+        decided = c.texts_are_decided.ensures.decided;
+        apart = c.texts_are_decided.ensures.apart;
+        one_place = c.texts_are_decided.ensures.place;
+        one_list = c.one_list_of_rules.ensures;
+        shaped = c.rules_of_texts_are_shaped.ensures.shaped;
+        labelled = c.rules_of_texts_are_shaped.ensures.labelled;
+        answered = c.names_are_answered.ensures;
+        refused_once = c.refusals_are_one.ensures.first;
+        refused_or_resolved = c.refusals_are_one.ensures.or_resolved;
+        resolved_once = c.descriptions_are_one.ensures.name;
+        descriptions = c.resolved_are_descriptions.ensures;
+        first_is_one = c.first_conflict_is_one.ensures.one;
+        no_conflict = c.first_conflict_is_one.ensures.not_certified;
+      };
+      of_blocks = record {
+        strings = c.resolving_keeps_meanings.ensures.strings;
+        places = c.resolving_keeps_meanings.ensures.places;
+        one_place = c.blocks_have_one_place-2.ensures.one;
+        are_bits = c.meanings_are_bits.ensures.meant;
+        decided = c.following_is_decided.ensures.meant;
+        some_place = c.blocks_have_one_place.ensures.some;
+        one_tree = c.blocks_have_one_tree.ensures;
+      };
+      of_trees = record {
+        decided = c.texts_are_decided-2.ensures.decided;
+        one_place = c.texts_are_decided-2.ensures.place;
+        one_tree = c.texts_are_of_one_tree.ensures.before;
+        shared = c.versions_share_trees.ensures;
+      };
+    }

@@ -1,0 +1,51 @@
+-- What the laws of the crates below say, as the proofs here take it.
+use Rattle.csn_bits.specs.Laws.{FaultOrBlock, SpellsOneBlock}
+use Rattle.csn_desc.specs.Laws.{BlocksHaveAPlace, MeaningIsDecided}
+use Rattle.csn_grammar.specs.Laws.{BlocksHaveOnePlace, LabelsOfTextsAreLabels, MeaningsAreBits, RulesHaveNoFault, RulesOfTextsAreShaped, TextsAreDecided, TextsHaveOneListOfRules, TextsHaveOnePlace}
+use Rattle.csn_resolve.specs.Laws.{NamesAreAnswered, PlacesAreKept, RefusedOnce, RefusedOrResolved, ResolvedAreDescriptions, ResolvedOnce, StringsAreKept}
+use Rattle.csn_certify.specs.Laws.{BlocksHaveOneTree, CertifiedHasNoConflict, FirstConflictIsOne}
+use Rattle.csn_treetext.specs.Laws as texts
+
+-- of block lines
+pub record KnownOfLines : Type 0 where
+  pub spells_one : SpellsOneBlock
+  pub fault_or_block : FaultOrBlock
+
+-- of the texts of descriptions, the rules of a name, and conflicts
+pub record KnownOfTexts : Type 0 where
+  pub decided : TextsAreDecided
+  pub apart : RulesHaveNoFault
+  pub one_place : TextsHaveOnePlace
+  pub one_list : TextsHaveOneListOfRules
+  pub shaped : RulesOfTextsAreShaped
+  pub labelled : LabelsOfTextsAreLabels
+  pub answered : NamesAreAnswered
+  pub refused_once : RefusedOnce
+  pub refused_or_resolved : RefusedOrResolved
+  pub resolved_once : ResolvedOnce
+  pub descriptions : ResolvedAreDescriptions
+  pub first_is_one : FirstConflictIsOne
+  pub no_conflict : CertifiedHasNoConflict
+
+-- of blocks
+pub record KnownOfBlocks : Type 0 where
+  pub strings : StringsAreKept
+  pub places : PlacesAreKept
+  pub one_place : BlocksHaveOnePlace
+  pub are_bits : MeaningsAreBits
+  pub decided : MeaningIsDecided
+  pub some_place : BlocksHaveAPlace
+  pub one_tree : BlocksHaveOneTree
+
+-- of the texts of trees
+pub record KnownOfTrees : Type 0 where
+  pub decided : texts.TextsAreDecided
+  pub one_place : texts.TextsHaveOnePlace
+  pub one_tree : texts.OldTextsDiffer
+  pub shared : texts.VersionsShareTrees
+
+pub record Known : Type 0 where
+  pub of_lines : KnownOfLines
+  pub of_texts : KnownOfTexts
+  pub of_blocks : KnownOfBlocks
+  pub of_trees : KnownOfTrees

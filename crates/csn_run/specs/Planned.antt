@@ -1,0 +1,36 @@
+-- What is known of the rule that the words name, when its file was fetched and its text gone through.
+use Rattle.std.specs.Prelude.{◌≡◌, ◌≢◌, ℕ, ◌+◌, ◌<◌, List, [], ◌∷◌, ◌++◌, length, Option, Result, Ok, Err}
+use Rattle.csn_desc.specs.Nodes.{DescV}
+use Rattle.csn_grammar.specs.RulesV.{RulesV}
+use Rattle.csn_io.specs.ShelfFault.{BeginsFile}
+use Rattle.csn_run.specs.declared.command.RuleWords.{RuleWords}
+use Rattle.csn_run.specs.declared.compile.TheConstants.{MOST_DESCRIPTION}
+use Rattle.csn_run.specs.declared.ended.Ended.{Ended}
+use Rattle.csn_run.specs.declared.fault.Fault.{Fault}
+use Rattle.csn_run.specs.declared.fault.Fault.TheVariants.{Write, Memory, TooLong}
+use Rattle.csn_run.specs.declared.lines.TheConstants.{LINE_FEED}
+use Rattle.csn_run.specs.declared.planned.Unplanned.{Unplanned}
+use Rattle.csn_run.specs.declared.planned.Unplanned.TheVariants.{File, Text}
+use Rattle.csn_run.specs.Compiled.{IsCompiled, IsReason, Tells}
+use Rattle.csn_run.specs.Job.{IsDescription}
+
+-- the rule has this certified description
+pub record IsPlanned (files : Option (List ℕ → Option (List ℕ))) (rule : RuleWords) (d : DescV) : Type 0 where
+  pub text : List ℕ
+  pub rules : RulesV
+  pub fetched : IsDescription files rule.file.now text
+  pub compiled : IsCompiled text rule.name.now rule.reading rules d
+
+-- it has none for this reason
+abbrev pub IsWhy : Option (List ℕ → Option (List ℕ)) → RuleWords → Unplanned → Type 0
+IsWhy files rule (File fault) =
+    (fault ≢ Write)
+    × (fault ≡ TooLong → (front : List ℕ) × BeginsFile files rule.file.now (MOST_DESCRIPTION + 1) front × (MOST_DESCRIPTION < length front))
+IsWhy files rule (Text reason) =
+    (text : List ℕ) × IsDescription files rule.file.now text × IsReason text rule.name.now rule.reading reason
+
+-- for this reason a job is over so, and this text waits
+abbrev pub Refuses : Unplanned → List ℕ → Result Ended Fault → Type 0
+Refuses (File fault) waits end = (end ≡ Err fault) × (waits ≡ [])
+Refuses (Text reason) waits (Ok ended) = (line : List ℕ) × (waits ≡ line ++ LINE_FEED ∷ []) × Tells reason line ended
+Refuses (Text reason) waits (Err fault) = (fault ≡ Memory) × (waits ≡ [])

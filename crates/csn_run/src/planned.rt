@@ -1,0 +1,110 @@
+//! From the words that name a rule to its plan, or to the line that says why there is none.
+
+ghost use Rattle.std.specs.Prelude.{◌≡◌, ◌≢◌, ◌⊎◌, ◌+◌, ◌<◌, ◌≤◌, ◌++◌, ◌∷◌, [], List, ℕ, Err, IfOk, IfErr, OnOk, length};
+ghost use Rattle.csn_io.specs.ShelfFault.{BeginsFile, LacksFile};
+ghost use Rattle.csn_run.specs.declared.compile.TheConstants.{MOST_DESCRIPTION};
+ghost use Rattle.csn_run.specs.declared.lines.TheConstants.{LINE_FEED};
+ghost use Rattle.csn_run.specs.Compiled.{Tells, certified_line};
+ghost use Rattle.csn_run.specs.Job.{IsDescription};
+ghost use Rattle.csn_run.specs.Outside.{CannotRead, Keeps};
+ghost use Rattle.csn_run.specs.Planned.{IsPlanned, IsWhy, Refuses};
+
+use crate::command::RuleWords;
+use crate::compile::{MOST_DESCRIPTION, NoPlan, compile, push_certified, push_reason};
+use crate::ended::Ended;
+use crate::fault::Fault;
+use crate::lines::LINE_FEED;
+use csn_certify::Plan;
+use csn_io::{Shelf, ShelfFault};
+use std::alloc::{AllocError, Global};
+
+/// Why a run has no plan.
+#[derive(Drop)]
+pub enum Unplanned {
+    /// The file was not fetched.
+    File(Fault),
+    /// Its text gives the rule none.
+    Text(NoPlan),
+}
+
+/// Fetches a description.
+fn description<B: Shelf>(alloc: Global, shelf: &mut B, file: &str) -> Result<Vec<u8>, Fault>
+    ensures whole { IfOk result (λ text. IsDescription (B.files shelf.old) file.now text.items) }
+    ensures read { result ≡ Err Fault.Read
+        → CannotRead (B.files shelf.old) (B.faults shelf.old) (B.faults shelf.new) (B.last_fault shelf.new) file.now }
+    ensures too_long { result ≡ Err Fault.TooLong
+        → (front : List ℕ) × BeginsFile (B.files shelf.old) file.now (MOST_DESCRIPTION + 1) front × (MOST_DESCRIPTION < length front) }
+    ensures not_write { result ≢ Err Fault.Write }
+    ensures missing { LacksFile (B.files shelf.old) file.now → (result ≡ Err Fault.Read) ⊎ (result ≡ Err Fault.Memory) }
+    ensures shelf { Keeps (B.steady shelf.old) (B.steady shelf.new) (B.faults shelf.old) (B.faults shelf.new) (result ≡ Err Fault.Read) }
+{
+    match shelf.fetch(alloc, file, MOST_DESCRIPTION + 1) {
+        Ok(text) if text.len() <= MOST_DESCRIPTION as usize => Ok(text),
+        Ok(_) => Err(Fault::TooLong),
+        Err(ShelfFault::Missing) => Err(Fault::Read),
+        Err(ShelfFault::Failed) => Err(Fault::Read),
+        Err(ShelfFault::NoMemory) => Err(Fault::Memory),
+    }
+}
+
+/// The plan of the rule that the words name.
+pub fn plan_of<B: Shelf>(
+    alloc: Global,
+    shelf: &mut B,
+    rule: RuleWords<'_>,
+) -> Result<Plan, Unplanned>
+    ensures plan { IfOk result (IsPlanned (B.files shelf.old) rule.entry) }
+    ensures none { IfErr result (IsWhy (B.files shelf.old) rule.entry) }
+    ensures read { result ≡ Err (Unplanned.File Fault.Read)
+        → CannotRead (B.files shelf.old) (B.faults shelf.old) (B.faults shelf.new) (B.last_fault shelf.new) rule.entry.file.now }
+    ensures missing { LacksFile (B.files shelf.old) rule.entry.file.now
+        → (result ≡ Err (Unplanned.File Fault.Read)) ⊎ (result ≡ Err (Unplanned.File Fault.Memory)) }
+    ensures shelf { Keeps (B.steady shelf.old) (B.steady shelf.new) (B.faults shelf.old) (B.faults shelf.new) (result ≡ Err (Unplanned.File Fault.Read)) }
+{
+    let text = match description(alloc, shelf, rule.file) {
+        Ok(text) => text,
+        Err(fault) => return Err(Unplanned::File(fault)),
+    };
+    match compile(alloc, &text, rule.name.as_bytes(), rule.reading) {
+        Ok(plan) => Ok(plan),
+        Err(reason) => Err(Unplanned::Text(reason)),
+    }
+}
+
+/// Writes a line feed behind a line, or forgets the line where there was no memory for it.
+fn end_line(line: Result<Ended, AllocError>, pending: &mut Vec<u8>) -> Result<Ended, Fault>
+    ensures ok { IfOk result (λ ended. (line ≡ Ok ended) × (pending.new.items ≡ pending.old.items ++ LINE_FEED ∷ [])) }
+    ensures err { IfErr result (λ fault. (fault ≡ Fault.Memory) × (pending.new.items ≡ [])) }
+{
+    match line {
+        Ok(ended) if pending.push(LINE_FEED).is_ok() => Ok(ended),
+        _ => {
+            pending.clear();
+            Err(Fault::Memory)
+        }
+    }
+}
+
+/// Writes the line that says why there is no plan, where the text of the file says why.
+pub fn refuse(why: Unplanned, pending: &mut Vec<u8>) -> Result<Ended, Fault>
+    requires { pending.old.items ≡ [] }
+    ensures { Refuses why pending.new.items result }
+{
+    match why {
+        Unplanned::File(fault) => Err(fault),
+        Unplanned::Text(reason) => {
+            let line = push_reason(&reason, pending);
+            end_line(line, pending)
+        }
+    }
+}
+
+/// Writes the line that tells of a certified description.
+pub fn tell_certified(plan: &Plan, pending: &mut Vec<u8>) -> Result<Ended, Fault>
+    requires { pending.old.items ≡ [] }
+    ensures ok { IfOk result (λ ended. (ended ≡ Ended.Done) × (pending.new.items ≡ certified_line plan.now ++ LINE_FEED ∷ [])) }
+    ensures err { IfErr result (λ fault. (fault ≡ Fault.Memory) × (pending.new.items ≡ [])) }
+{
+    let line = push_certified(plan, pending);
+    end_line(line, pending)
+}
