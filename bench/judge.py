@@ -21,8 +21,9 @@ from pathlib import Path
 from descriptions import program_of
 
 RUNS = 5
-LINES = 4096
-TURNS = 256
+# together a million blocks, the most that OTHER takes
+LINES = 4000
+TURNS = 250
 # entry: its root, its sample, and the place and the width of the field that changes
 ENTRIES = {
     "uplink": ("Uplink Control Block", "0400000003" + "2B" * 17, 6, 32),
