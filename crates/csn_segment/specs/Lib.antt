@@ -1,0 +1,4 @@
+pub mod Header
+pub mod Joining
+pub mod Kept
+pub mod Laws
