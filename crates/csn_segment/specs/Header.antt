@@ -1,6 +1,6 @@
--- The header of a downlink block, as far as it says what the block carries (3GPP TS 44.060, clause 10.3.1, with the
+-- The header of a downlink block, as far as it says what the block carries (3GPP TS 44.060, clause 10.3, with the
 -- fields of clause 10.4).
-use Rattle.std.specs.Prelude.{◌≡◌, refl, ℕ, ◌/◌, ◌%◌, Bool, true, false, ◌==◌, if◌then◌else◌, List, [], ◌∷◌, slice_index, drop}
+use Rattle.std.specs.Prelude.{ℕ, ◌/◌, ◌%◌, Bool, true, false, ◌==◌, if◌then◌else◌, List, slice_index, drop}
 use Rattle.csn_segment.specs.declared.header.PayloadType.{PayloadType}
 use Rattle.csn_segment.specs.declared.header.PayloadType.TheVariants.{Data, Control, SegmentedControl, Reserved}
 use Rattle.csn_segment.specs.declared.header.Segment.{Segment}
@@ -62,22 +62,3 @@ header_octets address = if address then 3 else 2
 
 abbrev pub body_of : List ℕ → List ℕ
 body_of block = drop (header_octets (has_address block)) block
-
--- ---- examples
-
--- the segments of the radio transaction 3
-pub first_of_three : segment_of (0x80 ∷ 0x0C ∷ []) ≡ First
-first_of_three = refl
-
-pub second_of_three : segment_of (0x80 ∷ 0x8E ∷ []) ≡ Second
-second_of_three = refl
-
-pub three : rti_of (0x80 ∷ 0x8E ∷ []) ≡ 3
-three = refl
-
--- the octet with PR, TFI and D is no part of the body
-pub body_behind_address : body_of (0x80 ∷ 0x0D ∷ 0x42 ∷ 0x10 ∷ 0xB0 ∷ []) ≡ 0x10 ∷ 0xB0 ∷ []
-body_behind_address = refl
-
-pub body_with_no_address : body_of (0x80 ∷ 0x0C ∷ 0x10 ∷ 0xB0 ∷ []) ≡ 0x10 ∷ 0xB0 ∷ []
-body_with_no_address = refl

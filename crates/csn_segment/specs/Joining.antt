@@ -1,5 +1,5 @@
 -- What the blocks of one downlink give: control messages in one block, or in two (3GPP TS 44.060, clauses 10.3 and 10.4).
-use Rattle.std.specs.Prelude.{◌≡◌, refl, ℕ, ◌<◌, Bool, true, false, ◌==◌, ◌&&◌, if◌then◌else◌, List, [], ◌∷◌, ◌++◌, length, slice_get, drop, reverse, find, replicate, Option, Some, None, option_and_then}
+use Rattle.std.specs.Prelude.{◌≡◌, ℕ, ◌<◌, Bool, true, false, ◌==◌, ◌&&◌, if◌then◌else◌, List, ◌++◌, length, slice_get, drop, reverse, find, Option, Some, None, option_and_then}
 use Rattle.csn_segment.specs.declared.header.PayloadType.{PayloadType}
 use Rattle.csn_segment.specs.declared.header.PayloadType.TheVariants.{Data, Control, SegmentedControl, Reserved}
 use Rattle.csn_segment.specs.declared.header.Segment.{Segment}
@@ -11,6 +11,7 @@ use Rattle.csn_segment.specs.Header.{block_octets, transactions, payload_type_of
 
 -- ---- what waits
 
+-- a block of this payload type says which segment of a message it carries
 abbrev pub carries_segment : PayloadType → Bool
 carries_segment Data = false
 carries_segment Control = false
@@ -77,50 +78,3 @@ answer_to earlier block =
 -- the bodies that it keeps, by RTI, are those that wait behind these blocks
 pub record JoinsFor (bodies : List (Option (List ℕ))) (blocks : List (List ℕ)) : Type 0 where
   pub waits : (rti : ℕ) → rti < transactions → slice_get bodies rti ≡ Some (waiting blocks rti)
-
--- ---- examples
-
--- a block of 23 octets with the header octet of a segment, and a body of the same octets
-abbrev pub block_of : ℕ → ℕ → List ℕ
-block_of header octet = 0x80 ∷ header ∷ replicate 21 octet
-
--- a first segment of the radio transaction 3, and the second one
-abbrev pub first : List ℕ
-first = block_of 0x0C 0xA1
-
-abbrev pub second : List ℕ
-second = block_of 0x8E 0xB1
-
--- a first segment waits, and the second one ends its message of 42 octets
-pub first_waits : answer_to [] first ≡ Waiting 3
-first_waits = refl
-
-pub in_order : answer_to (first ∷ []) second ≡ whole (replicate 21 0xA1 ++ replicate 21 0xB1)
-in_order = refl
-
--- a second segment that comes before the first is refused, and no part of a message
-pub too_early : answer_to [] second ≡ Refused why.NoFirst
-too_early = refl
-
-pub still_waits : answer_to (second ∷ []) first ≡ Waiting 3
-still_waits = refl
-
--- so is one that comes again
-pub once_only : answer_to (first ∷ second ∷ []) second ≡ Refused why.NoFirst
-once_only = refl
-
--- a first segment takes the place of one that waits
-pub replaced : answer_to (first ∷ block_of 0x0C 0xA2 ∷ []) second ≡ whole (replicate 21 0xA2 ++ replicate 21 0xB1)
-replaced = refl
-
--- the blocks of two transactions may stand between each other
-pub between : answer_to (block_of 0x10 0xC1 ∷ first ∷ block_of 0x92 0xC2 ∷ []) second ≡ whole (replicate 21 0xA1 ++ replicate 21 0xB1)
-between = refl
-
--- a second segment that is not final is put aside, and so is a block that is too short
-pub put_aside : answer_to (first ∷ block_of 0x8C 0xB2 ∷ (0x80 ∷ 0x0E ∷ []) ∷ []) second ≡ whole (replicate 21 0xA1 ++ replicate 21 0xB1)
-put_aside = refl
-
--- a message in one block ends the waiting of its transaction
-pub ended : answer_to (first ∷ block_of 0x0E 0xD1 ∷ []) second ≡ Refused why.NoFirst
-ended = refl

@@ -1,4 +1,5 @@
 pub mod Header
 pub mod Joining
 pub mod Kept
+pub mod Examples
 pub mod Laws

@@ -2,6 +2,7 @@
 //! joined (3GPP TS 44.060, clauses 10.3 and 10.4). No memory is taken.
 #![tactic(auto)]
 
+pub mod examples;
 mod header;
 mod joined;
 mod joiner;
