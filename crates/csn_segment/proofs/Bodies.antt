@@ -19,6 +19,7 @@ use Rattle.csn_segment.proofs.Lasts.{last-append}
 abbrev pub octets_of : Option (ArrayVec ℕ) → Option (List ℕ)
 octets_of = option_map (λ body. body.items)
 
+-- what was written at a place, and what stands at another one
 get-set_same : {X : Type 0} (xs : List X) (i : ℕ) (x : X) → i < length xs → slice_get (set xs i x) i ≡ Some x
 get-set_same [] i x below = absurd (omega (arith, below))
 get-set_same (y ∷ ys) zero x below = refl
@@ -41,6 +42,7 @@ joins_none bodies none =
     }
 
 module _ (blocks : List (List ℕ)) (block : List ℕ) where
+  -- a segment that counts decides what waits in its transaction
   counted : (rti : ℕ) → is_segment_of rti block ≡ true → waiting (blocks ++ block ∷ []) rti ≡ body_of_first (segment_of block) (body_of block)
   counted rti is =
       ap (option_and_then (λ b. body_of_first (segment_of b) (body_of b)))

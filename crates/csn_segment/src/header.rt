@@ -1,5 +1,5 @@
 //! The header of a downlink block, as far as it says what the block carries.
-ghost use Rattle.std.specs.Prelude.{◌≡◌, ◌<◌, ◌≤◌, ◌↔◌, IsTrue, length};
+ghost use Rattle.std.specs.Prelude.{◌≡◌, ◌<◌, length};
 ghost use Rattle.csn_segment.specs.Header.{payload_type_of, segment_of, rti_of, has_address, header_octets};
 
 /// What a block carries, by its payload type, the first two bits of the MAC header.

@@ -1,6 +1,5 @@
 ghost use Rattle.std.specs.Prelude.{◌≡◌, ℕ, ◌≤◌, List, [], ◌∷◌, ◌++◌, length};
 ghost use Rattle.std.specs.Option.{option_map};
-ghost use Rattle.arrayvec.specs.ArrayVec.{ArrayVec as Octets};
 ghost use Rattle.csn_segment.specs.Joining.{answer_to, answer_to_segment, JoinsFor};
 ghost use Rattle.csn_segment.specs.Kept.{kept_after};
 
@@ -47,7 +46,7 @@ impl Joiner {
         }
     }
 
-    /// What the next block gives.
+    /// What the octets of the next block give, behind those before it.
     pub fn take(&mut self, octets: &[u8]) -> Joined
         ensures answer { (blocks : List (List ℕ)) → JoinsFor self.old blocks → result ≡ answer_to blocks octets.now }
         ensures joins { (blocks : List (List ℕ)) → JoinsFor self.old blocks → JoinsFor self.new (blocks ++ octets.now ∷ []) }
