@@ -1,7 +1,8 @@
 -- Words, and the rows of the command table.
 use Rattle.std.proofs.Common.{◌≡◌, ◌↔◌, ◌⊎◌, inl, inr, ℕ, List, Option, None, IsSome, subst, sym}
 use Rattle.csn_desc.specs.declared.reading.Reading.{Reading}
-use Rattle.csn_run.specs.Command.{IsCommand, IsOverRule, IsShow, IsMigrate, NamesFile, ReadsLines}
+use Rattle.csn_run.specs.declared.command.RuleCommand.{RuleCommand}
+use Rattle.csn_run.specs.Command.{IsCommand, IsOverRule, IsAnswer, IsMigrate, NamesFile, ReadsLines}
 use Rattle.csn_run.specs.declared.command.Command.{Command}
 use Rattle.csn_run.proofs.OneResult.{one_rule, over, not_both, not_migrate}
 
@@ -13,8 +14,8 @@ no_row words command row none is = let some : IsSome {T = Command} None = subst 
 pub one_file : {words : List (List ℕ)} {file name : List ℕ} {reading : Reading} → IsOverRule words file name reading → (other : List ℕ) → NamesFile words other → file ≡ other
 one_file row other names = (one_rule (over row).row (over names.2).row).file_is
 
-pub show_reads : {words : List (List ℕ)} {file name : List ℕ} {reading : Reading} → IsShow words file name reading → ReadsLines words
-show_reads row file name reading check = not_both check row
+pub answer_reads : {words : List (List ℕ)} {file name : List ℕ} {reading : Reading} (command : RuleCommand) → IsAnswer command words file name reading → ReadsLines words
+answer_reads command row file name reading check = not_both command check row
 
 pub migrate_reads : {words : List (List ℕ)} → IsMigrate words → ReadsLines words
 migrate_reads is file name reading check = not_migrate (over (inl check)) is

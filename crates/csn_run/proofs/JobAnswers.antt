@@ -1,13 +1,20 @@
 -- Each line has one answer, in each job over lines that words ask for.
 use Rattle.std.proofs.Common.{◌≡◌, ℕ, ◌≤◌, inl, inr, List, ◌++◌, codes, Option, refl, sym, ◌∙◌, ap, subst}
 use Rattle.std.specs.Fmt.{decimal}
+use Rattle.csn_desc.specs.declared.reading.Reading.{Reading}
+use Rattle.csn_desc.specs.Nodes.{DescV}
+use Rattle.csn_grammar.specs.RulesV.{RulesV}
 use Rattle.csn_treetext.specs.declared.version.Version.TheVariants.{First, Second}
 use Rattle.csn_treetext.specs.Text.{text_of}
+use Rattle.csn_run.specs.declared.command.RuleCommand.{RuleCommand}
+use Rattle.csn_run.specs.declared.command.RuleCommand.TheVariants.{Show, Write}
 use Rattle.csn_run.specs.Known.{KnownOfTrees, Known}
-use Rattle.csn_run.specs.OutLine.{MigratesLine, migrates_tree, migrates_place}
-use Rattle.csn_run.specs.Result.{LineJob, AnswersLine, AsksFor, asks_show, asks_migrate}
+use Rattle.csn_run.specs.Compiled.{IsCompiled}
+use Rattle.csn_run.specs.OutLine.{AnswersByRule, MigratesLine, migrates_tree, migrates_place}
+use Rattle.csn_run.specs.Result.{LineJob, AnswersLine, AsksFor, asks_by_rule, asks_migrate}
 use Rattle.csn_run.specs.Laws.{LinesHaveAnswers, LinesHaveOneAnswer}
 use Rattle.csn_run.proofs.ShownLines.{each_shown, one_shown}
+use Rattle.csn_run.proofs.WrittenLines.{each_written, one_written}
 
 each_migrated : KnownOfTrees → (line : List ℕ) → (answer : List ℕ) × MigratesLine line answer
 each_migrated known line = elim (known.decided First line) [
@@ -17,7 +24,7 @@ each_migrated known line = elim (known.decided First line) [
 
 one_migrated : KnownOfTrees → (line answer other : List ℕ) → MigratesLine line answer → MigratesLine line other → answer ≡ other
 one_migrated known line answer other (migrates_tree t text old is e) (migrates_tree t' text' old' is' e') =
-    let tree : t ≡ t' = known.one_tree t t' line old old' in
+    let tree : t ≡ t' = known.one_old_tree t t' line old old' in
     let texts : text ≡ text' = is.spelled ∙ ap (text_of Second) tree ∙ sym is'.spelled in
     e ∙ ap (λ l. codes "ok " ++ l) texts ∙ sym e'
 one_migrated known line answer other (migrates_tree t text old is e) (migrates_place place at e') = absurd (at.no_tree t old)
@@ -26,16 +33,25 @@ one_migrated known line answer other (migrates_place place at e) (migrates_place
     let same : place ≡ place' = known.one_place First line place place' at at' in
     e ∙ ap (λ p. codes "bad " ++ decimal p) same ∙ sym e'
 
+module _ (known : Known) (text : List ℕ) (rules : RulesV) (name : List ℕ) (reading : Reading) (d : DescV) (is : IsCompiled text name reading rules d) where
+  each_by_rule : (command : RuleCommand) (line : List ℕ) → (answer : List ℕ) × AnswersByRule command rules name reading line answer
+  each_by_rule Show line = each_shown known text rules name reading d is line
+  each_by_rule Write line = each_written known text rules name reading d is line
+
+  one_by_rule : (command : RuleCommand) (line answer other : List ℕ) → AnswersByRule command rules name reading line answer → AnswersByRule command rules name reading line other → answer ≡ other
+  one_by_rule Show = one_shown known text rules name reading d is
+  one_by_rule Write = one_written known text rules name reading d is
+
 pub each_in_job : Known → LinesHaveAnswers
-each_in_job known words files job (asks_show file name text reading rules d row held fits compiled is) line =
-    let answer = each_shown known text rules name reading d compiled line in
+each_in_job known words files job (asks_by_rule command file name text reading rules d row held fits compiled is) line =
+    let answer = each_by_rule known text rules name reading d compiled command line in
     (answer.0, subst (λ (j : LineJob). AnswersLine j line answer.0) (sym is) answer.1)
 each_in_job known words files job (asks_migrate row is) line =
     let answer = each_migrated known.of_trees line in
     (answer.0, subst (λ (j : LineJob). AnswersLine j line answer.0) (sym is) answer.1)
 
 pub one_in_job : Known → LinesHaveOneAnswer
-one_in_job known words files job (asks_show file name text reading rules d row held fits compiled is) line answer other a b =
-    one_shown known text rules name reading d compiled line answer other (subst (λ (j : LineJob). AnswersLine j line answer) is a) (subst (λ (j : LineJob). AnswersLine j line other) is b)
+one_in_job known words files job (asks_by_rule command file name text reading rules d row held fits compiled is) line answer other a b =
+    one_by_rule known text rules name reading d compiled command line answer other (subst (λ (j : LineJob). AnswersLine j line answer) is a) (subst (λ (j : LineJob). AnswersLine j line other) is b)
 one_in_job known words files job (asks_migrate row is) line answer other a b =
     one_migrated known.of_trees line answer other (subst (λ (j : LineJob). AnswersLine j line answer) is a) (subst (λ (j : LineJob). AnswersLine j line other) is b)

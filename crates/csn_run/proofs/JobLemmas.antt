@@ -26,11 +26,12 @@ use Rattle.csn_run.specs.declared.planned.Unplanned.{Unplanned}
 use Rattle.csn_run.specs.declared.planned.Unplanned.TheVariants.{File, Text}
 use Rattle.csn_run.specs.Lines.{answered}
 use Rattle.csn_run.specs.Progress.{Answers, AnswersAll, StopsAfter, StopsWithin, StopsBy, Stops}
-use Rattle.csn_run.specs.Command.{IsCheck, IsShow, IsMigrate, IsOverRule}
+use Rattle.csn_run.specs.declared.command.RuleCommand.{RuleCommand}
+use Rattle.csn_run.specs.Command.{IsCheck, IsAnswer, IsMigrate, IsOverRule}
 use Rattle.csn_run.specs.Compiled.{HasNoPlan, no_rules, rules_refused, not_certified, IsReason, Tells, certified_line}
 use Rattle.csn_run.specs.Planned.{IsPlanned, IsWhy, Refuses}
 use Rattle.csn_run.specs.Job.{IsDescription, IsBeforeLines, Asked, EndedBefore, JobEnds, unread, before_lines, all_lines, some_lines}
-use Rattle.csn_run.specs.Result.{LineJob, showing, migrating, AnswersLine, asks_show, asks_migrate, HasNoJob, long_text, no_plan, EndsBefore, no_job, checked, end_of}
+use Rattle.csn_run.specs.Result.{LineJob, by_rule, migrating, AnswersLine, asks_by_rule, asks_migrate, HasNoJob, long_text, no_plan, EndsBefore, no_job, checked, end_of}
 
 -- ---- answers that hold of more
 
@@ -85,14 +86,14 @@ whole_file files file text is = go (files file) refl is.front
         let few : length t ≤ MOST_DESCRIPTION + 1 = omega (arith, is.fits, ap length same, length-take (MOST_DESCRIPTION + 1) t) in
         held ∙ ap Some (sym (take_all (MOST_DESCRIPTION + 1) t few) ∙ same)
 
--- `show` by a plan
-pub asked_show :
-    (words : List (List ℕ)) (files : Option (List ℕ → Option (List ℕ))) (rule : RuleWords) (d : DescV)
-    → IsShow words rule.file.now rule.name.now rule.reading → (is : IsPlanned files rule d)
-    → Asked words files (showing is.rules rule.name.now rule.reading)
-asked_show words None rule d row is = tt
-asked_show words (Some files) rule d row is =
-    asks_show rule.file.now rule.name.now is.text rule.reading is.rules d row (whole_file files rule.file.now is.text is.fetched) is.fetched.fits is.compiled refl
+-- a command by a plan
+pub asked_by_rule :
+    (words : List (List ℕ)) (files : Option (List ℕ → Option (List ℕ))) (command : RuleCommand) (rule : RuleWords) (d : DescV)
+    → IsAnswer command words rule.file.now rule.name.now rule.reading → (is : IsPlanned files rule d)
+    → Asked words files (by_rule command is.rules rule.name.now rule.reading)
+asked_by_rule words None command rule d row is = tt
+asked_by_rule words (Some files) command rule d row is =
+    asks_by_rule command rule.file.now rule.name.now is.text rule.reading is.rules d row (whole_file files rule.file.now is.text is.fetched) is.fetched.fits is.compiled refl
 
 pub asked_migrate : (words : List (List ℕ)) (files : Option (List ℕ → Option (List ℕ))) → IsMigrate words → Asked words files migrating
 asked_migrate words None row = tt

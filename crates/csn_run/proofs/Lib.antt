@@ -1,3 +1,4 @@
+pub mod AnswerLemmas
 pub mod CommandLemmas
 pub mod JobLemmas
 pub mod LinesLemmas
@@ -15,4 +16,5 @@ pub mod OneResult
 pub mod MeantParts
 pub mod TreesFit
 pub mod ShownLines
+pub mod WrittenLines
 pub mod OneTree

@@ -1,6 +1,7 @@
 -- A run has one result.
 use Rattle.std.proofs.Common.{◌≡◌, ℕ, ◌≤◌, ◌⊎◌, inl, inr, Bool, List, [], ◌∷◌, ◌++◌, length, take, codes, Option, Some, refl, sym, ◌∙◌, ap, subst, arith}
 use Rattle.std.proofs.lemmas.List.{append-nil}
+use Rattle.std.specs.Prelude.{slice_index}
 use Rattle.std.specs.List.{AllZip, list_any}
 use Rattle.csn_desc.specs.declared.reading.Reading.{Reading}
 use Rattle.csn_desc.specs.declared.reading.Reading.TheVariants.{Received, Sent}
@@ -13,15 +14,17 @@ use Rattle.csn_resolve.specs.Resolved.{IsResolved, IsRefused}
 use Rattle.csn_look.specs.declared.word.TheConstants.{MOST_WORD}
 use Rattle.csn_certify.specs.declared.conflict.Conflict.{Conflict}
 use Rattle.csn_certify.specs.Conflicts.{IsFirstConflict}
+use Rattle.csn_run.specs.declared.command.RuleCommand.{RuleCommand}
+use Rattle.csn_run.specs.declared.command.RuleCommand.TheVariants.{Show, Write}
 use Rattle.csn_run.specs.declared.ended.Ended.{Ended}
 use Rattle.csn_run.specs.declared.lines.TheConstants.{MOST_INPUT}
 use Rattle.csn_run.specs.declared.compile.TheConstants.{MOST_DESCRIPTION}
 use Rattle.csn_run.specs.Known.{KnownOfTexts, Known}
-use Rattle.csn_run.specs.Command.{word_of, NamesRule, IsCheck, IsShow, IsMigrate, IsOverRule, ReadsLines}
+use Rattle.csn_run.specs.Command.{word_of, command_word, NamesRule, IsCheck, IsAnswer, IsMigrate, IsOverRule}
 use Rattle.csn_run.specs.Compiled.{line_of, conflict_line, certified_line, IsCompiled, HasNoPlan, no_rules, rules_refused, not_certified}
 use Rattle.csn_run.specs.Lines.{between_feeds, answered, text_of, is_refusal}
 use Rattle.csn_run.specs.Progress.{Answers, EndsIn}
-use Rattle.csn_run.specs.Result.{LineJob, showing, AnswersLine, AsksFor, asks_show, asks_migrate, end_of, AnswersInput, answers_all, answers_front, HasNoJob, long_text, no_plan, EndsBefore, no_job, checked, Result, no_line, lines}
+use Rattle.csn_run.specs.Result.{LineJob, by_rule, AnswersLine, AsksFor, asks_by_rule, asks_migrate, end_of, AnswersInput, answers_all, answers_front, HasNoJob, long_text, no_plan, EndsBefore, no_job, checked, Result, no_line, lines}
 use Rattle.csn_run.specs.Laws.{LinesHaveOneAnswer, RunsHaveOneResult}
 use Rattle.csn_run.proofs.LinesLemmas.{between_feeds-one}
 
@@ -105,10 +108,24 @@ pub record OverRule (words : List (List ℕ)) (file name : List ℕ) (reading : 
 
 pub over : {words : List (List ℕ)} {file name : List ℕ} {reading : Reading} → IsOverRule words file name reading → OverRule words file name reading
 over (inl row) = record { command = codes "check"; row = row }
-over (inr row) = record { command = codes "show"; row = row }
+over (inr answer) = record { command = command_word answer.0; row = answer.1 }
 
-pub not_both : {words : List (List ℕ)} {file name file' name' : List ℕ} {reading reading' : Reading} → IsCheck words file name reading → IsShow words file' name' reading' → ⊥
-not_both row row' = let same : codes "check" ≡ codes "show" = (one_rule row row').command_is in cc
+-- a command that answers lines by a rule
+pub answers : {words : List (List ℕ)} {file name : List ℕ} {reading : Reading} (command : RuleCommand) → IsAnswer command words file name reading → OverRule words file name reading
+answers command row = record { command = command_word command; row = row }
+
+one_command : (command other : RuleCommand) → command_word command ≡ command_word other → command ≡ other
+one_command Show Show e = refl
+one_command Show Write e = cc
+one_command Write Show e = cc
+one_command Write Write e = refl
+
+not_check : (command : RuleCommand) → codes "check" ≡ command_word command → ⊥
+not_check Show e = cc
+not_check Write e = let first : 99 ≡ 119 = ap (λ w. slice_index w 0) e in omega (arith, first)
+
+pub not_both : {words : List (List ℕ)} {file name file' name' : List ℕ} {reading reading' : Reading} (command : RuleCommand) → IsCheck words file name reading → IsAnswer command words file' name' reading' → ⊥
+not_both command row row' = not_check command (one_rule row row').command_is
 
 pub not_migrate : {words : List (List ℕ)} {file name : List ℕ} {reading : Reading} → OverRule words file name reading → IsMigrate words → ⊥
 not_migrate {words} {file} {name} {reading} rule is =
@@ -234,21 +251,21 @@ module _ (known : KnownOfTexts) where
     -- ---- which job the words ask for
 
     one_job : (job other : LineJob) → AsksFor words files job → AsksFor words files other → job ≡ other
-    one_job job other (asks_show file name text reading rules d row held fits compiled is) (asks_show file' name' text' reading' rules' d' row' held' fits' compiled' is') =
+    one_job job other (asks_by_rule command file name text reading rules d row held fits compiled is) (asks_by_rule command' file' name' text' reading' rules' d' row' held' fits' compiled' is') =
         let P : List ℕ → List ℕ → Reading → Type 0 = λ t n r. HasRules t rules in
-        let all : rules ≡ rules' = known.one_list text' rules rules' (moved files P (over (inr row)) held (over (inr row')) held' compiled.has_rules) compiled'.has_rules in
+        let all : rules ≡ rules' = known.one_list text' rules rules' (moved files P (answers command row) held (answers command' row') held' compiled.has_rules) compiled'.has_rules in
         let same = one_rule row row' in
-        is ∙ ap (λ r. showing r name reading) all ∙ ap (λ n. showing rules' n reading) same.name_is ∙ ap (λ r. showing rules' name' r) same.reading_is ∙ sym is'
-    one_job job other (asks_show file name text reading rules d row held fits compiled is) (asks_migrate row' is') = absurd (not_migrate (over (inr row)) row')
-    one_job job other (asks_migrate row' is') (asks_show file name text reading rules d row held fits compiled is) = absurd (not_migrate (over (inr row)) row')
+        is ∙ ap (λ c. by_rule c rules name reading) (one_command command command' same.command_is) ∙ ap (λ r. by_rule command' r name reading) all ∙ ap (λ n. by_rule command' rules' n reading) same.name_is ∙ ap (λ r. by_rule command' rules' name' r) same.reading_is ∙ sym is'
+    one_job job other (asks_by_rule command file name text reading rules d row held fits compiled is) (asks_migrate row' is') = absurd (not_migrate (answers command row) row')
+    one_job job other (asks_migrate row' is') (asks_by_rule command file name text reading rules d row held fits compiled is) = absurd (not_migrate (answers command row) row')
     one_job job other (asks_migrate row is) (asks_migrate row' is') = is ∙ sym is'
 
     -- a run that comes to no line has no job over lines
     pub before_or_job : {w : List ℕ} {e : Ended} (job : LineJob) → EndsBefore words files w e → AsksFor words files job → ⊥
-    before_or_job job (no_job file name text reading row held none) (asks_show file' name' text' reading' rules d row' held' fits compiled is) =
-        no_job_or_compiled (over row) held none (over (inr row')) held' fits compiled
+    before_or_job job (no_job file name text reading row held none) (asks_by_rule command file' name' text' reading' rules d row' held' fits compiled is) =
+        no_job_or_compiled (over row) held none (answers command row') held' fits compiled
     before_or_job job (no_job file name text reading row held none) (asks_migrate row' is) = not_migrate (over row) row'
-    before_or_job job (checked file name text reading rules d row held fits compiled is end) (asks_show file' name' text' reading' rules' d' row' held' fits' compiled' is') = not_both row row'
+    before_or_job job (checked file name text reading rules d row held fits compiled is end) (asks_by_rule command file' name' text' reading' rules' d' row' held' fits' compiled' is') = not_both command row row'
     before_or_job job (checked file name text reading rules d row held fits compiled is end) (asks_migrate row' is') = not_migrate (over (inl row)) row'
 
 pub one_result : KnownOfTexts → LinesHaveOneAnswer → RunsHaveOneResult

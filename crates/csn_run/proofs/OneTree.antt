@@ -14,8 +14,8 @@ use Rattle.csn_run.specs.Known.{Known}
 use Rattle.csn_run.specs.Command.{IsOverRule}
 use Rattle.csn_run.specs.Compiled.{IsCompiled, no_rules, rules_refused, not_certified}
 use Rattle.csn_run.specs.Job.{JobEnds, unread, before_lines, all_lines, some_lines, end_with, end_by}
-use Rattle.csn_run.specs.Result.{LineJob, AsksFor, asks_show, asks_migrate, EndsBefore, no_job, checked, long_text, no_plan, RulesHaveOneTree}
-use Rattle.csn_run.proofs.OneResult.{OverRule, over, moved, not_migrate}
+use Rattle.csn_run.specs.Result.{LineJob, AsksFor, asks_by_rule, asks_migrate, EndsBefore, no_job, checked, long_text, no_plan, RulesHaveOneTree}
+use Rattle.csn_run.proofs.OneResult.{OverRule, over, answers, moved, not_migrate}
 use Rattle.csn_run.proofs.ResultLemmas.{IsAnswered, fault_answered, ended_apart}
 use Rattle.csn_run.proofs.ShownLines.{one_tree}
 
@@ -32,7 +32,7 @@ module _ (known : Known) (words : List (List ℕ)) (files : List ℕ → Option 
       one_tree known text' rules name' reading' d here b t u (subst (λ r. Q r t) same first) (subst (λ r. Q r u) same second)
 
   asked_one_tree : (job : LineJob) → AsksFor words files job → RulesHaveOneTree words files
-  asked_one_tree job (asks_show file name text reading rules d row held fits compiled is) = compiled_one_tree (over (inr row)) held compiled
+  asked_one_tree job (asks_by_rule command file name text reading rules d row held fits compiled is) = compiled_one_tree (answers command row) held compiled
   asked_one_tree job (asks_migrate row is) = λ file name text reading rules row' held has b t u first second. absurd (not_migrate (over row') row)
 
   before_one_tree : (written : List ℕ) (ended : Ended) → EndsBefore words files written ended → IsAnswered ended → RulesHaveOneTree words files

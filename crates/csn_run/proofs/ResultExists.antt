@@ -14,7 +14,7 @@ use Rattle.csn_run.specs.Known.{KnownOfTexts}
 use Rattle.csn_run.specs.Command.{IsOverRule, IsCommand, rule_row, migrate_row, NamesFile}
 use Rattle.csn_run.specs.Compiled.{line_of, conflict_line, certified_line, IsCompiled, HasNoPlan, no_rules, rules_refused, not_certified}
 use Rattle.csn_run.specs.Laws.{IsDecided, LinesHaveAnswers, RunsHaveResults}
-use Rattle.csn_run.specs.Result.{LineJob, showing, migrating, AnswersLine, AsksFor, asks_show, asks_migrate, HasNoJob, long_text, no_plan, EndsBefore, no_job, checked, Result, no_line, lines}
+use Rattle.csn_run.specs.Result.{LineJob, by_rule, migrating, AnswersLine, AsksFor, asks_by_rule, asks_migrate, HasNoJob, long_text, no_plan, EndsBefore, no_job, checked, Result, no_line, lines}
 use Rattle.csn_run.proofs.Extends.{some_answers}
 
 held_text : (o : Option (List ℕ)) → IsSome o → (text : List ℕ) × (o ≡ Some text)
@@ -37,8 +37,8 @@ module _ (known : KnownOfTexts) (each_in_job : LinesHaveAnswers) (words : List (
     compiled_result : length text ≤ MOST_DESCRIPTION → (rules : RulesV) (d : DescV) → IsCompiled text name reading rules d → IsOverRule words file name reading → HasResult
     compiled_result fits rules d compiled (inl check) =
         (certified_line d ++ 10 ∷ [], Done, no_line (checked file name text reading rules d check held fits compiled refl refl))
-    compiled_result fits rules d compiled (inr show) =
-        job_result (showing rules name reading) (asks_show file name text reading rules d show held fits compiled refl)
+    compiled_result fits rules d compiled (inr answer) =
+        job_result (by_rule answer.0 rules name reading) (asks_by_rule answer.0 file name text reading rules d answer.1 held fits compiled refl)
 
     no_plan_result : length text ≤ MOST_DESCRIPTION → (line : List ℕ) (ended : Ended) → HasNoPlan text name reading line ended → HasResult
     no_plan_result fits line ended none = none_result (line ++ 10 ∷ []) ended (no_plan line fits none refl)

@@ -3,8 +3,10 @@ use Rattle.std.specs.Prelude.{◌≡◌, ◌≢◌, ◌⊎◌, ℕ, List, [], �
 use Rattle.csn_desc.specs.declared.reading.Reading.{Reading}
 use Rattle.csn_desc.specs.declared.reading.Reading.TheVariants.{Received, Sent}
 use Rattle.csn_run.specs.declared.command.RuleWords.{RuleWords}
+use Rattle.csn_run.specs.declared.command.RuleCommand.{RuleCommand}
+use Rattle.csn_run.specs.declared.command.RuleCommand.TheVariants.{Show, Write}
 use Rattle.csn_run.specs.declared.command.Command.{Command}
-use Rattle.csn_run.specs.declared.command.Command.TheVariants.{Check, Show, Migrate}
+use Rattle.csn_run.specs.declared.command.Command.TheVariants.{Check, Answer, Migrate}
 
 -- a word that can be an argument: it is not empty, and does not begin with `-`
 abbrev pub IsArgument : List ℕ → Type 0
@@ -26,9 +28,14 @@ pub record NamesRule (command : List ℕ) (words : List (List ℕ)) (file name :
 abbrev pub IsCheck : List (List ℕ) → List ℕ → List ℕ → Reading → Type 0
 IsCheck = NamesRule (codes "check")
 
--- `show FILE NAME READING`
-abbrev pub IsShow : List (List ℕ) → List ℕ → List ℕ → Reading → Type 0
-IsShow = NamesRule (codes "show")
+-- the word of a command that answers lines by a rule
+abbrev pub command_word : RuleCommand → List ℕ
+command_word Show = codes "show"
+command_word Write = codes "write"
+
+-- `show FILE NAME READING` and `write FILE NAME READING`
+abbrev pub IsAnswer : RuleCommand → List (List ℕ) → List ℕ → List ℕ → Reading → Type 0
+IsAnswer command = NamesRule (command_word command)
 
 -- `migrate`
 abbrev pub IsMigrate : List (List ℕ) → Type 0
@@ -36,7 +43,8 @@ IsMigrate words = words ≡ codes "migrate" ∷ []
 
 -- the words are a command over this rule of the description in this file
 abbrev pub IsOverRule : List (List ℕ) → List ℕ → List ℕ → Reading → Type 0
-IsOverRule words file name reading = IsCheck words file name reading ⊎ IsShow words file name reading
+IsOverRule words file name reading =
+    IsCheck words file name reading ⊎ ((command : RuleCommand) × IsAnswer command words file name reading)
 
 -- the words are a row of the command table
 pub data IsCommand (words : List (List ℕ)) : Type 0 where
@@ -58,5 +66,5 @@ AreRuleWords command words rule = NamesRule command words rule.file.now rule.nam
 -- the words are the row of the command table that this command stands for
 abbrev pub IsRowOf : List (List ℕ) → Command → Type 0
 IsRowOf words (Check rule) = AreRuleWords (codes "check") words rule
-IsRowOf words (Show rule) = AreRuleWords (codes "show") words rule
+IsRowOf words (Answer command rule) = AreRuleWords (command_word command) words rule
 IsRowOf words Migrate = IsMigrate words

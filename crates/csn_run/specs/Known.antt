@@ -4,6 +4,7 @@ use Rattle.csn_desc.specs.Laws.{BlocksHaveAPlace, MeaningIsDecided}
 use Rattle.csn_grammar.specs.Laws.{BlocksHaveOnePlace, LabelsOfTextsAreLabels, MeaningsAreBits, RulesHaveNoFault, RulesOfTextsAreShaped, TextsAreDecided, TextsHaveOneListOfRules, TextsHaveOnePlace}
 use Rattle.csn_resolve.specs.Laws.{NamesAreAnswered, PlacesAreKept, RefusedOnce, RefusedOrResolved, ResolvedAreDescriptions, ResolvedOnce, StringsAreKept}
 use Rattle.csn_certify.specs.Laws.{BlocksHaveOneTree, CertifiedHasNoConflict, FirstConflictIsOne}
+use Rattle.csn_encode.specs.Laws.{FirstMisfitIsOne, MisfitsHaveNoBits, OneBlock, TreesFitOrMiss}
 use Rattle.csn_treetext.specs.Laws as texts
 
 -- of block lines
@@ -41,11 +42,20 @@ pub record KnownOfBlocks : Type 0 where
 pub record KnownOfTrees : Type 0 where
   pub decided : texts.TextsAreDecided
   pub one_place : texts.TextsHaveOnePlace
-  pub one_tree : texts.OldTextsDiffer
+  pub one_tree : texts.TreeTextsDiffer
+  pub one_old_tree : texts.OldTextsDiffer
   pub shared : texts.VersionsShareTrees
+
+-- of the blocks of trees
+pub record KnownOfMisfits : Type 0 where
+  pub one_block : OneBlock
+  pub no_bits : MisfitsHaveNoBits
+  pub one_misfit : FirstMisfitIsOne
+  pub fit_or_miss : TreesFitOrMiss
 
 pub record Known : Type 0 where
   pub of_lines : KnownOfLines
   pub of_texts : KnownOfTexts
   pub of_blocks : KnownOfBlocks
   pub of_trees : KnownOfTrees
+  pub of_misfits : KnownOfMisfits

@@ -1,7 +1,9 @@
 -- What answers one line of the input. The texts are this project's own.
-use Rattle.std.specs.Prelude.{◌≡◌, ℕ, nat_lt, if◌then◌else◌, List, [], ◌++◌, length, codes}
+use Rattle.std.specs.Prelude.{◌≡◌, ℕ, ◌≤◌, nat_lt, if◌then◌else◌, List, [], ◌∷◌, ◌++◌, length, codes}
+use Rattle.std.specs.List.{flat_map}
 use Rattle.std.specs.Fmt.{decimal}
-use Rattle.csn_bits.specs.Line.{BlockLine}
+use Rattle.csn_bits.specs.Octets.{most_bits}
+use Rattle.csn_bits.specs.Line.{BlockLine, written}
 use Rattle.csn_bits.specs.Fault.{IsLineFault}
 use Rattle.csn_bits.specs.declared.fault.BitsFault.{BitsFault}
 use Rattle.csn_bits.specs.declared.fault.BitsFault.TheVariants.{BadDigit, BadLength, BadFill, TooManyBits, NoMemory}
@@ -12,11 +14,17 @@ use Rattle.csn_desc.specs.Means.{NMeans}
 use Rattle.csn_desc.specs.Follows as desc
 use Rattle.csn_decode.specs.declared.verdict.DecodeFault.{DecodeFault}
 use Rattle.csn_decode.specs.declared.verdict.DecodeFault.TheVariants.{Refused, NoMemory as no_memory}
+use Rattle.csn_encode.specs.declared.misfit.MisfitWhy.{MisfitWhy}
+use Rattle.csn_encode.specs.declared.misfit.MisfitWhy.TheVariants.{WrongKind, WrongLabel, WrongCount, WrongWidth, WrongSpare, NoSuchAlternative, WindowLength, TooManyBits as past_the_limit}
+use Rattle.csn_encode.specs.Misfits.{IsMisfit}
 use Rattle.csn_grammar.specs.RulesV.{RulesV}
 use Rattle.csn_grammar.specs.Strings.{Strings, IsPlace}
-use Rattle.csn_treetext.specs.declared.version.Version.TheVariants.{First}
+use Rattle.csn_resolve.specs.Resolved.{IsResolved}
+use Rattle.csn_treetext.specs.declared.version.Version.TheVariants.{First, Second}
 use Rattle.csn_treetext.specs.Place.{TreeText, OldText, IsFaultPlace}
-use Rattle.csn_run.specs.Compiled.{IsCompiled}
+use Rattle.csn_run.specs.declared.command.RuleCommand.{RuleCommand}
+use Rattle.csn_run.specs.declared.command.RuleCommand.TheVariants.{Show, Write}
+use Rattle.csn_run.specs.Compiled.{IsCompiled, line_of}
 
 -- the answer to a line that is no block line: the number of its fault, and the column of a bad digit
 abbrev pub fault_text : BitsFault → List ℕ
@@ -48,11 +56,54 @@ abbrev pub IsRefusalOf : DescV → List ℕ → DecodeFault → Type 0
 IsRefusalOf d block (Refused place) = desc.IsPlace d block place × ((t : TreeV) → ¬ NMeans d 0 0 [] block t)
 IsRefusalOf d block no_memory = Unit {0}
 
+-- steps down a tree: `/` and a number for each
+abbrev pub steps_text : List ℕ → List ℕ
+steps_text steps = flat_map (λ step. 47 ∷ decimal step) steps
+
+-- the way from the root of a tree to a tree inside it: its steps, and `/` alone where it has none
+abbrev pub path_text : List ℕ → List ℕ
+path_text [] = codes "/"
+path_text (step ∷ steps) = steps_text (step ∷ steps)
+
+-- why a tree misses: the name of the reason, and behind it what was wanted and what was found
+abbrev pub why_text : MisfitWhy → List ℕ
+why_text WrongKind = codes "WrongKind"
+why_text WrongLabel = codes "WrongLabel"
+why_text (WrongCount wanted found) = line_of (codes "WrongCount") (wanted ∷ found ∷ [])
+why_text (WrongWidth wanted found) = line_of (codes "WrongWidth") (wanted ∷ found ∷ [])
+why_text WrongSpare = codes "WrongSpare"
+why_text NoSuchAlternative = codes "NoSuchAlternative"
+why_text (WindowLength wanted found) = line_of (codes "WindowLength") (wanted ∷ found ∷ [])
+why_text past_the_limit = codes "TooManyBits"
+
+-- the answer to a tree that no block has: where it first misses, and why
+abbrev pub misfit_text : List ℕ → MisfitWhy → List ℕ
+misfit_text path why = codes "no " ++ (path_text path ++ 32 ∷ why_text why)
+
+-- `write`: the text of a tree is answered by the block that has it; where no block has it, by the first
+-- misfit to the description of the rule; and a line that is no such text by the place up to which it
+-- begins one
+pub data WritesLine (rules : RulesV) (name : List ℕ) (reading : Reading) (line answer : List ℕ) : Type 0 where
+  writes_block : (t : TreeV) (block : List ℕ) → TreeText t line → length block ≤ most_bits
+      → Strings rules name reading block t → answer ≡ codes "ok " ++ written block
+      → WritesLine rules name reading line answer
+  writes_misfit : (t : TreeV) (d : DescV) (path : List ℕ) (why : MisfitWhy) → TreeText t line
+      → ((block : List ℕ) → length block ≤ most_bits → Strings rules name reading block t → ⊥)
+      → IsResolved rules name reading d → IsMisfit d t path why → answer ≡ misfit_text path why
+      → WritesLine rules name reading line answer
+  writes_place : (place : ℕ) → IsFaultPlace Second line place → answer ≡ codes "bad " ++ decimal place
+      → WritesLine rules name reading line answer
+
+-- what answers a line of a command by a rule
+abbrev pub AnswersByRule : RuleCommand → RulesV → List ℕ → Reading → List ℕ → List ℕ → Type 0
+AnswersByRule Show = ShowsLine
+AnswersByRule Write = WritesLine
+
 -- the same by a description, for each rule that has it
-abbrev pub ShowsBy : DescV → List ℕ → List ℕ → Type 0
-ShowsBy d line answer =
+abbrev pub AnswersBy : RuleCommand → DescV → List ℕ → List ℕ → Type 0
+AnswersBy command d line answer =
     (text : List ℕ) (rules : RulesV) (name : List ℕ) (reading : Reading) → IsCompiled text name reading rules d
-    → ShowsLine rules name reading line answer
+    → AnswersByRule command rules name reading line answer
 
 -- `migrate`: the text of a tree as it was written before is answered by its text of today; and a line that
 -- is no such text by the place up to which it begins one

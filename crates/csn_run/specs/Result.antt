@@ -12,28 +12,29 @@ use Rattle.csn_run.specs.declared.ended.Ended.{Ended}
 use Rattle.csn_run.specs.declared.ended.Ended.TheVariants.{Done, SomeRefused, Usage, BadDescription, NotCertified, ReadFault, WriteFault, NoMemory, TooLong}
 use Rattle.csn_run.specs.declared.lines.TheConstants.{LINE_FEED, MOST_INPUT}
 use Rattle.csn_run.specs.declared.compile.TheConstants.{MOST_DESCRIPTION}
-use Rattle.csn_run.specs.Command.{IsCheck, IsShow, IsMigrate, IsOverRule}
+use Rattle.csn_run.specs.declared.command.RuleCommand.{RuleCommand}
+use Rattle.csn_run.specs.Command.{IsCheck, IsAnswer, IsMigrate, IsOverRule}
 use Rattle.csn_run.specs.Compiled.{IsCompiled, HasNoPlan, certified_line}
 use Rattle.csn_run.specs.Lines.{between_feeds}
-use Rattle.csn_run.specs.OutLine.{ShowsLine, MigratesLine}
+use Rattle.csn_run.specs.OutLine.{AnswersByRule, MigratesLine}
 use Rattle.csn_run.specs.Progress.{Answers, EndsIn, StopsAfter}
 
--- the jobs that answer the lines of the input: `show` by a rule of some rules, and `migrate`
+-- the jobs that answer the lines of the input: a command by a rule of some rules, and `migrate`
 pub data LineJob : Type 0 where
-  showing : RulesV → List ℕ → Reading → LineJob
+  by_rule : RuleCommand → RulesV → List ℕ → Reading → LineJob
   migrating : LineJob
 
 -- what answers a line in such a job
 abbrev pub AnswersLine : LineJob → List ℕ → List ℕ → Type 0
-AnswersLine (showing rules name reading) = ShowsLine rules name reading
+AnswersLine (by_rule command rules name reading) = AnswersByRule command rules name reading
 AnswersLine migrating = MigratesLine
 
--- the words ask for this job. For `show` the file that they name is there, is no longer than a description
+-- the words ask for this job. By a rule the file that they name is there, is no longer than a description
 -- may be, and the rule that they name has a certified description
 pub data AsksFor (words : List (List ℕ)) (files : List ℕ → Option (List ℕ)) (job : LineJob) : Type 0 where
-  asks_show : (file name text : List ℕ) (reading : Reading) (rules : RulesV) (d : DescV) → IsShow words file name reading
-      → files file ≡ Some text → length text ≤ MOST_DESCRIPTION → IsCompiled text name reading rules d
-      → job ≡ showing rules name reading → AsksFor words files job
+  asks_by_rule : (command : RuleCommand) (file name text : List ℕ) (reading : Reading) (rules : RulesV) (d : DescV)
+      → IsAnswer command words file name reading → files file ≡ Some text → length text ≤ MOST_DESCRIPTION
+      → IsCompiled text name reading rules d → job ≡ by_rule command rules name reading → AsksFor words files job
   asks_migrate : IsMigrate words → job ≡ migrating → AsksFor words files job
 
 -- the end of a command that answered all lines, by whether it refused one

@@ -15,13 +15,22 @@ pub struct RuleWords<'a> {
     pub reading: Reading,
 }
 
+/// A command that answers each line of the input by a rule.
+#[derive(Clone, Copy)]
+pub enum RuleCommand {
+    /// Shows blocks as the trees that they have.
+    Show,
+    /// Writes trees as the blocks that have them.
+    Write,
+}
+
 /// A row of the command table, with what its words name.
 #[derive(Clone, Copy)]
 pub enum Command<'a> {
     /// Tells whether the rule has a certified description. The input is not read.
     Check(RuleWords<'a>),
-    /// Shows the blocks of the input by the rule.
-    Show(RuleWords<'a>),
+    /// Answers the lines of the input by the rule.
+    Answer(RuleCommand, RuleWords<'a>),
     /// Writes the old texts of trees in the input as they are written today.
     Migrate,
 }
@@ -87,6 +96,9 @@ pub fn command_of(words: &[String]) -> Option<Command<'_>>
     if let Some(rule) = rule_words("check", words) {
         return Some(Command::Check(rule));
     }
-    let rule = rule_words("show", words)?;
-    Some(Command::Show(rule))
+    if let Some(rule) = rule_words("show", words) {
+        return Some(Command::Answer(RuleCommand::Show, rule));
+    }
+    let rule = rule_words("write", words)?;
+    Some(Command::Answer(RuleCommand::Write, rule))
 }

@@ -1,11 +1,10 @@
 //! From the text of a description to the plan of a rule, or to the line that says why there is none.
 
-ghost use Rattle.std.specs.Prelude.{◌≡◌, ◌≤◌, ◌++◌, ◌∷◌, List, ℕ, IfOk, IfErr, OnOk, length, map};
-ghost use Rattle.std.specs.Fmt.{decimal};
+ghost use Rattle.std.specs.Prelude.{◌≡◌, ◌≤◌, ◌++◌, ◌∷◌, List, ℕ, IfOk, IfErr, OnOk, length};
 ghost use Rattle.csn_grammar.specs.RulesV.{RulesV};
-ghost use Rattle.csn_run.specs.Compiled.{IsCompiled, IsReason, Tells, certified_line, conflict_line, digits_of, spaced};
+ghost use Rattle.csn_run.specs.Compiled.{IsCompiled, IsReason, Tells, certified_line, conflict_line, digits_of};
 
-use crate::answers::push_number;
+use crate::answers::push_numbers;
 use crate::ended::Ended;
 use csn_certify::{CertifyFault, Conflict, Plan, certify};
 use csn_desc::Reading;
@@ -47,17 +46,6 @@ pub fn compile(alloc: Global, text: &[u8], name: &[u8], reading: Reading) -> Res
         Ok(plan) => Ok(plan),
         Err(fault) => Err(NoPlan::Plan(fault)),
     }
-}
-
-/// Writes numbers, with a space before each.
-fn push_numbers(numbers: &[u32], out: &mut Vec<u8>) -> Result<(), AllocError>
-    ensures ok { OnOk result (out.new.items ≡ out.old.items ++ spaced (map decimal numbers.now)) }
-{
-    for number in numbers {
-        out.push(b' ')?;
-        push_number(out, *number)?;
-    }
-    Ok(())
 }
 
 /// Writes a space, and the bits of a word as digits.

@@ -23,6 +23,10 @@ pub(crate) fn known()
     csn_resolve::laws::resolving_keeps_meanings();
     csn_certify::laws::first_conflict_is_one();
     csn_certify::laws::blocks_have_one_tree();
+    csn_encode::laws::one_block();
+    csn_encode::laws::misfits_have_no_bits();
+    csn_encode::laws::first_misfit_is_one();
+    csn_encode::laws::trees_fit_or_miss();
     csn_treetext::laws::texts_are_decided();
     csn_treetext::laws::texts_are_of_one_tree();
     csn_treetext::laws::versions_share_trees();

@@ -2,6 +2,7 @@
 #![tactic(auto)]
 
 mod answers;
+mod by_plan;
 mod command;
 mod compile;
 mod ended;
@@ -13,6 +14,7 @@ mod output;
 mod planned;
 mod show;
 mod top;
+mod write;
 
 pub use ended::Ended;
 pub use top::run;

@@ -1,13 +1,15 @@
 //! One line of `show`: a block line in, its tree or its refusal out.
 
-ghost use Rattle.std.specs.Prelude.{◌≡◌, ◌<◌, ◌++◌, [], List, ℕ, IfOk, IfErr, IsErr, OnOk, OnErr};
+ghost use Rattle.std.specs.Prelude.{◌≡◌, ◌<◌, ◌≤◌, ◌++◌, [], List, ℕ, length, IfOk, IfErr, IsErr, OnOk, OnErr};
 ghost use Rattle.csn_desc.specs.Means.{NMeans};
 ghost use Rattle.csn_treetext.specs.Fits.{Fits};
-ghost use Rattle.csn_run.specs.OutLine.{IsRefusalOf, ShowsBy, fault_text, refusal_text};
+ghost use Rattle.csn_run.specs.declared.command.RuleCommand.{RuleCommand};
+ghost use Rattle.csn_run.specs.declared.lines.TheConstants.{MOST_INPUT};
+ghost use Rattle.csn_run.specs.Lines.{is_refusal};
+ghost use Rattle.csn_run.specs.OutLine.{AnswersBy, IsRefusalOf, fault_text, refusal_text};
 
 use crate::answers::{answer_tree, push_number};
 use crate::laws::known;
-use crate::lines::LineCommand;
 use csn_bits::{Bits, BitsFault};
 use csn_certify::{Plan, Steps};
 use csn_decode::{DecodeFault, Decoder, Fed};
@@ -86,34 +88,34 @@ fn decode<L: Ledger>(
     }
 }
 
-/// The command `show` by a plan.
-#[derive(Drop)]
-pub struct Show<'a> {
-    pub plan: &'a Plan,
-}
-
-impl LineCommand for Show<'_> {
-    // What answers the line for each rule that has the description.
-    ghost answers = { λ s line answer. ShowsBy s.plan.now line answer };
-
-    fn answer(&self, alloc: Global, line: &[u8], out: &mut Vec<u8>) -> Result<bool, AllocError> {
-        known();
-        let bits = match Bits::from_hex_line(alloc, line) {
-            Ok(bits) => bits,
-            Err(fault) => {
-                answer_fault(fault, out)?;
-                return Ok(true);
-            }
-        };
-        match decode::<Brand>(alloc, self.plan, &bits, Blank::new(1)) {
-            Ok(tree) => {
-                answer_tree(alloc, &tree, out)?;
-                Ok(false)
-            }
-            Err(fault) => {
-                answer_no_tree(fault, &bits, out)?;
-                Ok(true)
-            }
+/// Answers a line by the tree of its block.
+pub fn show_line(
+    alloc: Global,
+    plan: &Plan,
+    line: &[u8],
+    out: &mut Vec<u8>,
+) -> Result<bool, AllocError>
+    requires fits { length line.now ≤ MOST_INPUT }
+    ensures ok { IfOk result (λ refused. (answer : List ℕ) × (out.new.items ≡ out.old.items ++ answer)
+        × AnswersBy RuleCommand.Show plan.now line.now answer × (refused ≡ is_refusal answer)) }
+    ensures err { OnErr result ((tail : List ℕ) × (out.new.items ≡ out.old.items ++ tail)) }
+{
+    known();
+    let bits = match Bits::from_hex_line(alloc, line) {
+        Ok(bits) => bits,
+        Err(fault) => {
+            answer_fault(fault, out)?;
+            return Ok(true);
+        }
+    };
+    match decode::<Brand>(alloc, plan, &bits, Blank::new(1)) {
+        Ok(tree) => {
+            answer_tree(alloc, &tree, out)?;
+            Ok(false)
+        }
+        Err(fault) => {
+            answer_no_tree(fault, &bits, out)?;
+            Ok(true)
         }
     }
 }

@@ -11,7 +11,8 @@ ghost use Rattle.csn_run.specs.Outside.{CannotRead, Keeps};
 ghost use Rattle.csn_run.specs.Job.{Asked, JobEnds, end_with};
 ghost use Rattle.csn_run.specs.Result.{BeginsResult, EndsBefore, IsFinished, IsStopped, LineJob, Result, RulesHaveOneTree, StopsReading, end_of};
 
-use crate::command::{Command, RuleWords, command_of};
+use crate::by_plan::ByPlan;
+use crate::command::{Command, RuleCommand, RuleWords, command_of};
 use crate::ended::Ended;
 use crate::fault::Fault;
 use crate::laws::{known, lines_have_one_answer};
@@ -19,7 +20,6 @@ use crate::lines::{LineCommand, Lines};
 use crate::migrate::Migrate;
 use crate::output::{flush, pass_on};
 use crate::planned::{plan_of, refuse, tell_certified};
-use crate::show::Show;
 use csn_io::{Shelf, Sink, Source};
 use std::alloc::Global;
 
@@ -75,9 +75,10 @@ fn check<B: Shelf>(
     tell_certified(&plan, pending)
 }
 
-/// Shows each block of the input by the rule of a file.
-fn show<B: Shelf, S: Source, K: Sink>(
+/// Answers each line of the input by the rule of a file.
+fn answer_by_rule<B: Shelf, S: Source, K: Sink>(
     alloc: Global,
+    command: RuleCommand,
     rule: RuleWords<'_>,
     shelf: &mut B,
     input: &mut S,
@@ -87,13 +88,13 @@ fn show<B: Shelf, S: Source, K: Sink>(
     requires line { lines.old.line.items ≡ [] }
     requires pending { lines.old.pending.items ≡ [] }
     requires refused { lines.old.refused ≡ false }
-    ensures ends { (words : List (List ℕ)) → IsRowOf words (Command.Show rule.entry)
+    ensures ends { (words : List (List ℕ)) → IsRowOf words (Command.Answer command rule.entry)
         → JobEnds words (B.files shelf.old) (S.left input.old) (S.left input.new)
         (K.taken out.old) (K.taken out.new) lines.new.pending.items result }
     ensures read { result ≡ Err Fault.Read → Rose (S.faults input.old) (S.faults input.new)
         ⊎ CannotRead (B.files shelf.old) (B.faults shelf.old) (B.faults shelf.new) (B.last_fault shelf.new) rule.entry.file.now }
     ensures write { result ≡ Err Fault.Write → Rose (K.faults out.old) (K.faults out.new) }
-    ensures touches { (words : List (List ℕ)) → IsRowOf words (Command.Show rule.entry) → (input.new ≡ input.old)
+    ensures touches { (words : List (List ℕ)) → IsRowOf words (Command.Answer command rule.entry) → (input.new ≡ input.old)
         ⊎ ((job : LineJob) × Asked words (B.files shelf.old) job) }
     ensures before_lines { (result ≡ Ok Ended.BadDescription) ⊎ (result ≡ Ok Ended.NotCertified) → input.new ≡ input.old }
     ensures missing { LacksFile (B.files shelf.old) rule.entry.file.now → ((result ≡ Err Fault.Read) ⊎ (result ≡ Err Fault.Memory))
@@ -106,7 +107,11 @@ fn show<B: Shelf, S: Source, K: Sink>(
         Ok(plan) => plan,
         Err(why) => return refuse(why, &mut lines.pending),
     };
-    answer_lines(alloc, &Show { plan: &plan }, input, out, lines)
+    let command = ByPlan {
+        command,
+        plan: &plan,
+    };
+    answer_lines(alloc, &command, input, out, lines)
 }
 
 /// Does the job of a command, up to the answers that wait.
@@ -142,7 +147,9 @@ fn perform<B: Shelf, S: Source, K: Sink>(
 {
     match command {
         Command::Check(rule) => check(alloc, rule, shelf, &mut lines.pending),
-        Command::Show(rule) => show(alloc, rule, shelf, input, out, lines),
+        Command::Answer(command, rule) => {
+            answer_by_rule(alloc, command, rule, shelf, input, out, lines)
+        }
         Command::Migrate => answer_lines(alloc, &Migrate, input, out, lines),
     }
 }

@@ -1,4 +1,5 @@
 use Rattle.std.proofs.Common.{refl, inl, inr}
+use Rattle.csn_run.specs.declared.command.RuleCommand.TheVariants.{Show, Write}
 use Rattle.csn_run.specs.Command.{rule_row}
 use Rattle.csn_run.proofs.command.command_of.Goals as goal
 
@@ -6,4 +7,7 @@ pub returns-in-Some-clause-row : goal.returns-in-Some-clause-row
 returns-in-Some-clause-row c = (λ _. rule_row _ _ _ (inl c.in-Some.ensures.names), λ _. refl)
 
 pub returns-clause-row : goal.returns-clause-row
-returns-clause-row c = (λ _. rule_row _ _ _ (inr c.in_ok-rule.ensures.names), λ _. refl)
+returns-clause-row c = (λ _. rule_row _ _ _ (inr (Write, c.in_ok-rule.ensures.names)), λ _. refl)
+
+pub returns-in-Some-2-clause-row : goal.returns-in-Some-2-clause-row
+returns-in-Some-2-clause-row c = (λ _. rule_row _ _ _ (inr (Show, c.in-Some-2.ensures.names)), λ _. refl)

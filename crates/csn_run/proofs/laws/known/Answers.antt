@@ -31,7 +31,14 @@ returns c =
       of_trees = record {
         decided = c.texts_are_decided-2.ensures.decided;
         one_place = c.texts_are_decided-2.ensures.place;
-        one_tree = c.texts_are_of_one_tree.ensures.before;
+        one_tree = c.texts_are_of_one_tree.ensures.today;
+        one_old_tree = c.texts_are_of_one_tree.ensures.before;
         shared = c.versions_share_trees.ensures;
+      };
+      of_misfits = record {
+        one_block = c.one_block.ensures;
+        no_bits = c.misfits_have_no_bits.ensures;
+        one_misfit = c.first_misfit_is_one.ensures;
+        fit_or_miss = c.trees_fit_or_miss.ensures.some;
       };
     }

@@ -10,11 +10,11 @@ returns-in-Check-clause-ends g c = λ words row. c.check.ensures.ends words (rw 
 pub returns-in-Check-clause-no_file : goal.returns-in-Check-clause-no_file
 returns-in-Check-clause-no_file g c = λ words row none. absurd (none c.in-Check.rule.file.now (c.in-Check.rule.name.now, c.in-Check.rule.reading, inl (rw c.in-Check.is at row)))
 
-pub returns-in-Show-clause-ends : goal.returns-in-Show-clause-ends
-returns-in-Show-clause-ends g c = λ words row. c.show.ensures.ends words (rw c.in-Show.is at row)
+pub returns-in-Answer-clause-ends : goal.returns-in-Answer-clause-ends
+returns-in-Answer-clause-ends g c = λ words row. c.answer_by_rule.ensures.ends words (rw c.in-Answer.is at row)
 
-pub returns-in-Show-clause-no_file : goal.returns-in-Show-clause-no_file
-returns-in-Show-clause-no_file g c = λ words row none. absurd (none c.in-Show.rule.file.now (c.in-Show.rule.name.now, c.in-Show.rule.reading, inr (rw c.in-Show.is at row)))
+pub returns-in-Answer-clause-no_file : goal.returns-in-Answer-clause-no_file
+returns-in-Answer-clause-no_file g c = λ words row none. absurd (none c.in-Answer.rule.file.now (c.in-Answer.rule.name.now, c.in-Answer.rule.reading, inr (c.in-Answer.command, rw c.in-Answer.is at row)))
 
 pub returns-in-Migrate-clause-ends : goal.returns-in-Migrate-clause-ends
 returns-in-Migrate-clause-ends g c = λ words row.

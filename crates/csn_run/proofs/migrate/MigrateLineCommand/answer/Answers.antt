@@ -10,7 +10,7 @@ returns-in_ok-answer_tree-in-Ok-clause-ok c =
     let text = c.in_ok-answer_tree-in-Ok.ensures.ok in
     (codes "ok " ++ text.0, text.2, migrates_tree c.in-Ok.tree text.0 c.in-Ok.ensures.ok text.1 refl, refl)
 
-pub returns-in_ok-answer_fault-in-Err-clause-ok : goal.returns-in_ok-answer_fault-in-Err-clause-ok
-returns-in_ok-answer_fault-in-Err-clause-ok c =
-    let fault = c.in_ok-answer_fault-in-Err.ensures.ok in
+pub returns-in_ok-answer_text_fault-in-Err-clause-ok : goal.returns-in_ok-answer_text_fault-in-Err-clause-ok
+returns-in_ok-answer_text_fault-in-Err-clause-ok c =
+    let fault = c.in_ok-answer_text_fault-in-Err.ensures.ok in
     (codes "bad " ++ decimal fault.0, fault.2, migrates_place fault.0 (subst (IsFaultOf First c.args.line.now) fault.1 c.in-Err.ensures.refused) refl, refl)

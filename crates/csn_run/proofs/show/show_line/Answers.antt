@@ -4,7 +4,7 @@ use Rattle.csn_bits.specs.Fault.{IsLineFault}
 use Rattle.csn_run.specs.OutLine.{fault_text, refusal_text, IsRefusalOf, shows_tree, shows_place, shows_fault}
 use Rattle.csn_run.proofs.ShowLemmas.{fault_refuses}
 use Rattle.csn_run.proofs.ShownLines.{string_of, meant_by, place_of}
-use Rattle.csn_run.proofs.show.ShowLineCommand.answer.Goals as goal
+use Rattle.csn_run.proofs.show.show_line.Goals as goal
 
 pub returns-in-Err-clause-ok : goal.returns-in-Err-clause-ok
 returns-in-Err-clause-ok c =
@@ -33,7 +33,7 @@ returns-in-Ok-decode-clause-ok c =
 pub returns-clause-ok : goal.returns-clause-ok
 returns-clause-ok c =
     let told = c.in_ok-answer_no_tree-in-Err-decode.ensures.ok in
-    let P : DecodeFault → Type 0 = λ f. IsRefusalOf c.args.self.now.plan.now c.in-Ok.bits f in
+    let P : DecodeFault → Type 0 = λ f. IsRefusalOf c.args.plan.now c.in-Ok.bits f in
     let refusal = subst P told.1 c.in-Err-decode.ensures.refused in (
       refusal_text told.0 c.in-Ok.bits,
       told.2,

@@ -1,0 +1,23 @@
+-- Texts of answers, behind what was written before.
+use Rattle.std.proofs.Common.{◌≡◌, ℕ, ◌+◌, ◌<◌, List, [], ◌∷◌, ◌++◌, length, take, Some, slice_get, refl, sym, ◌∙◌, ap, append_assoc, arith}
+use Rattle.std.proofs.lemmas.List.{flat_map_more}
+use Rattle.std.specs.Fmt.{decimal}
+use Rattle.csn_resolve.proofs.Basics.Parts.{take_next}
+use Rattle.csn_run.specs.OutLine.{steps_text, path_text}
+
+-- what stands behind a text that stands behind another stands behind that too
+pub grown : (old between new front back : List ℕ) → between ≡ old ++ front → new ≡ between ++ back → (tail : List ℕ) × (new ≡ old ++ tail)
+grown old between new front back first second = (front ++ back, second ∙ ap (λ l. l ++ back) first ∙ append_assoc old front back)
+
+-- one step more of a way
+pub step_written :
+    (old here between new path : List ℕ) (at step : ℕ) → slice_get path at ≡ Some step → here ≡ old ++ steps_text (take at path)
+    → between ≡ here ++ 47 ∷ [] → new ≡ between ++ decimal step → new ≡ old ++ steps_text (take (at + 1) path)
+step_written old here between new path at step is so_far sign number =
+    number ∙ ap (λ l. l ++ decimal step) sign ∙ append_assoc here (47 ∷ []) (decimal step) ∙ ap (λ l. l ++ 47 ∷ decimal step) so_far
+    ∙ flat_map_more (λ s. 47 ∷ decimal s) old (take at path) step ∙ ap (λ l. old ++ steps_text l) (sym (take_next path at step is))
+
+-- a way that has steps is told by them alone
+pub path_of_steps : (path : List ℕ) → 0 < length path → steps_text path ≡ path_text path
+path_of_steps [] some = absurd (omega (arith, some))
+path_of_steps (step ∷ steps) some = refl

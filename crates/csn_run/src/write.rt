@@ -1,0 +1,149 @@
+//! One line of `write`: the text of a tree in, its block or its first misfit out.
+
+ghost use Rattle.std.specs.Prelude.{◌≡◌, ◌<◌, ◌≤◌, ◌++◌, ◌∷◌, [], List, ℕ, codes, length, IfOk, IfErr, OnOk, OnErr};
+ghost use Rattle.csn_bits.specs.Line.{written};
+ghost use Rattle.csn_encode.specs.declared.misfit.Misfit.{Misfit};
+ghost use Rattle.csn_encode.specs.Encoding.{IsBlockOf, IsFaultOf};
+ghost use Rattle.csn_run.specs.declared.command.RuleCommand.{RuleCommand};
+ghost use Rattle.csn_run.specs.declared.lines.TheConstants.{MOST_INPUT};
+ghost use Rattle.csn_run.specs.Compiled.{line_of};
+ghost use Rattle.csn_run.specs.Lines.{is_refusal};
+ghost use Rattle.csn_run.specs.OutLine.{AnswersBy, misfit_text, path_text, why_text};
+
+use crate::answers::{answer_text_fault, push_number, push_numbers};
+use crate::laws::known;
+use csn_bits::Bits;
+use csn_certify::{Plan, Steps};
+use csn_desc::Tree;
+use csn_encode::{EncodeFault, Misfit, MisfitWhy, Path, encode};
+use csn_treetext::read_tree;
+use std::alloc::{AllocError, Global};
+use std::marker::Brand;
+use std::sync::ledger::{Blank, Ledger};
+
+/// Writes the answer to a tree that has a block.
+fn answer_block(alloc: Global, bits: &Bits, out: &mut Vec<u8>) -> Result<(), AllocError>
+    ensures ok { OnOk result (out.new.items ≡ out.old.items ++ (codes "ok " ++ written bits.now)) }
+    ensures err { OnErr result ((tail : List ℕ) × (out.new.items ≡ out.old.items ++ tail)) }
+{
+    let Ok(line) = bits.to_hex_line(alloc) else {
+        return Err(AllocError);
+    };
+    out.extend_from_slice(b"ok ")?;
+    out.extend_from_slice(&line)
+}
+
+/// Writes the way to the tree that misses.
+fn push_path(path: &Path, out: &mut Vec<u8>) -> Result<(), AllocError>
+    ensures ok { OnOk result (out.new.items ≡ out.old.items ++ path_text path.now) }
+    ensures err { OnErr result ((tail : List ℕ) × (out.new.items ≡ out.old.items ++ tail)) }
+{
+    if path.len() == 0 {
+        return Ok(out.push(b'/')?);
+    }
+    for at in 0..path.len() {
+        out.push(b'/')?;
+        push_number(out, path.get(at))?;
+    }
+    Ok(())
+}
+
+/// Writes the name of a reason, and behind it what was wanted and what was found.
+fn push_counted(name: &[u8], wanted: u32, found: u32, out: &mut Vec<u8>) -> Result<(), AllocError>
+    ensures ok { OnOk result (out.new.items ≡ out.old.items ++ line_of name.now (wanted ∷ found ∷ [])) }
+    ensures err { OnErr result ((tail : List ℕ) × (out.new.items ≡ out.old.items ++ tail)) }
+{
+    out.extend_from_slice(name)?;
+    push_numbers(&[wanted, found], out)
+}
+
+/// Writes why a tree misses.
+fn push_why(why: MisfitWhy, out: &mut Vec<u8>) -> Result<(), AllocError>
+    ensures ok { OnOk result (out.new.items ≡ out.old.items ++ why_text why) }
+    ensures err { OnErr result ((tail : List ℕ) × (out.new.items ≡ out.old.items ++ tail)) }
+{
+    match why {
+        MisfitWhy::WrongKind => out.extend_from_slice(b"WrongKind"),
+        MisfitWhy::WrongLabel => out.extend_from_slice(b"WrongLabel"),
+        MisfitWhy::WrongCount { wanted, found } => push_counted(b"WrongCount", wanted, found, out),
+        MisfitWhy::WrongWidth { wanted, found } => push_counted(b"WrongWidth", wanted, found, out),
+        MisfitWhy::WrongSpare => out.extend_from_slice(b"WrongSpare"),
+        MisfitWhy::NoSuchAlternative => out.extend_from_slice(b"NoSuchAlternative"),
+        MisfitWhy::WindowLength { wanted, found } => {
+            push_counted(b"WindowLength", wanted, found, out)
+        }
+        MisfitWhy::TooManyBits => out.extend_from_slice(b"TooManyBits"),
+    }
+}
+
+/// Writes where a tree misses, and why.
+fn answer_misfit(misfit: &Misfit, out: &mut Vec<u8>) -> Result<(), AllocError>
+    ensures ok { OnOk result (out.new.items ≡ out.old.items ++ misfit_text misfit.now.path misfit.now.why) }
+    ensures err { OnErr result ((tail : List ℕ) × (out.new.items ≡ out.old.items ++ tail)) }
+{
+    out.extend_from_slice(b"no ")?;
+    push_path(&misfit.path, out)?;
+    out.push(b' ')?;
+    push_why(misfit.why, out)
+}
+
+/// Writes the answer to a tree that no block has.
+fn answer_no_block(fault: EncodeFault, out: &mut Vec<u8>) -> Result<(), AllocError>
+    ensures ok { OnOk result ((misfit : Misfit) × (fault ≡ EncodeFault.Misfit misfit)
+        × (out.new.items ≡ out.old.items ++ misfit_text misfit.path misfit.why)) }
+    ensures err { OnErr result ((tail : List ℕ) × (out.new.items ≡ out.old.items ++ tail)) }
+{
+    match fault {
+        EncodeFault::Misfit(misfit) => answer_misfit(&misfit, out),
+        EncodeFault::NoMemory => Err(AllocError),
+    }
+}
+
+/// The block that has a tree, or its first misfit; with a counter of steps.
+fn block_of<L: Ledger>(
+    alloc: Global,
+    plan: &Plan,
+    tree: &Tree,
+    blank: Blank,
+) -> Result<Bits, EncodeFault>
+    requires name { blank.name ≡ L.name }
+    requires parts { blank.parts ≡ L.parts }
+    requires some { 0 < blank.parts }
+    ensures block { IfOk result (IsBlockOf plan.now tree.now) }
+    ensures misfit { IfErr result (IsFaultOf plan.now tree.now) }
+{
+    let mut steps = Steps::<L>::new(blank);
+    encode(alloc, plan, tree, &mut steps)
+}
+
+/// Answers a line by the block of its tree.
+pub fn write_line(
+    alloc: Global,
+    plan: &Plan,
+    line: &[u8],
+    out: &mut Vec<u8>,
+) -> Result<bool, AllocError>
+    requires fits { length line.now ≤ MOST_INPUT }
+    ensures ok { IfOk result (λ refused. (answer : List ℕ) × (out.new.items ≡ out.old.items ++ answer)
+        × AnswersBy RuleCommand.Write plan.now line.now answer × (refused ≡ is_refusal answer)) }
+    ensures err { OnErr result ((tail : List ℕ) × (out.new.items ≡ out.old.items ++ tail)) }
+{
+    known();
+    let tree = match read_tree(alloc, line) {
+        Ok(tree) => tree,
+        Err(fault) => {
+            answer_text_fault(fault, out)?;
+            return Ok(true);
+        }
+    };
+    match block_of::<Brand>(alloc, plan, &tree, Blank::new(1)) {
+        Ok(bits) => {
+            answer_block(alloc, &bits, out)?;
+            Ok(false)
+        }
+        Err(fault) => {
+            answer_no_block(fault, out)?;
+            Ok(true)
+        }
+    }
+}
