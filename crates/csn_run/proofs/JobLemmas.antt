@@ -25,7 +25,7 @@ use Rattle.csn_run.specs.declared.fault.Fault.TheVariants.{Read, Write, Memory, 
 use Rattle.csn_run.specs.declared.planned.Unplanned.{Unplanned}
 use Rattle.csn_run.specs.declared.planned.Unplanned.TheVariants.{File, Text}
 use Rattle.csn_run.specs.Lines.{answered}
-use Rattle.csn_run.specs.Progress.{Answers, AnswersAll, StopsAfter, StopsWithin, StopsBy, Stops}
+use Rattle.csn_run.specs.Progress.{Answers, AnswersAll, KeepsUp, StopsAfter, StopsWithin, StopsBy, Stops}
 use Rattle.csn_run.specs.declared.command.RuleCommand.{RuleCommand}
 use Rattle.csn_run.specs.Command.{IsCheck, IsAnswer, IsMigrate, IsOverRule}
 use Rattle.csn_run.specs.Compiled.{HasNoPlan, no_rules, rules_refused, not_certified, IsReason, Tells, certified_line}
@@ -45,11 +45,14 @@ module _ (A B : List ℕ → List ℕ → Type 0) (w : (line answer : List ℕ) 
   answers_weaker : {pieces : List (List ℕ)} {text : List ℕ} {refused : Bool} → Answers A pieces text refused → Answers B pieces text refused
   answers_weaker {pieces} a = record { answers = a.answers; each = AllZip-weaker A B w (answered pieces) a.answers a.each; text_is = a.text_is; refused_is = a.refused_is }
 
-  pub all_weaker : {left left' taken taken' : Option (List ℕ)} {waits : List ℕ} {refused : Bool} → AnswersAll A left left' taken taken' waits refused → AnswersAll B left left' taken taken' waits refused
-  all_weaker a = record { given = a.given; took = a.took; source = a.source; nothing_left = a.nothing_left; fits = a.fits; sink = a.sink; answers = answers_weaker a.answers }
-
   after_weaker : {input text : List ℕ} → StopsAfter A input text → StopsAfter B input text
   after_weaker a = record { ended = a.ended; line = a.line; refused = a.refused; ends = a.ends; answers = answers_weaker a.answers }
+
+  keeps_up_weaker : {given text : List ℕ} → KeepsUp A given text → KeepsUp B given text
+  keeps_up_weaker a = record { before = a.before; piece = a.piece; front = a.front; rest = a.rest; given_is = a.given_is; short = a.short; stopped = after_weaker a.stopped; text_is = a.text_is }
+
+  pub all_weaker : {left left' taken taken' : Option (List ℕ)} {waits : List ℕ} {refused : Bool} → AnswersAll A left left' taken taken' waits refused → AnswersAll B left left' taken taken' waits refused
+  all_weaker a = record { given = a.given; took = a.took; source = a.source; nothing_left = a.nothing_left; fits = a.fits; sink = a.sink; keeps_up = keeps_up_weaker a.keeps_up; answers = answers_weaker a.answers }
 
   within_weaker : {input text : List ℕ} → StopsWithin A input text → StopsWithin B input text
   within_weaker a = record { ended = a.ended; whole_text = a.whole_text; rest = a.rest; refused = a.refused; begins = a.begins; answers = answers_weaker a.answers; text_begins = a.text_begins }
@@ -61,7 +64,7 @@ module _ (A B : List ℕ → List ℕ → Type 0) (w : (line answer : List ℕ) 
   by_weaker TooLong given text h = (h.0, after_weaker h.1)
 
   pub stops_weaker : {left left' taken taken' : Option (List ℕ)} {waits : List ℕ} (fault : Fault) → Stops A fault left left' taken taken' waits → Stops B fault left left' taken taken' waits
-  stops_weaker fault s = record { given = s.given; took = s.took; source = s.source; few = s.few; sink = s.sink; by = by_weaker fault s.given _ s.by }
+  stops_weaker fault s = record { given = s.given; took = s.took; source = s.source; few = s.few; sink = s.sink; keeps_up = keeps_up_weaker s.keeps_up; by = by_weaker fault s.given _ s.by }
 
 -- ---- what the words ask for over told files
 

@@ -4,6 +4,7 @@ pub mod JobLemmas
 pub mod LinesLemmas
 pub mod OutsideLemmas
 pub mod ProgressLemmas
+pub mod Prompt
 pub mod ResultLemmas
 pub mod ShowLemmas
 pub mod StandingLemmas

@@ -1,13 +1,13 @@
 -- What a job over the lines of an input has done when it goes on, ends or stops.
-use Rattle.std.proofs.Common.{◌≡◌, ℕ, ◌+◌, ◌-◌, ◌<◌, ◌≤◌, ◌⊎◌, inl, inr, Bool, ◌||◌, Option, List, [], ◌∷◌, ◌++◌, length, take, sym, ◌∙◌, ap, subst, arith, append_assoc, length-append}
+use Rattle.std.proofs.Common.{◌≡◌, ℕ, ◌+◌, ◌-◌, ◌<◌, ◌≤◌, ◌⊎◌, inl, inr, Bool, ◌||◌, Option, List, [], ◌∷◌, ◌++◌, length, take, refl, sym, ◌∙◌, ap, subst, arith, append_assoc, length-append}
 use Rattle.std.proofs.lemmas.List.{append-nil, take_all}
 use Rattle.std.proofs.Math.Seq.{take-append-add}
 use Rattle.csn_io.specs.Got.{Gave, NothingLeft}
 use Rattle.csn_run.specs.declared.fault.Fault.{Fault}
 use Rattle.csn_run.specs.declared.fault.Fault.TheVariants.{Read, Write, Memory, TooLong}
-use Rattle.csn_run.specs.declared.lines.TheConstants.{MOST_INPUT}
+use Rattle.csn_run.specs.declared.lines.TheConstants.{MOST_INPUT, PIECE}
 use Rattle.csn_run.specs.Lines.{between_feeds}
-use Rattle.csn_run.specs.Progress.{Answers, AddsAnswers, EndsIn, Advances, PassesOn, HaltsAt, AnswersAll, StopsWithin, StopsBy, Stops}
+use Rattle.csn_run.specs.Progress.{Answers, AddsAnswers, EndsIn, Advances, PassesOn, HaltsAt, AnswersAll, KeepsUp, StopsWithin, StopsBy, Stops}
 use Rattle.csn_run.proofs.LinesLemmas.{between_feeds-one}
 use Rattle.csn_io.proofs.Told.{appended_more, gave_more}
 use Rattle.csn_run.proofs.ProgressLemmas.{adds_more, advances_more, Standing}
@@ -22,9 +22,28 @@ pub stops_by_within : (Answer : List ℕ → List ℕ → Type 0) (fault : Fault
 stops_by_within Answer fault given text cause h =
     elim cause [ inl e ↦ subst (λ f. StopsBy Answer f given text) (sym e) h | inr e ↦ subst (λ f. StopsBy Answer f given text) (sym e) h ]
 
+-- a job that goes on by a piece keeps no answer back
+pub standing_keeps_up : {Answer : List ℕ → List ℕ → Type 0} {left left' taken taken' : Option (List ℕ)} {line waits : List ℕ} {r : Bool} {room : ℕ} (st : Standing Answer left left' taken taken' line waits r room) (piece more : List ℕ) → length piece ≤ PIECE → KeepsUp Answer (st.given ++ piece) (st.took ++ more)
+standing_keeps_up {Answer} {line = line} {r = r} st piece more short = record {
+  before = st.given;
+  piece = piece;
+  front = st.took;
+  rest = more;
+  given_is = refl;
+  short = short;
+  stopped = record { ended = st.advances.ended; line = line; refused = r; ends = st.advances.ends; answers = answers_of Answer _ _ _ st.advances.adds };
+  text_is = refl;
+}
+
+-- and so where it stands
+pub stands_keeping_up : {Answer : List ℕ → List ℕ → Type 0} {left left' taken taken' : Option (List ℕ)} {line waits : List ℕ} {r : Bool} {room : ℕ} (st : Standing Answer left left' taken taken' line waits r room) → KeepsUp Answer st.given st.took
+stands_keeping_up {Answer} st =
+    let P : List ℕ → List ℕ → Type 0 = λ given took. KeepsUp Answer given took in
+    subst (λ (g : List ℕ). P g st.took) (append-nil st.given) (subst (λ (t : List ℕ). P (st.given ++ []) t) (append-nil st.took) (standing_keeps_up st [] [] (omega arith)))
+
 -- a job stops in a piece of which it went through `fed`
-pub stops_halted : (Answer : List ℕ → List ℕ → Type 0) (fault : Fault) (left left' left'' taken taken' taken'' : Option (List ℕ)) (line waits waits' piece fed past : List ℕ) (r : Bool) (room : ℕ) → Standing Answer left left' taken taken' line waits r room → Gave left' left'' piece → piece ≡ fed ++ past → length fed < room → length piece ≤ room → HaltsAt Answer (line ++ fed) taken' taken'' waits' → (fault ≡ Write) ⊎ (fault ≡ Memory) → Stops Answer fault left left'' taken taken'' waits'
-stops_halted Answer fault left left' left'' taken taken' taken'' line waits waits' piece fed past r room st gave is few within h cause =
+pub stops_halted : (Answer : List ℕ → List ℕ → Type 0) (fault : Fault) (left left' left'' taken taken' taken'' : Option (List ℕ)) (line waits waits' piece fed past : List ℕ) (r : Bool) (room : ℕ) → Standing Answer left left' taken taken' line waits r room → Gave left' left'' piece → piece ≡ fed ++ past → length fed < room → length piece ≤ room → length piece ≤ PIECE → HaltsAt Answer (line ++ fed) taken' taken'' waits' → (fault ≡ Write) ⊎ (fault ≡ Memory) → Stops Answer fault left left'' taken taken'' waits'
+stops_halted Answer fault left left' left'' taken taken' taken'' line waits waits' piece fed past r room st gave is few within short h cause =
     let front : List ℕ = st.given ++ fed in
     let fits : length front ≤ MOST_INPUT = omega (arith, st.room_is, length-append st.given fed) in
     let longer = take_longer MOST_INPUT front past fits in
@@ -35,6 +54,7 @@ stops_halted Answer fault left left' left'' taken taken' taken'' line waits wait
       source = gave_more _ _ _ _ _ st.source gave;
       few = omega (arith, st.room_is, within, length-append st.given piece);
       sink = appended_more _ _ _ _ _ st.sink h.sink;
+      keeps_up = standing_keeps_up st piece h.took short;
       by = stops_by_within Answer fault _ _ cause (within_longer Answer (take MOST_INPUT (st.given ++ piece)) front longer.0 _ whole (record {
         ended = st.advances.ended ++ h.halts.ended;
         whole_text = st.took ++ h.text;
@@ -69,6 +89,7 @@ stops_read Answer left left' left'' taken taken' line waits r room st stays = re
   source = subst (λ (o : Option (List ℕ)). Gave left o st.given) (sym stays) st.source;
   few = omega (arith, standing_fits st);
   sink = st.sink;
+  keeps_up = stands_keeping_up st;
   by = (
     standing_fits st,
     record {
@@ -89,6 +110,7 @@ stops_last Answer left left' left'' taken taken' line waits waits' r room st sta
   source = subst (λ (o : Option (List ℕ)). Gave left o st.given) (sym stays) st.source;
   few = omega (arith, standing_fits st);
   sink = st.sink;
+  keeps_up = stands_keeping_up st;
   by = subst (λ (l : List ℕ). StopsWithin Answer l (st.took ++ waits')) (sym (take_all MOST_INPUT st.given (standing_fits st))) (record {
     ended = st.advances.ended;
     whole_text = st.took;
@@ -109,6 +131,7 @@ answers_last Answer left left' left'' taken taken' line waits waits' r s t room 
   nothing_left = subst NothingLeft (sym stays) nothing;
   fits = omega (arith, st.some_room, st.room_is);
   sink = st.sink;
+  keeps_up = stands_keeping_up st;
   answers = subst (λ b. Answers Answer (between_feeds st.given) (st.took ++ waits') b) (sym refusal) (
       subst (λ ls. Answers Answer ls (st.took ++ waits') (r || s)) (sym pieces) (answers_of Answer _ _ _ (adds_more Answer st.advances.ended (line ∷ []) [] st.took (st.took ++ waits') r s st.advances.adds (shift adds))));
 }
@@ -134,13 +157,14 @@ standing_more Answer left left' left'' taken taken' taken'' line line' waits wai
 }
 
 -- a job goes through a piece but for its last byte, which is past the limit
-pub stops_too_long : (Answer : List ℕ → List ℕ → Type 0) (left left' left'' taken taken' taken'' : Option (List ℕ)) (line line' waits waits' piece fed past : List ℕ) (r s : Bool) (room : ℕ) → Standing Answer left left' taken taken' line waits r room → Gave left' left'' piece → piece ≡ fed ++ past → length fed + 1 ≡ room → length past ≡ 1 → PassesOn Answer (line ++ fed) line' taken' taken'' r s → waits' ≡ [] → Stops Answer TooLong left left'' taken taken'' waits'
-stops_too_long Answer left left' left'' taken taken' taken'' line line' waits waits' piece fed past r s room st gave is len one passes none = record {
+pub stops_too_long : (Answer : List ℕ → List ℕ → Type 0) (left left' left'' taken taken' taken'' : Option (List ℕ)) (line line' waits waits' piece fed past : List ℕ) (r s : Bool) (room : ℕ) → Standing Answer left left' taken taken' line waits r room → Gave left' left'' piece → piece ≡ fed ++ past → length fed + 1 ≡ room → length past ≡ 1 → length piece ≤ PIECE → PassesOn Answer (line ++ fed) line' taken' taken'' r s → waits' ≡ [] → Stops Answer TooLong left left'' taken taken'' waits'
+stops_too_long Answer left left' left'' taken taken' taken'' line line' waits waits' piece fed past r s room st gave is len one short_piece passes none = record {
   given = st.given ++ piece;
   took = st.took ++ passes.text;
   source = gave_more _ _ _ _ _ st.source gave;
   few = omega (arith, st.room_is, len, one, length-append st.given piece, ap length is, length-append fed past);
   sink = appended_more _ _ _ _ _ st.sink passes.sink;
+  keeps_up = standing_keeps_up st piece passes.text short_piece;
   by = (
     omega (arith, st.room_is, length-append st.given piece, ap length is, length-append fed past),
     record {

@@ -1,7 +1,9 @@
 -- What the top call tells of the outside. (This project's own choice.)
-use Rattle.std.specs.Prelude.{◌≡◌, ◌≤◌, ◌⊎◌, ℕ, List, Option, Some}
+use Rattle.std.specs.Prelude.{◌≡◌, ◌≤◌, ◌⊎◌, ℕ, List, Option, Some, Result, Vec}
+use Rattle.std.specs.declared.alloc.Global.{Global}
 use Rattle.csn_io.specs.Faults.{Rose}
 use Rattle.csn_io.specs.ShelfFault.{LacksFile}
+use Rattle.csn_io.specs.declared.shelf.ShelfFault.{ShelfFault}
 
 -- what holds of an object of the outside over any calls, where `before` and `after` are its counts of faults: the count
 -- does not fall; where no call fails any more that stays so, and the count stands still; and it stands still where the
@@ -14,3 +16,8 @@ Keeps was_steady is_steady before after to_blame =
 -- shelf tells its files and does not hold it
 abbrev pub CannotRead : Option (List ℕ → Option (List ℕ)) → ℕ → ℕ → Option (List ℕ) → List ℕ → Type 0
 CannotRead files before after last_fault name = (Rose before after × (last_fault ≡ Some name)) ⊎ LacksFile files name
+
+-- a shelf that comes of one call, with some answer, where `gives` is what its form promises of a call that asks for a
+-- file
+abbrev pub LeftByFetch : {Shelf : Type 0} → (Result (Vec ℕ Global) ShelfFault → Shelf → Type 0) → Shelf → Type 0
+LeftByFetch gives after = (answer : Result (Vec ℕ Global) ShelfFault) × gives answer after

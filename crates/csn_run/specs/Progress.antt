@@ -5,7 +5,7 @@ use Rattle.csn_io.specs.Got.{Gave, NothingLeft}
 use Rattle.csn_io.specs.Put.{Appended}
 use Rattle.csn_run.specs.declared.fault.Fault.{Fault}
 use Rattle.csn_run.specs.declared.fault.Fault.TheVariants.{Read, Write, Memory, TooLong}
-use Rattle.csn_run.specs.declared.lines.TheConstants.{MOST_INPUT}
+use Rattle.csn_run.specs.declared.lines.TheConstants.{MOST_INPUT, PIECE}
 use Rattle.csn_run.specs.Lines.{between_feeds, HasNoFeed, answered, text_of, is_refusal}
 
 -- the text answers these pieces of an input, and `refused` says whether some answer is a refusal
@@ -59,6 +59,26 @@ pub record HaltsAt (Answer : List ℕ → List ℕ → Type 0) (bytes : List ℕ
   pub sink : Appended taken taken' took
   pub text_begins : text ≡ (took ++ waits) ++ rest
 
+-- a job stopped where these lines of the input had ended: each is answered, and nothing else
+pub record StopsAfter (Answer : List ℕ → List ℕ → Type 0) (input : List ℕ) (text : List ℕ) : Type 0 where
+  pub ended : List (List ℕ)
+  pub line : List ℕ
+  pub refused : Bool
+  pub ends : EndsIn input ended line
+  pub answers : Answers Answer ended text refused
+
+-- no answer is kept back: the text begins with the answers to the lines that had ended before the last piece of what the
+-- source gave
+pub record KeepsUp (Answer : List ℕ → List ℕ → Type 0) (given text : List ℕ) : Type 0 where
+  pub before : List ℕ
+  pub piece : List ℕ
+  pub front : List ℕ
+  pub rest : List ℕ
+  pub given_is : given ≡ before ++ piece
+  pub short : length piece ≤ PIECE
+  pub stopped : StopsAfter Answer before front
+  pub text_is : text ≡ front ++ rest
+
 -- all lines of an input are answered: what the source gave until nothing was left, `gave`, is the
 -- whole input, and what the sink took, with what waits for it, is the text that answers it
 pub record AnswersAll (Answer : List ℕ → List ℕ → Type 0) (left left' : Option (List ℕ)) (taken taken' : Option (List ℕ)) (waits : List ℕ) (refused : Bool) : Type 0 where
@@ -68,15 +88,8 @@ pub record AnswersAll (Answer : List ℕ → List ℕ → Type 0) (left left' : 
   pub nothing_left : NothingLeft left'
   pub fits : length given ≤ MOST_INPUT
   pub sink : Appended taken taken' took
+  pub keeps_up : KeepsUp Answer given took
   pub answers : Answers Answer (between_feeds given) (took ++ waits) refused
-
--- a job stopped where these lines of the input had ended: each is answered, and nothing else
-pub record StopsAfter (Answer : List ℕ → List ℕ → Type 0) (input : List ℕ) (text : List ℕ) : Type 0 where
-  pub ended : List (List ℕ)
-  pub line : List ℕ
-  pub refused : Bool
-  pub ends : EndsIn input ended line
-  pub answers : Answers Answer ended text refused
 
 -- a job stopped somewhere in the input: what was written begins the answers to some of the first
 -- lines
@@ -104,4 +117,5 @@ pub record Stops (Answer : List ℕ → List ℕ → Type 0) (fault : Fault) (le
   pub source : Gave left left' given
   pub few : length given ≤ MOST_INPUT + 1
   pub sink : Appended taken taken' took
+  pub keeps_up : KeepsUp Answer given took
   pub by : StopsBy Answer fault given (took ++ waits)

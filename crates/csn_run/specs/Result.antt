@@ -17,7 +17,7 @@ use Rattle.csn_run.specs.Command.{IsCheck, IsAnswer, IsMigrate, IsOverRule}
 use Rattle.csn_run.specs.Compiled.{IsCompiled, HasNoPlan, certified_line}
 use Rattle.csn_run.specs.Lines.{between_feeds}
 use Rattle.csn_run.specs.OutLine.{AnswersByRule, MigratesLine}
-use Rattle.csn_run.specs.Progress.{Answers, EndsIn, StopsAfter}
+use Rattle.csn_run.specs.Progress.{Answers, EndsIn, KeepsUp, StopsAfter}
 
 -- the jobs that answer the lines of the input: a command by a rule of some rules, and `migrate`
 pub data LineJob : Type 0 where
@@ -109,6 +109,13 @@ pub data StopsReading (words : List (List ℕ)) (files : List ℕ → Option (Li
   before_reading : left ≡ Some input → written ≡ [] → StopsReading words files input left written
   while_reading : (given rest : List ℕ) → input ≡ given ++ rest → left ≡ Some rest
       → AnswersGiven words files given written → StopsReading words files input left written
+
+-- a run that keeps no answer back, however it ended: nothing of the input was read, or what is written begins with the
+-- answers to the lines that had ended before the last piece of what the source gave
+pub data AnswersPromptly (words : List (List ℕ)) (files : List ℕ → Option (List ℕ)) (input : List ℕ) (left : Option (List ℕ)) (written : List ℕ) : Type 0 where
+  nothing_read : left ≡ Some input → AnswersPromptly words files input left written
+  some_read : (given rest : List ℕ) (job : LineJob) → input ≡ given ++ rest → left ≡ Some rest
+      → AsksFor words files job → KeepsUp (AnswersLine job) given written → AnswersPromptly words files input left written
 
 -- by the rule that the words name, in the text of the file that is there, bits of any length have at most one tree
 abbrev pub RulesHaveOneTree : List (List ℕ) → (List ℕ → Option (List ℕ)) → Type 0

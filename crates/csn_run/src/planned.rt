@@ -6,7 +6,7 @@ ghost use Rattle.csn_run.specs.declared.compile.TheConstants.{MOST_DESCRIPTION};
 ghost use Rattle.csn_run.specs.declared.lines.TheConstants.{LINE_FEED};
 ghost use Rattle.csn_run.specs.Compiled.{Tells, certified_line};
 ghost use Rattle.csn_run.specs.Job.{IsDescription};
-ghost use Rattle.csn_run.specs.Outside.{CannotRead, Keeps};
+ghost use Rattle.csn_run.specs.Outside.{CannotRead, Keeps, LeftByFetch};
 ghost use Rattle.csn_run.specs.Planned.{IsPlanned, IsWhy, Refuses};
 
 use crate::command::RuleWords;
@@ -36,6 +36,7 @@ fn description<B: Shelf>(alloc: Global, shelf: &mut B, file: &str) -> Result<Vec
         → (front : List ℕ) × BeginsFile (B.files shelf.old) file.now (MOST_DESCRIPTION + 1) front × (MOST_DESCRIPTION < length front) }
     ensures not_write { result ≢ Err Fault.Write }
     ensures missing { LacksFile (B.files shelf.old) file.now → (result ≡ Err Fault.Read) ⊎ (result ≡ Err Fault.Memory) }
+    ensures fetched { LeftByFetch (B.fetch_gives shelf.old file.now) shelf.new }
     ensures shelf { Keeps (B.steady shelf.old) (B.steady shelf.new) (B.faults shelf.old) (B.faults shelf.new) (result ≡ Err Fault.Read) }
 {
     match shelf.fetch(alloc, file, MOST_DESCRIPTION + 1) {
@@ -59,6 +60,7 @@ pub fn plan_of<B: Shelf>(
         → CannotRead (B.files shelf.old) (B.faults shelf.old) (B.faults shelf.new) (B.last_fault shelf.new) rule.entry.file.now }
     ensures missing { LacksFile (B.files shelf.old) rule.entry.file.now
         → (result ≡ Err (Unplanned.File Fault.Read)) ⊎ (result ≡ Err (Unplanned.File Fault.Memory)) }
+    ensures fetched { LeftByFetch (B.fetch_gives shelf.old rule.entry.file.now) shelf.new }
     ensures shelf { Keeps (B.steady shelf.old) (B.steady shelf.new) (B.faults shelf.old) (B.faults shelf.new) (result ≡ Err (Unplanned.File Fault.Read)) }
 {
     let text = match description(alloc, shelf, rule.file) {

@@ -7,9 +7,9 @@ ghost use Rattle.csn_io.specs.ShelfFault.{LacksFile};
 ghost use Rattle.csn_run.specs.declared.lines.TheConstants.{LINE_FEED, MOST_INPUT};
 ghost use Rattle.csn_run.specs.Command.{IsCheck, IsCommand, IsRowOf, NamesFile, ReadsLines};
 ghost use Rattle.csn_run.specs.Progress.{AnswersAll, Stops};
-ghost use Rattle.csn_run.specs.Outside.{CannotRead, Keeps};
+ghost use Rattle.csn_run.specs.Outside.{CannotRead, Keeps, LeftByFetch};
 ghost use Rattle.csn_run.specs.Job.{Asked, JobEnds, end_with};
-ghost use Rattle.csn_run.specs.Result.{BeginsResult, EndsBefore, IsFinished, IsStopped, LineJob, Result, RulesHaveOneTree, StopsReading, end_of};
+ghost use Rattle.csn_run.specs.Result.{AnswersPromptly, BeginsResult, EndsBefore, IsFinished, IsStopped, LineJob, Result, RulesHaveOneTree, StopsReading, end_of};
 
 use crate::by_plan::ByPlan;
 use crate::command::{Command, RuleCommand, RuleWords, command_of};
@@ -66,6 +66,7 @@ fn check<B: Shelf>(
     ensures not_write { result ≢ Err Fault.Write }
     ensures missing { LacksFile (B.files shelf.old) rule.entry.file.now → ((result ≡ Err Fault.Read) ⊎ (result ≡ Err Fault.Memory))
         × (pending.new.items ≡ []) }
+    ensures fetched { LeftByFetch (B.fetch_gives shelf.old rule.entry.file.now) shelf.new }
     ensures shelf { Keeps (B.steady shelf.old) (B.steady shelf.new) (B.faults shelf.old) (B.faults shelf.new) (result ≡ Err Fault.Read) }
 {
     let plan = match plan_of(alloc, shelf, rule) {
@@ -99,6 +100,7 @@ fn answer_by_rule<B: Shelf, S: Source, K: Sink>(
     ensures before_lines { (result ≡ Ok Ended.BadDescription) ⊎ (result ≡ Ok Ended.NotCertified) → input.new ≡ input.old }
     ensures missing { LacksFile (B.files shelf.old) rule.entry.file.now → ((result ≡ Err Fault.Read) ⊎ (result ≡ Err Fault.Memory))
         × (input.new ≡ input.old) × (out.new ≡ out.old) × (lines.new.pending.items ≡ []) }
+    ensures fetched { LeftByFetch (B.fetch_gives shelf.old rule.entry.file.now) shelf.new }
     ensures shelf { Keeps (B.steady shelf.old) (B.steady shelf.new) (B.faults shelf.old) (B.faults shelf.new) (result ≡ Err Fault.Read) }
     ensures input { Keeps (S.steady input.old) (S.steady input.new) (S.faults input.old) (S.faults input.new) (result ≡ Err Fault.Read) }
     ensures out { Keeps (K.steady out.old) (K.steady out.new) (K.faults out.old) (K.faults out.new) (result ≡ Err Fault.Write) }
@@ -138,6 +140,8 @@ fn perform<B: Shelf, S: Source, K: Sink>(
     ensures before_lines { (result ≡ Ok Ended.BadDescription) ⊎ (result ≡ Ok Ended.NotCertified) → input.new ≡ input.old }
     ensures no_file { (words : List (List ℕ)) → IsRowOf words command.entry
         → ((file : List ℕ) → NamesFile words file → ⊥) → shelf.new ≡ shelf.old }
+    ensures fetched { (words : List (List ℕ)) (file : List ℕ) → IsRowOf words command.entry → NamesFile words file
+        → LeftByFetch (B.fetch_gives shelf.old file) shelf.new }
     ensures missing { (words : List (List ℕ)) (file : List ℕ) → IsRowOf words command.entry → NamesFile words file
         → LacksFile (B.files shelf.old) file → ((result ≡ Err Fault.Read) ⊎ (result ≡ Err Fault.Memory))
         × (input.new ≡ input.old) × (out.new ≡ out.old) × (lines.new.pending.items ≡ []) }
@@ -211,6 +215,13 @@ pub fn run<B: Shelf, S: Source, K: Sink>(
         → (written : List ℕ) × (K.taken out.new ≡ Some (before ++ written))
         × StopsReading (map string_bytes words.now) files whole (S.left input.new) written }
 
+    // No answer is kept back: those to the lines that had ended before the last piece which the source gave, of at most
+    // 4,096 bytes, are written. So nothing more is read behind a fault of the sink.
+    ensures prompt { result ≢ Ended.Usage → (files : List ℕ → Option (List ℕ)) (whole before : List ℕ)
+        → B.files shelf.old ≡ Some files → S.left input.old ≡ Some whole → K.taken out.old ≡ Some before
+        → (written : List ℕ) × (K.taken out.new ≡ Some (before ++ written))
+        × AnswersPromptly (map string_bytes words.now) files whole (S.left input.new) written }
+
     // What is left of the input. Where a run comes to no line, the source and its count are left alone, also after a
     // fault.
     ensures input_read { (result ≡ Ended.Done) ⊎ (result ≡ Ended.SomeRefused) → ReadsLines (map string_bytes words.now)
@@ -222,8 +233,11 @@ pub fn run<B: Shelf, S: Source, K: Sink>(
     ensures bounded { (whole rest : List ℕ) → S.left input.old ≡ Some whole → S.left input.new ≡ Some rest
         → length whole ≤ length rest + MOST_INPUT + 1 }
 
-    // A command that names no file leaves the shelf alone.
+    // A command that names no file leaves the shelf alone. Of one that names a file, it is as one call for this file
+    // leaves it: no other file is fetched, and none twice.
     ensures no_file { ((file : List ℕ) → NamesFile (map string_bytes words.now) file → ⊥) → shelf.new ≡ shelf.old }
+    ensures fetched { (file : List ℕ) → NamesFile (map string_bytes words.now) file
+        → LeftByFetch (B.fetch_gives shelf.old file) shelf.new }
 
     // After these ends the rule that the words name gives no bits, of any length, two trees.
     ensures one_tree { (result ≡ Ended.Done) ⊎ (result ≡ Ended.SomeRefused) → (files : List ℕ → Option (List ℕ))

@@ -6,6 +6,7 @@ use Rattle.csn_run.proofs.CommandLemmas.{no_row}
 use Rattle.csn_run.proofs.OutsideLemmas.{keeps_along, keeps_both}
 use Rattle.csn_run.proofs.ResultLemmas.{complete_of, result_of, begun_of, read_of, nothing_left_of, bounded_of, untouched, finished_no_write, finished_no_memory, handed_all, nothing_taken, unread_ends, unwritten_ends, not_usage, ok_of, no_fault_bad, no_fault_uncertified, read_stopped, write_stopped, ends_apart}
 use Rattle.csn_run.proofs.OneTree.{one_tree_of}
+use Rattle.csn_run.proofs.Prompt.{prompt_of}
 use Rattle.csn_run.proofs.top.run.Goals as goal
 
 pub returns-in_default-clause-usage : goal.returns-in_default-clause-usage
@@ -34,6 +35,12 @@ returns-clause-usage_input g c = λ e. absurd (not_usage _ (c.perform-outcome.en
 
 pub returns-clause-usage_out : goal.returns-clause-usage_out
 returns-clause-usage_out g c = λ e. absurd (not_usage _ (c.perform-outcome.ensures.ends _ c.in-Some.ensures.names) (sym (c.finish.ensures.end (ends_apart _ _ _ e (λ h. cc)) (ends_apart _ _ _ e (λ h. cc))) ∙ e))
+
+pub returns-in_default-clause-fetched : goal.returns-in_default-clause-fetched
+returns-in_default-clause-fetched g c = λ file names. absurd (no_row _ c.command_of.result c.command_of.ensures.row c.in_default.is (rule_row file names.0 names.1 names.2))
+
+pub returns-clause-fetched : goal.returns-clause-fetched
+returns-clause-fetched g c = λ file names. c.perform-outcome.ensures.fetched _ file c.in-Some.ensures.names names
 
 pub returns-clause-no_lines : goal.returns-clause-no_lines
 returns-clause-no_lines g c = λ never. elim (c.perform-outcome.ensures.touches _ c.in-Some.ensures.names) [ inl same ↦ same | inr reads ↦ absurd (never reads.0) ]
@@ -124,6 +131,11 @@ returns-clause-reading g c = λ e files whole before f s k.
     let no_memory = ends_apart c.finish.result ReadFault NoMemory e (λ h. cc) in
     let all = handed_all _ _ _ _ _ took.2 took.3 (took.4 no_write no_memory) in
     read_of _ files whole before _ _ _ _ _ ends all (sym e ∙ c.finish.ensures.end no_write no_memory)
+
+pub returns-clause-prompt : goal.returns-clause-prompt
+returns-clause-prompt g c = λ used files whole before f s k.
+    let ends = rw (f, s, k) at (c.perform-outcome.ensures.ends _ c.in-Some.ensures.names) in
+    prompt_of _ files whole before _ _ _ _ _ _ ends c.finish.ensures.took.3
 
 pub returns-clause-input_read : goal.returns-clause-input_read
 returns-clause-input_read g c = λ read reads.
