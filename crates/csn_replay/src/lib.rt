@@ -1,13 +1,18 @@
-// A library with one function.
+//! Captures of blocks, and watchers that count what is in them.
 #![tactic(auto)]
 
-ghost use Rattle.std.specs.Prelude.{◌≡◌};
-ghost use Rattle.csn_replay.specs.Echo.{echo_of};
+mod capture;
+mod output;
+mod seen;
+mod tally;
+mod telling;
+mod told;
+mod watcher;
+mod watchers;
 
-// The `ensures` clause is the contract: what `echo` returns is `echo_of` of its argument, a definition
-// in `specs/Echo.antt`, which a caller's clause can cite too.
-pub fn echo(x: usize) -> usize
-    ensures { result ≡ echo_of x }
-{
-    x
-}
+pub use capture::{Capture, MOST_LINE, read_capture};
+pub use seen::{Go, Kind, Seen};
+pub use telling::{close, tell};
+pub use told::Told;
+pub use watcher::Watcher;
+pub use watchers::{BitsWatcher, EntryWatcher, RefusedWatcher};
