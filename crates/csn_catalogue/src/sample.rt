@@ -4,6 +4,7 @@ ghost use Rattle.csn_catalogue.specs.Samples.{sample_octets, field_at, field_wid
 use crate::entry::Entry;
 
 /// A block, and a field of it that may have any value: the block stays one of its entry, however it is read.
+#[derive(Clone, Copy, Debug, Drop, PartialEq, Eq)]
 pub struct Sample {
     pub octets: &'static [u8],
     /// The bit at which the field begins, from 0.

@@ -43,7 +43,7 @@ pub first_space : (line : List ℕ) (entry : Entry) (at k : ℕ) → IsCapture l
 first_space line entry at k (block, is, place) none here =
     let not_behind : length (entry_word entry) < k → ⊥ = λ behind. none.before (length (entry_word entry)) (omega arith) behind (space_stands line entry at (block, is, place)) in
     let not_before : k < length (entry_word entry) → ⊥ = λ before. no_space entry k before
-      (ap (λ byte. byte == space) (sym (ap (λ text. get_or text k 0) is ∙ get_or_append_left (entry_word entry) (space ∷ block) 0 k before)) ∙ here) in
+    (ap (λ byte. byte == space) (sym (ap (λ text. get_or text k 0) is ∙ get_or_append_left (entry_word entry) (space ∷ block) 0 k before)) ∙ here) in
     omega (arith, not_behind, not_before)
 
 -- the word stands before it

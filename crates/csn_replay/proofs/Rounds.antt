@@ -22,7 +22,7 @@ nothing_taken None = refl
 nothing_taken (Some taken) = ap Some (sym (append-nil taken))
 
 none_reported : (due : List Watched) (t : Option (List ℕ)) → Reporting due due t t
-none_reported due t = record { front = []; due_text = refl; took = nothing_taken t; }
+none_reported due t = record { front = []; due_text = refl; took = nothing_taken t }
 
 -- a text that was taken to its end
 pub wrote_all : (before after : Option (List ℕ)) (text : List ℕ) → Wrote Ok before after text → Appended before after text
@@ -46,7 +46,7 @@ broke_off due left first told was now later fault so_far (front, rest, split, to
   so_far.front ++ front,
   rest ++ reports left,
   so_far.due_text ∙ ap (λ line. so_far.front ++ (line ++ reports left)) split ∙ ap (λ text. so_far.front ++ text) (append_assoc front rest (reports left))
-  ∙ sym (append_assoc so_far.front front (rest ++ reports left)),
+      ∙ sym (append_assoc so_far.front front (rest ++ reports left)),
   appended_more was now later so_far.front front so_far.took took,
   λ ok. absurd (fault ok),
 )
@@ -87,7 +87,7 @@ pub record Telling (seen : Seen) (all left : List Watched) (at : ℕ) (was now :
   pub reporting : Reporting (done_watching seen all) (done_watching seen others) was now
 
 pub none_told : (seen : Seen) (all : List Watched) (t : Option (List ℕ)) → Telling seen all all 0 t t
-none_told seen all t = record { kept = []; others = all; here = refl; is = refl; stay = refl; reporting = none_reported (done_watching seen all) t; }
+none_told seen all t = record { kept = []; others = all; here = refl; is = refl; stay = refl; reporting = none_reported (done_watching seen all) t }
 
 passes : (test : Watched → Bool) (first : Watched) (rest : List Watched) → test first ≡ true → filter test (first ∷ rest) ≡ first ∷ filter test rest
 passes test first rest is = ap (λ b. cond b (first ∷ filter test rest) (filter test rest)) is
@@ -108,10 +108,10 @@ stayed_first seen all kept (first ∷ rest) after was now stay reporting (going,
       here = length-append kept (next ∷ []);
       is = is ∙ sym (append_assoc kept (next ∷ []) rest);
       stay =
-        stay ∙ ap (λ ws. kept ++ ws) (passes (λ w. not (is_done w)) next (map (counted seen) rest) (ap not going))
-        ∙ sym (append_assoc kept (next ∷ []) (still_watching seen rest));
+          stay ∙ ap (λ ws. kept ++ ws) (passes (λ w. not (is_done w)) next (map (counted seen) rest) (ap not going))
+          ∙ sym (append_assoc kept (next ∷ []) (still_watching seen rest));
       reporting =
-        subst (λ ws. Reporting (done_watching seen all) ws was now) (fails is_done next (map (counted seen) rest) going) reporting;
+          subst (λ ws. Reporting (done_watching seen all) ws was now) (fails is_done next (map (counted seen) rest) going) reporting;
     }
 
 ended_first : (seen : Seen) (all kept others after : List Watched) (taken : Watched) (was now later : Option (List ℕ))
@@ -128,7 +128,7 @@ ended_first seen all kept (first ∷ rest) after taken was now later stay report
       is = is;
       stay = stay ∙ ap (λ ws. kept ++ ws) (fails (λ w. not (is_done w)) next (map (counted seen) rest) (ap not done));
       reporting =
-        one_reported (done_watching seen all) (done_watching seen rest) next was now later
+          one_reported (done_watching seen all) (done_watching seen rest) next was now later
           (subst (λ ws. Reporting (done_watching seen all) ws was now) (passes is_done next (map (counted seen) rest) done) reporting)
           (subst (λ w. Wrote Ok now later (report_line w ++ codes "\n")) same line);
     }
@@ -141,8 +141,8 @@ broke_first seen all kept [] after taken told was now later fault reporting show
 broke_first seen all kept (first ∷ rest) after taken told was now later fault reporting (done, same, is) line =
     let next = counted seen first in
     broke_off (done_watching seen all) (done_watching seen rest) next told was now later fault
-      (subst (λ ws. Reporting (done_watching seen all) ws was now) (passes is_done next (map (counted seen) rest) done) reporting)
-      (subst (λ w. Wrote told now later (report_line w ++ codes "\n")) same line)
+    (subst (λ ws. Reporting (done_watching seen all) ws was now) (passes is_done next (map (counted seen) rest) done) reporting)
+    (subst (λ w. Wrote told now later (report_line w ++ codes "\n")) same line)
 
 -- what a watcher at this place does with the block
 abbrev pub ShowedAt : Seen → List Watched → ℕ → Option Watched → List Watched → Type 0

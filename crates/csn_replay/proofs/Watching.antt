@@ -24,7 +24,7 @@ behind_one f x b xs at d before others head further =
 stands_behind : {A : Type 0} (f : A → Watched) (xs : List A) (at : ℕ) (d : A) (before others : List Watched)
     → length before ≡ at → at < length xs → map f xs ≡ before ++ others → StandsBehind A f xs at d before others
 stands_behind f [] at d before others here within is = absurd (omega arith)
-stands_behind f (x ∷ xs) zero d [] others here within is = record { rest = map f xs; next = sym is; changed = λ y. refl; removed = λ y. refl; }
+stands_behind f (x ∷ xs) zero d [] others here within is = record { rest = map f xs; next = sym is; changed = λ y. refl; removed = λ y. refl }
 stands_behind f (x ∷ xs) zero d (b ∷ before) others here within is = absurd (omega arith)
 stands_behind f (x ∷ xs) (suc at) d [] others here within is = absurd (omega arith)
 stands_behind f (x ∷ xs) (suc at) d (b ∷ before) others here within is =

@@ -12,7 +12,7 @@ invariant-loop-watcher g l =
       no_fault : g.K.Sink.faults l.out ≡ g.K.Sink.faults l.fn.out;
       steady : g.K.Sink.steady l.fn.out → g.K.Sink.steady l.out;
       reporting :
-        Reporting (map (λ b. (goal.Watcher-dyn g (b.vtable, b.value)).watched b.value) l.fn.watchers.items)
+          Reporting (map (λ b. (goal.Watcher-dyn g (b.vtable, b.value)).watched b.value) l.fn.watchers.items)
           (map (λ b. (goal.Watcher-dyn g (b.vtable, b.value)).watched b.value) (into_iter_items l.watcher-iterator))
           (g.K.Sink.taken l.fn.out) (g.K.Sink.taken l.out);
     }

@@ -3,7 +3,7 @@ use Rattle.csn_replay.proofs.Rounds.{none_told, stayed, ended, broke, all_told}
 use Rattle.csn_replay.proofs.telling.tell.Goals as goal
 
 pub loop-at-init : goal.loop-at-init
-loop-at-init g c = record { no_fault = refl; steady = λ was. was; told = none_told _ _ _; }
+loop-at-init g c = record { no_fault = refl; steady = λ was. was; told = none_told _ _ _ }
 
 pub loop-at-preserved-in-None : goal.loop-at-preserved-in-None
 loop-at-preserved-in-None g c =

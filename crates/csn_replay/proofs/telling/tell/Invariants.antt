@@ -8,7 +8,7 @@ invariant-loop-at g l =
       no_fault : g.K.Sink.faults l.out ≡ g.K.Sink.faults l.fn.out;
       steady : g.K.Sink.steady l.fn.out → g.K.Sink.steady l.out;
       told :
-        Telling l.seen (map (λ b. (goal.Watcher-dyn g (b.vtable, b.value)).watched b.value) l.fn.watchers.items)
+          Telling l.seen (map (λ b. (goal.Watcher-dyn g (b.vtable, b.value)).watched b.value) l.fn.watchers.items)
           (map (λ b. (goal.Watcher-dyn g (b.vtable, b.value)).watched b.value) l.watchers.items) l.at
           (g.K.Sink.taken l.fn.out) (g.K.Sink.taken l.out);
     }
