@@ -51,6 +51,7 @@ pub fn sample_of(entry: Entry) -> Sample
     ensures at { result.at ≡ field_at entry }
     ensures width { result.width ≡ field_width entry }
     ensures within { result.at + result.width ≤ 8 * length result.octets.now }
+    ensures short { length result.octets.now ≤ 22 }
 {
     let (octets, at, width): (&'static [u8], u32, u32) = match entry {
         Entry::Uplink => (&PACKET_CONTROL_ACKNOWLEDGEMENT, 6, 32),
