@@ -1,5 +1,5 @@
 -- Showing a block to watchers one after another, and letting watchers report.
-use Rattle.std.proofs.Common.{◌≡◌, ◌≢◌, ℕ, zero, suc, ◌+◌, ◌≤◌, Bool, cond, not, true, false, List, ◌∷◌, [], ◌++◌, map, length, filter, Option, Some, None, codes, refl, sym, ◌∙◌, ap, subst, arith}
+use Rattle.std.proofs.Common.{◌≡◌, ◌≢◌, ℕ, ◌+◌, ◌≤◌, Bool, cond, not, true, false, List, ◌∷◌, [], ◌++◌, map, length, filter, Option, Some, None, codes, refl, sym, ◌∙◌, ap, subst, arith}
 use Rattle.std.proofs.lemmas.List.{append-nil, append_assoc, length-append, length-map}
 use Rattle.csn_io.specs.Put.{Appended}
 use Rattle.csn_io.proofs.Told.{appended_more}

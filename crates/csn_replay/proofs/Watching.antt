@@ -1,5 +1,5 @@
 -- Going through a list of watchers, which is seen as the list of what they count.
-use Rattle.std.proofs.Common.{◌≡◌, ℕ, zero, suc, ◌+◌, ◌<◌, List, ◌∷◌, [], ◌++◌, map, length, get_or, get_or-set_same, set, take, drop, true, false, Some, None, refl, sym, ◌∙◌, ap, subst, arith}
+use Rattle.std.proofs.Common.{◌≡◌, ℕ, zero, suc, ◌<◌, List, ◌∷◌, [], ◌++◌, map, length, get_or, get_or-set_same, set, true, false, Some, None, refl, sym, ◌∙◌, ap, subst, arith}
 use Rattle.std.specs.List.{remove}
 use Rattle.csn_replay.specs.declared.seen.Seen.{Seen}
 use Rattle.csn_replay.specs.Watched.{Watched, Showed, counted, is_done}

@@ -1,5 +1,4 @@
-use Rattle.std.proofs.Common.{◌≡◌, ◌≤◌, ℕ, take, drop, length, ap, sym, ◌∙◌, arith, Some, None}
-use Rattle.csn_replay.specs.Capture.{space}
+use Rattle.std.proofs.Common.{arith}
 use Rattle.csn_replay.proofs.Captures.{space_stands, space_within, word_before, capture_at}
 use Rattle.csn_replay.proofs.capture.read_capture.Goals as goal
 
