@@ -3,10 +3,11 @@
 
 usage: bench/certify.py CATALOGUE [--beside OTHER] [PROGRAM]
 
-CATALOGUE is a file with the catalogue's text. PROGRAM is the small program of descriptions.py, which reads the
-rules of a file, resolves a name and certifies its description; where it is left out it is built as there. OTHER
-does the same as `OTHER check FILE NAME received`. Each case is run by both in turn, many times by a shell, so that
-the start of this script is not counted; the least processor time of a run counts, and the most memory.
+CATALOGUE is a file with the catalogue's text, as bench/catalogue.py prints it. PROGRAM is the small program of
+descriptions.py, which reads the rules of a file, resolves a name and certifies its description; where it is
+left out it is built as there. OTHER does the same as `OTHER check FILE NAME received`. Each case is run by both
+in turn, many times by a shell, so that the start of this script is not counted; the least processor time of a
+run counts, and the most memory.
 """
 import argparse
 import os

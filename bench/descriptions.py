@@ -3,11 +3,11 @@
 
 usage: bench/descriptions.py CATALOGUE [PROGRAM]
 
-CATALOGUE is a file with the catalogue's text. The program that is timed is written here: it reads the
-rules of a file, resolves a name, certifies its description where it is told so, and prints the number of
-nodes. Where PROGRAM is left out it is built with `rt run` in a copy of the repository, which proves what
-is not proved yet. Each time is the least of five runs, and it holds the start of the process and the
-reading of the rules.
+CATALOGUE is a file with the catalogue's text, as bench/catalogue.py prints it. The program that is timed
+is written here: it reads the rules of a file, resolves a name, certifies its description where it is
+told so, and prints the number of nodes. Where PROGRAM is left out it is built with `rt run` in a copy of
+the repository, which proves what is not proved yet. Each time is the least of five runs, and it holds
+the start of the process and the reading of the rules.
 """
 import os
 import shutil

@@ -3,13 +3,13 @@
 
 usage: bench/judge.py CATALOGUE [--beside OTHER] [PROGRAM]
 
-CATALOGUE is a file with the catalogue's text. The program that is timed is written here: it reads the rules of a
-file, certifies the description of a name, reads block lines, judges all the blocks so many times, and prints how
-many there were, how many of them are strings and how many are not, and their bits. Where PROGRAM is left out it is
-built with `rt run` in a copy of the repository, which proves what is not proved yet. OTHER does about the same, and
-makes trees, as `OTHER soak ENTRY BLOCKS`; what both print is compared. The blocks of an entry are its sample, where
-one field holds one number after another, and each sixteenth is cut to its first bit. The least processor time of
-some runs counts.
+CATALOGUE is a file with the catalogue's text, as bench/catalogue.py prints it. The program that is timed is
+written here: it reads the rules of a file, certifies the description of a name, reads block lines, judges all
+the blocks so many times, and prints how many there were, how many of them are strings and how many are not, and
+their bits. Where PROGRAM is left out it is built with `rt run` in a copy of the repository, which proves what is
+not proved yet. OTHER does about the same, and makes trees, as `OTHER soak ENTRY BLOCKS`; what both print is
+compared. The blocks of an entry are its sample, where one field holds one number after another, and each
+sixteenth is cut to its first bit. The least processor time of some runs counts.
 """
 import argparse
 import os

@@ -1,7 +1,7 @@
 //! What comes of a named rule of a text: a refusal with its number and place, a conflict with its number
 //! and fields, or how many nodes its certified description has.
 
-use crate::catalogue::CATALOGUE;
+use csn_catalogue::{entries, root_of, text};
 use csn_certify::{CertifyFault, Conflict, certify};
 use csn_desc::{Desc, Reading};
 use csn_grammar::read_rules;
@@ -113,18 +113,12 @@ fn rules_are_refused_or_certified(rt: HostRuntime) -> Result<(), Fail> {
 #[test]
 fn roots_of_the_catalogue_are_certified(rt: HostRuntime) -> Result<(), Fail> {
     let alloc = rt.alloc();
-    for (name, line) in [
-        ("Uplink Control Block", "certified 184"),
-        ("Downlink Control Block", "certified 694"),
-        ("SI 1 Rest Octets", "certified 12"),
-        ("SI 3 Rest Octets", "certified 47"),
-        ("SI 4 Rest Octets", "certified 32"),
-        ("SI 13 Rest Octets", "certified 166"),
-        ("IA Rest Octets", "certified 166"),
-    ] {
+    for (entry, nodes) in entries().into_iter().zip([184, 694, 12, 47, 32, 166, 166]) {
+        let name = str::from_utf8(root_of(entry)).map_err(|_| "no text")?;
+        let line = format!(in alloc; "certified {nodes}")?;
         for reading in [Reading::Received, Reading::Sent] {
-            let came = line_of(alloc, CATALOGUE, name, reading)?;
-            assert_eq!(rt; came.as_str(), line, "{name}");
+            let came = line_of(alloc, text(), name, reading)?;
+            assert_eq!(rt; came.as_str(), line.as_str(), "{name}");
         }
     }
     Ok(())

@@ -3,8 +3,8 @@
 
 ghost use Rattle.std.specs.Prelude.{◌≡◌, ◌<◌, ◌≤◌, ◌+◌, length};
 
-use crate::catalogue::CATALOGUE;
 use csn_bits::{Bits, MOST_BITS, MOST_LINE};
+use csn_catalogue::{entries, root_of, sample_of, text};
 use csn_certify::{Plan, Steps, certify};
 use csn_desc::{Node, Reading};
 use csn_grammar::read_rules;
@@ -248,7 +248,7 @@ fn pieces_of(alloc: Global, lines: &[&str]) -> Result<Vec<Bits>, Fail> {
 
 /// The catalogue, with its lists that end with a bit 0 written in tail form.
 fn catalogue_in_tail_form(alloc: Global) -> Result<String, Fail> {
-    let text = str::from_utf8(CATALOGUE).map_err(|_| "no text")?;
+    let text = str::from_utf8(text()).map_err(|_| "no text")?;
     let text = text.replace(
         alloc,
         "<Access Capability> { 1 <Access Capability> } ** 0 ;",
@@ -309,25 +309,14 @@ fn blocks_are_judged_in_any_pieces(rt: HostRuntime) -> Result<(), Fail> {
 fn blocks_of_the_catalogue_are_judged(rt: HostRuntime) -> Result<(), Fail> {
     let alloc = rt.alloc();
     let text = catalogue_in_tail_form(alloc)?;
-    let si13 = "900058406FA2A00F512B2B2B2B2B2B2B2B2B2B2B";
-    let uplink = "04000000032B2B2B2B2B2B2B2B2B2B2B2B2B2B2B2B2B";
-    for (name, reading, block) in [
-        ("SI 13 Rest Octets", Reading::Sent, si13),
-        ("Uplink Control Block", Reading::Received, uplink),
-        ("Downlink Control Block", Reading::Received, DOWNLINK),
-        ("SI 1 Rest Octets", Reading::Received, "83"),
-        ("SI 3 Rest Octets", Reading::Received, "2B2B2B2B"),
-        ("SI 4 Rest Octets", Reading::Received, "2B2B2B"),
-        ("SI 13 Rest Octets", Reading::Received, si13),
-        (
-            "IA Rest Octets",
-            Reading::Received,
-            "D0000000002B2B2B2B2B2B",
-        ),
-    ] {
-        let plan = plan_of(alloc, &text, name, reading)?;
-        let bits = block_of(alloc, block)?;
-        expect(&rt, alloc, &plan, &bits, "ok")?;
+    for entry in entries() {
+        let name = str::from_utf8(root_of(entry)).map_err(|_| "no text")?;
+        let octets = sample_of(entry).octets;
+        for reading in [Reading::Received, Reading::Sent] {
+            let plan = plan_of(alloc, &text, name, reading)?;
+            let bits = Bits::from_octets(alloc, octets, 8 * octets.len() as u32)?;
+            expect(&rt, alloc, &plan, &bits, "ok")?;
+        }
     }
     Ok(())
 }
@@ -359,7 +348,7 @@ fn expect_fronts(rt: &impl Abort, alloc: Global, plan: &Plan, block: &Bits) -> R
 fn each_front_of_a_block_is_judged(rt: HostRuntime) -> Result<(), Fail> {
     let alloc = rt.alloc();
     let block = block_of(alloc, DOWNLINK)?;
-    let text = str::from_utf8(CATALOGUE).map_err(|_| "no text")?;
+    let text = str::from_utf8(text()).map_err(|_| "no text")?;
     for reading in [Reading::Received, Reading::Sent] {
         let plan = plan_of(alloc, text, "Downlink Control Block", reading)?;
         expect_fronts(&rt, alloc, &plan, &block)?;

@@ -14,8 +14,6 @@ use std::alloc::{AllocError, Global};
 use std::collections::BTreeMap;
 
 #[cfg(test)]
-mod catalogue;
-#[cfg(test)]
 mod descriptions;
 #[cfg(test)]
 mod judged;

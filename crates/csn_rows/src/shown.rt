@@ -1,8 +1,8 @@
 //! What `check` and `show` answer by a rule of the file F.
 
-use crate::catalogue::CATALOGUE;
 use crate::run_in_memory;
 use crate::tests::{expect, file, words_of};
+use csn_catalogue::text;
 use std::alloc::{AllocError, Global};
 use std::process::Abort;
 use std::test::Fail;
@@ -172,7 +172,7 @@ fn rows_hold(rt: HostRuntime) -> Result<(), Fail> {
 #[test]
 fn rows_of_the_catalogue_hold(rt: HostRuntime) -> Result<(), Fail> {
     for row in CATALOGUE_ROWS.split('\n') {
-        expect_row(&rt, rt.alloc(), CATALOGUE, row)?;
+        expect_row(&rt, rt.alloc(), text(), row)?;
     }
     for row in DOUBLED_ROWS.split('\n') {
         expect_row(&rt, rt.alloc(), DOUBLED.as_bytes(), row)?;

@@ -1,8 +1,10 @@
-//! The descriptions of GPRS control messages and rest octets that are the greatest example: a choice of
-//! fields from 3GPP TS 44.060 clause 11 and TS 44.018 clause 10.
+//! The descriptions: a choice of fields from several releases of 3GPP TS 44.060 clause 11 and TS 44.018
+//! clause 10. What the fields written here do not cover is kept raw.
 
-/// The text, as it is read.
-pub const CATALOGUE: &[u8] = b"\
+ghost use Rattle.std.specs.Prelude.{◌≡◌};
+
+/// The text, as it is read. It ends with a line feed.
+const TEXT: &[u8] = b"\
 <message end> ::= { null | 0 { null | <spare padding> } | 1 <Additions : bit (**)> } ;
 <rest end> ::= { null | L { null | <spare padding> } | H <Additions : bit (**)> } ;
 
@@ -254,3 +256,10 @@ pub const CATALOGUE: &[u8] = b"\
     { 0 | 1 <TBF_STARTING_TIME : bit (16)> }
     { 0 | 1 <P0 : bit (4)> <BTS_PWR_CTRL_MODE : bit> <PR_MODE : bit> } ;
 ";
+
+/// The text of all descriptions: the root of each entry is one of its rules.
+pub fn text() -> &'static [u8]
+    ensures { result.now ≡ TEXT.now }
+{
+    TEXT
+}

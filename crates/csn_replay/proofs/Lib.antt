@@ -1,0 +1,4 @@
+mod Captures
+mod Puts
+mod Rounds
+mod Watching

@@ -1,0 +1,38 @@
+use Rattle.std.proofs.Common.{◌≡◌, vec_len, length, refl, sym, ap, ◌∙◌, arith, rules}
+use Rattle.std.proofs.lemmas.List.{nil_from_length}
+use Rattle.csn_replay.proofs.Rounds.{none_reported_of, one_reported_of, broke_off_of, all_reported_of}
+use Rattle.csn_replay.proofs.telling.close.Goals as goal
+
+pub loop-watcher-init : goal.loop-watcher-init
+loop-watcher-init g c =
+    let all : vec_len c.args.watchers ≡ length c.args.watchers.items = search rules in
+    record {
+      can_next = search rules;
+      is_finite = search rules;
+      len = c.into_iter-watcher-iterator.ensures.into_iter_gives.1 ∙ all ∙ ap length (sym c.into_iter-watcher-iterator.ensures.into_iter_gives.0);
+      no_fault = refl;
+      steady = λ was. was;
+      reporting = none_reported_of _ _ _ _ c.into_iter-watcher-iterator.ensures.into_iter_gives.0;
+    }
+
+pub loop-watcher-preserved : goal.loop-watcher-preserved
+loop-watcher-preserved g c =
+    record {
+      can_next = search rules;
+      is_finite = search rules;
+      len = omega (arith, ap length c.in-Some.ensures.steps.0, c.in-Some.ensures.steps.1, c.loop-watcher.invariant.len);
+      no_fault = c.in-Ok.ensures.no_fault (λ is. cc) ∙ c.loop-watcher.invariant.no_fault;
+      steady = λ was. c.in-Ok.ensures.steady_stays (c.loop-watcher.invariant.steady was);
+      reporting = one_reported_of _ _ _ _ _ _ _ _ c.in-Some.ensures.steps.0 c.loop-watcher.invariant.reporting c.in-Ok.ensures.wrote;
+    }
+
+pub returns-in-WriteFault-clause-wrote : goal.returns-in-WriteFault-clause-wrote
+returns-in-WriteFault-clause-wrote g c =
+    broke_off_of _ _ _ _ _ _ _ _ _ (λ is. cc) c.in-Some.ensures.steps.0 c.loop-watcher.invariant.reporting c.in-WriteFault.ensures.wrote
+
+pub returns-in-NoMemory-clause-wrote : goal.returns-in-NoMemory-clause-wrote
+returns-in-NoMemory-clause-wrote g c =
+    broke_off_of _ _ _ _ _ _ _ _ _ (λ is. cc) c.in-Some.ensures.steps.0 c.loop-watcher.invariant.reporting c.in-NoMemory.ensures.wrote
+
+pub returns-clause-wrote : goal.returns-clause-wrote
+returns-clause-wrote g c = all_reported_of _ _ _ _ _ (nil_from_length _ (sym c.loop-watcher.invariant.len ∙ c.in-None.ensures.steps.0)) c.loop-watcher.invariant.reporting

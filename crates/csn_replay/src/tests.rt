@@ -1,0 +1,167 @@
+ghost use Rattle.csn_replay.specs.Watched.{Watched};
+ghost use Rattle.csn_replay.specs.declared.seen.Kind.TheVariants.{Length};
+ghost use Rattle.std.specs.Prelude.{min, ◌+◌};
+ghost use Rattle.csn_replay.specs.Watched.{greatest_count};
+
+use crate::*;
+use csn_bits::NoMemory;
+use csn_catalogue::Entry;
+use csn_io::MemSink;
+use std::alloc::Global;
+use std::cell::Cell;
+use std::rc::Rc;
+use std::test::Fail;
+
+/// Counts bits from some number on, and how often watchers like it were dropped.
+struct Counting {
+    count: u64,
+    until: u64,
+    drops: Rc<Cell<u32>>,
+}
+
+impl Drop for Counting {
+    fn drop(self) {
+        let Counting {
+            count: _,
+            until: _,
+            drops,
+        } = self;
+        drops.set(drops.get().saturating_add(1));
+    }
+}
+
+impl Watcher for Counting {
+    ghost watched = { λ w. record { kind = Length; count = w.count; until = w.until } };
+
+    fn kind(&self) -> Kind {
+        Kind::Length
+    }
+
+    fn count(&self) -> u64 {
+        self.count
+    }
+
+    fn until(&self) -> u64 {
+        self.until
+    }
+
+    fn see(&mut self, seen: &Seen) -> Go {
+        self.count = self.count.saturating_add(u64::from(seen.bits));
+        if self.count >= self.until {
+            Go::Done
+        } else {
+            Go::Stay
+        }
+    }
+
+    fn report_line(&self, alloc: Global) -> Result<Vec<u8>, NoMemory> {
+        Ok(format!(in alloc; "bits {}", self.count)?.into_bytes())
+    }
+}
+
+fn seen(entry: Entry, bits: u32, ok: bool) -> Seen {
+    Seen { entry, bits, ok }
+}
+
+#[test]
+fn the_first_space_ends_the_word(rt: HostRuntime) {
+    for (line, entry, block_at) in [
+        ("si1 2B", Entry::Si1, 4),
+        ("si13 .", Entry::Si13, 5),
+        ("uplink ", Entry::Uplink, 7),
+        ("ia  2B", Entry::Ia, 3),
+        ("si3 si4 2B", Entry::Si3, 4),
+    ] {
+        assert_eq!(rt;
+            read_capture(line.as_bytes()),
+            Some(Capture { entry, block_at }),
+            "{line}"
+        );
+    }
+    for line in ["", " ", "si1", "si9 00", " si1 2B", "Si1 2B", "2B"] {
+        assert_eq!(rt; read_capture(line.as_bytes()), None, "{line}");
+    }
+}
+
+#[test]
+fn watchers_report_when_they_are_done(rt: HostRuntime) -> Result<(), Fail> {
+    let alloc = rt.alloc();
+    let mut out = MemSink::new(alloc, 4096, Vec::new(alloc));
+    let mut watchers: Vec<Box<dyn Watcher>> = Vec::new(alloc);
+    watchers.push(Box::new(alloc, RefusedWatcher::new(2))?)?;
+    watchers.push(Box::new(alloc, BitsWatcher::new(u64::MAX))?)?;
+    for (seen, text) in [
+        (seen(Entry::Si1, 8, true), ""),
+        (seen(Entry::Si1, 0, false), ""),
+        (seen(Entry::Si1, 1, false), "refused 2\n"),
+        (seen(Entry::Si1, 8, true), "refused 2\n"),
+    ] {
+        assert_eq!(rt; tell(alloc, &mut watchers, &seen, &mut out), Told::Ok);
+        assert_eq!(rt; out.taken(), text.as_bytes());
+    }
+    assert_eq!(rt; close(alloc, watchers, &mut out), Told::Ok);
+    assert_eq!(rt; out.taken(), b"refused 2\nbits 17\n".as_slice());
+    Ok(())
+}
+
+#[test]
+fn watchers_of_one_kind_count_apart(rt: HostRuntime) -> Result<(), Fail> {
+    let alloc = rt.alloc();
+    let mut out = MemSink::new(alloc, 4096, Vec::new(alloc));
+    let mut watchers: Vec<Box<dyn Watcher>> = Vec::new(alloc);
+    watchers.push(Box::new(alloc, EntryWatcher::new(Entry::Si1, u64::MAX))?)?;
+    watchers.push(Box::new(alloc, BitsWatcher::new(10))?)?;
+    watchers.push(Box::new(alloc, EntryWatcher::new(Entry::Ia, u64::MAX))?)?;
+    watchers.push(Box::new(alloc, BitsWatcher::new(9))?)?;
+    for (bits, text) in [(8, ""), (1, "bits 9\n"), (88, "bits 9\nbits 97\n")] {
+        let seen = seen(Entry::Si1, bits, true);
+        assert_eq!(rt; tell(alloc, &mut watchers, &seen, &mut out), Told::Ok);
+        assert_eq!(rt; out.taken(), text.as_bytes());
+    }
+    assert_eq!(rt; close(alloc, watchers, &mut out), Told::Ok);
+    assert_eq!(rt;
+        out.taken(),
+        b"bits 9\nbits 97\nentry si1 3\nentry ia 0\n".as_slice()
+    );
+    Ok(())
+}
+
+#[test]
+fn a_watcher_is_dropped_once_on_every_end(rt: HostRuntime) -> Result<(), Fail> {
+    let alloc = rt.alloc();
+    for (start, until, failing, told, closed, text) in [
+        (0, 8, 9, Told::Ok, Told::Ok, "bits 8\n"),
+        (0, 9, 9, Told::Ok, Told::Ok, "bits 8\n"),
+        (
+            u64::MAX - 1,
+            u64::MAX,
+            9,
+            Told::Ok,
+            Told::Ok,
+            "bits 18446744073709551615\n",
+        ),
+        (0, 8, 0, Told::WriteFault, Told::Ok, ""),
+        (0, 8, 1, Told::WriteFault, Told::Ok, "bit"),
+        (0, 9, 1, Told::Ok, Told::WriteFault, "bit"),
+    ] {
+        let drops = Rc::new(alloc, Cell::new(0))?;
+        let mut out = MemSink::new(alloc, 3, vec![in alloc; failing]?);
+        let mut watchers: Vec<Box<dyn Watcher>> = Vec::new(alloc);
+        watchers.push(Box::new(
+            alloc,
+            Counting {
+                count: start,
+                until,
+                drops: drops.clone()?,
+            },
+        )?)?;
+        assert_eq!(rt;
+            tell(alloc, &mut watchers, &seen(Entry::Si1, 8, true), &mut out),
+            told
+        );
+        assert_eq!(rt; close(alloc, watchers, &mut out), closed);
+        assert_eq!(rt; drops.get(), 1);
+        assert_eq!(rt; out.taken(), text.as_bytes());
+    }
+    Ok(())
+}
