@@ -12,7 +12,7 @@ use Rattle.csn_certify.specs.declared.pick_table.Entry.TheVariants.{Refuse, Wait
 use Rattle.csn_certify.specs.Conflicts.{IsNull, IsBegunBy}
 use Rattle.csn_certify.specs.Picks.{BeginsWithKey, BeginsKey}
 use Rattle.csn_certify.specs.Choosing.{IsNone, BeginsKeyOf, StandsTo, AreWithoutKey}
-use Rattle.csn_certify.specs.PickTables.{entry_of, Tells, IsPickTable}
+use Rattle.csn_certify.specs.PickTables.{entry_of, Tells}
 use Rattle.csn_certify.specs.Filling.{started, IsDeep, IsFilled, with_key, with_start, with_none, FillsUnder, AreEmpty, HasMarks, AreDeep}
 use Rattle.csn_certify.proofs.Pieces.{begun_both}
 use Rattle.csn_certify.proofs.Choices as choice
@@ -159,7 +159,7 @@ module _ (d : DescV) (parts : List ℕ) (octet : ℕ) where
 
   -- ---- the table
 
-  pub table_done : (looked count width : ℕ) (none : Option ℕ) (entries : List Entry) → AreDeep d parts octet looked width → length parts ≤ looked → length parts ≤ count → AllTell count none width entries → IsPickTable d parts octet (record { none = none; width = width; entries = entries })
+  pub table_done : (looked count width : ℕ) (none : Option ℕ) (entries : List Entry) → AreDeep d parts octet looked width → length parts ≤ looked → length parts ≤ count → AllTell count none width entries → (held : List ℕ) → marks.IsWord held → Tells d parts octet held none (entry_of entries (take width held))
   table_done looked count width none entries deep whole_looked all tells held is = by_entry (entry_of entries front) (tells front is_front short)
     where
       front : List ℕ

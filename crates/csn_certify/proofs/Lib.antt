@@ -22,6 +22,7 @@ pub mod BeginsString
 pub mod NoFurther
 pub mod OnePick
 pub mod PickTables
+pub mod PickBlocks
 pub mod FillingFacts
 pub mod Choices
 pub mod ChooserFacts

@@ -50,10 +50,10 @@ pub cut_place : (width : ℕ) (word : List ℕ) (place over : ℕ) → IsWord wo
 cut_place width word place over is here many =
     ap (λ n. n / 2 ^ over) here ∙ ap (λ n. place_of word / 2 ^ n) many ∙ place_cut width word is
 
-pub cut_within : (width : ℕ) (word : List ℕ) (entries : List Entry) (place over : ℕ) → HasEntries width entries → IsWord word → place ≡ place_of word → over ≡ length word - width → place / 2 ^ over < length entries
-cut_within width word entries place over has is here many =
+-- and within the places of all words of the width
+pub cut_within : (width : ℕ) (word : List ℕ) (place over : ℕ) → IsWord word → place ≡ place_of word → over ≡ length word - width → place / 2 ^ over < 2 ^ (width + 1)
+cut_within width word place over is here many =
     let same = cut_place width word place over is here many in
     let size = length-take width word in
     let inside = place_within width (take width word) (word_take width word is) (omega (arith, size)) in
-    let count = has.count in
-    omega (arith, same, inside, count)
+    omega (arith, same, inside)

@@ -1,5 +1,5 @@
 -- The answers of look-ahead, each against the trees of what lies ahead.
-use Rattle.std.proofs.Common.{◌≡◌, ℕ, ◌+◌, ◌%◌, ◌<◌, Bool, true, false, List, [], ◌++◌, length, refl, sym, ◌∙◌, ap, subst, arith, length-append, Some, slice_get}
+use Rattle.std.proofs.Common.{◌≡◌, ℕ, ◌%◌, ◌<◌, Bool, true, false, List, [], ◌++◌, length, refl, sym, ◌∙◌, ap, subst, arith, length-append, Some, slice_get}
 use Rattle.csn_desc.specs.declared.node.Node.TheVariants.{Choice, Many}
 use Rattle.csn_desc.specs.TreeV.{TreeV, row, alt, Trees, none}
 use Rattle.csn_desc.specs.Nodes.{DescV}

@@ -1,20 +1,24 @@
--- Tables of what look-ahead tells at a choice: an entry for each word of as many bits as the choice needs.
-use Rattle.std.specs.Prelude.{◌≡◌, ℕ, ◌+◌, ◌*◌, ◌^◌, ◌<◌, ◌≤◌, List, length, take, slice_get, slice_index, slice_index_or, Option, Some, None, true, false, refl}
+-- Tables of what look-ahead tells at a choice: an entry for each word of as many bits as the choice needs. Entries
+-- are kept in blocks of 64, each without the refusals at its end.
+use Rattle.std.specs.Prelude.{◌≡◌, ◌≢◌, ℕ, ◌+◌, ◌*◌, ◌/◌, ◌%◌, ◌^◌, ◌<◌, ◌≤◌, List, [], map, length, take, slice_get, slice_index, slice_index_or, Option, Some, None, true, false, refl}
+use Rattle.std.specs.List.{AllPairs}
 use Rattle.std.specs.Coded.{Coded, code_by, coded×, coded_ℕ, coded_list, coded_option}
 use Rattle.csn_desc.specs.declared.node.Node.TheVariants.{Choice}
 use Rattle.csn_desc.specs.Nodes.{DescV}
 use Rattle.csn_look.specs.Reached.{Reached}
 use Rattle.csn_look.specs.KeyMarks.{IsWord, place_of}
 use Rattle.csn_certify.specs.declared.pick_table.Entry.{Entry}
+use Rattle.csn_certify.specs.declared.pick_table.Filled.{Filled}
+use Rattle.csn_certify.specs.declared.pick_table.KeptTable.{KeptTable}
 use Rattle.csn_certify.specs.declared.pick_table.Entry.TheVariants.{Refuse, Wait, Take}
 use Rattle.csn_certify.specs.Picks.{BeginsWithKey}
 use Rattle.csn_certify.specs.Choosing.{AreWithoutKey}
 
--- the alternative that takes no bits, where there is one, and the entries
+-- the alternative that takes no bits, where there is one, and the entries in blocks
 pub record PickTableV : Type 0 where
   pub none : Option ℕ
   pub width : ℕ
-  pub entries : List Entry
+  pub blocks : List (List Entry)
 
 -- tables are stored as their parts
 abbrev pub content_of : Entry → Option (Option (ℕ × ℕ))
@@ -35,10 +39,13 @@ content_back (Take j bits) = refl
 abbrev pub entry_code : Coded Entry
 entry_code = code_by (Option (Option (ℕ × ℕ))) (coded_option (coded_option (coded× coded_ℕ coded_ℕ))) content_of content_entry content_back
 
+abbrev pub blocks_code : Coded (List (List Entry))
+blocks_code = coded_list (coded_list entry_code)
+
 abbrev pub pick_table_code : Coded PickTableV
 pick_table_code =
-    code_by (Option ℕ × (ℕ × List Entry)) (coded× (coded_option coded_ℕ) (coded× coded_ℕ (coded_list entry_code)))
-    (λ t. (t.none, (t.width, t.entries))) (λ p. record { none = p.0; width = p.1.0; entries = p.1.1 }) (λ t. refl)
+    code_by (Option ℕ × (ℕ × List (List Entry))) (coded× (coded_option coded_ℕ) (coded× coded_ℕ blocks_code))
+    (λ t. (t.none, (t.width, t.blocks))) (λ p. record { none = p.0; width = p.1.0; blocks = p.1.1 }) (λ t. refl)
 
 -- one entry for each word of at most so many bits, and one more, since no word has the place 0
 pub record HasEntries (width : ℕ) (entries : List Entry) : Type 0 where
@@ -49,9 +56,52 @@ pub record HasEntries (width : ℕ) (entries : List Entry) : Type 0 where
 abbrev pub entry_of : List Entry → List ℕ → Entry
 entry_of entries word = slice_index_or entries (place_of word) Refuse
 
+-- the entry at a place of a list of blocks
+abbrev pub entry_in : List (List Entry) → ℕ → Entry
+entry_in blocks place = slice_index_or (slice_index_or blocks (place / 64) []) (place % 64) Refuse
+
 -- the entry of held bits, which are cut to the width
 abbrev pub entry_at : PickTableV → List ℕ → Entry
-entry_at table held = entry_of table.entries (take table.width held)
+entry_at table held = entry_in table.blocks (place_of (take table.width held))
+
+-- ---- blocks that are kept once
+
+-- the blocks that have these numbers
+abbrev pub blocks_at : List ℕ → List (List Entry) → List (List Entry)
+blocks_at index blocks = map (λ number. slice_index_or blocks number []) index
+
+-- these are the entries of a block: those behind its end are refusals
+abbrev pub IsBlockOf : List Entry → ℕ → List Entry → Type 0
+IsBlockOf entries at block = (i : ℕ) → i < 64 → slice_index_or block i Refuse ≡ slice_index_or entries (64 * at + i) Refuse
+
+-- the numbers are those of the first so many blocks of the entries
+pub record AreFirstBlocks (entries : List Entry) (count : ℕ) (index : List ℕ) (blocks : List (List Entry)) : Type 0 where
+  pub size : length index ≡ count
+  pub within : (at : ℕ) → at < count → slice_index index at < length blocks
+  pub blocks_of : (at : ℕ) → at < count → IsBlockOf entries at (slice_index_or blocks (slice_index index at) [])
+
+-- a table, as the blocks make it
+abbrev pub table_in : List (List Entry) → KeptTable → PickTableV
+table_in blocks t = record { none = t.none; width = t.width; blocks = blocks_at t.index.items blocks }
+
+-- and it has the entries of a choice
+pub record IsTableOf (filled : Filled) (t : PickTableV) : Type 0 where
+  pub none : t.none ≡ filled.none
+  pub entries :
+      (held : List ℕ) → IsWord held → entry_at t held ≡ entry_of filled.entries.items (take filled.width held)
+
+-- each word of at most as many bits as the width has its place in a block that is there
+pub record IsWithin (blocks : List (List Entry)) (t : KeptTable) : Type 0 where
+  pub short : t.width ≤ 12
+  pub enough : 2 ^ (t.width + 1) ≤ 64 * length t.index.items
+  pub within : (at : ℕ) → at < length t.index.items → slice_index t.index.items at < length blocks
+
+abbrev pub AreWithin : List (List Entry) → List KeptTable → Type 0
+AreWithin blocks tables = (at : ℕ) (t : KeptTable) → slice_get tables at ≡ Some t → IsWithin blocks t
+
+-- no block is the same as one behind it
+abbrev pub AreOnce : List (List Entry) → Type 0
+AreOnce blocks = AllPairs (λ block other. block ≢ other) blocks
 
 module _ (d : DescV) (parts : List ℕ) (octet : ℕ) where
   -- the entry tells how the held bits stand to the keys of the alternatives, of which `none` takes no bits
@@ -65,6 +115,13 @@ module _ (d : DescV) (parts : List ℕ) (octet : ℕ) where
   -- the table tells it of all held bits
   abbrev pub IsPickTable : PickTableV → Type 0
   IsPickTable table = (held : List ℕ) → IsWord held → Tells held table.none (entry_at table held)
+
+  -- and so do the entries of a choice, before they are kept in blocks
+  pub record AreEntries (filled : Filled) : Type 0 where
+    pub size : HasEntries filled.width filled.entries.items
+    pub tells :
+        (held : List ℕ) → IsWord held
+        → Tells held filled.none (entry_of filled.entries.items (take filled.width held))
 
 -- the tables of a description, and for each node eight of their numbers, for the octet positions
 pub record PickTablesV : Type 0 where

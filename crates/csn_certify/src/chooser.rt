@@ -5,11 +5,11 @@ ghost use Rattle.csn_desc.specs.declared.node.Node.TheVariants.{Choice};
 ghost use Rattle.csn_look.specs.LookKeys.{IsKeysOf};
 ghost use Rattle.csn_look.specs.Steps.{HasPartsBelow};
 ghost use Rattle.csn_certify.specs.Choosing.{IsNone};
-ghost use Rattle.csn_certify.specs.PickTables.{IsPickTable};
+ghost use Rattle.csn_certify.specs.PickTables.{AreEntries};
 ghost use Rattle.csn_certify.specs.Filling.{AreEmpty, HasMarks, AreDeep};
 
 use crate::filling::{Filling, depth, greater};
-use crate::pick_table::{Entry, PickTable};
+use crate::pick_table::{Entry, Filled};
 use csn_bits::NoMemory;
 use csn_desc::{Desc, Node, Parts};
 use csn_look::{KeyTable, Look, Word};
@@ -25,12 +25,12 @@ pub(crate) struct Chooser<'a> {
 }
 
 impl Chooser<'_> {
-    /// The table of the choice.
-    pub fn table(&self, alloc: Global) -> Result<PickTable, NoMemory>
+    /// The entries of the choice.
+    pub fn table(&self, alloc: Global) -> Result<Filled, NoMemory>
         requires keys { IsKeysOf self.now.desc.now self.now.look.now }
         requires below { HasPartsBelow (Choice self.now.parts.now) (length self.now.desc.now.nodes) }
         requires octet { self.now.octet ≤ 7 }
-        ensures { IfOk result (IsPickTable self.now.desc.now self.now.parts.now self.now.octet) }
+        ensures { IfOk result (AreEntries self.now.desc.now self.now.parts.now self.now.octet) }
     {
         let width = self.width();
         let mut entries = no_entries(alloc, width)?;
@@ -48,7 +48,11 @@ impl Chooser<'_> {
                 }
             }
         }
-        Ok(PickTable::new(none, width, entries))
+        Ok(Filled {
+            none,
+            width,
+            entries,
+        })
     }
 
     /// How many bits are looked at.

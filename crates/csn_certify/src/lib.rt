@@ -14,6 +14,7 @@ pub mod laws;
 mod meets;
 mod overlaps;
 mod pick;
+mod pick_blocks;
 mod pick_table;
 mod pick_tables;
 mod plan;

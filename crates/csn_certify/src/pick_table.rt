@@ -2,8 +2,9 @@
 
 ghost use Rattle.std.specs.Prelude.{◌≡◌, ◌+◌, ◌^◌, ◌<◌, ◌≤◌, length};
 ghost use Rattle.csn_look.specs.KeyMarks.{IsWord};
-ghost use Rattle.csn_certify.specs.PickTables.{HasEntries, entry_at};
+ghost use Rattle.csn_certify.specs.PickTables.{entry_at, table_in, IsWithin};
 
+use crate::pick_blocks::{BLOCK, Blocks};
 use csn_look::Word;
 use std::marker::Model;
 
@@ -22,49 +23,62 @@ pub(crate) enum Entry {
 /// The entries of a choice at an octet position, one for each word of at most `width` bits, at the place of the
 /// word. Longer words are cut to the width.
 #[derive(Debug, Drop)]
-pub(crate) struct PickTable {
-    none: Option<u16>,
-    width: u8,
-    entries: Vec<Entry>,
+pub(crate) struct Filled {
+    pub none: Option<u16>,
+    pub width: u8,
+    pub entries: Vec<Entry>,
 }
 
-impl Model for PickTable {
-    ghost use Rattle.csn_certify.specs.PickTables.{PickTableV, pick_table_code, HasEntries};
+/// The same, where the entries are kept in blocks: which block stands at each place.
+#[derive(Debug, Drop)]
+pub(crate) struct KeptTable {
+    pub none: Option<u16>,
+    pub width: u8,
+    pub index: Vec<u32>,
+}
+
+/// A table of a choice, with the blocks that have its entries.
+#[derive(Drop)]
+pub(crate) struct PickTable<'a> {
+    table: &'a KeptTable,
+    blocks: &'a Blocks,
+}
+
+impl<'a> Model for PickTable<'a> {
+    ghost use Rattle.csn_certify.specs.PickTables.{PickTableV, pick_table_code, table_in, IsWithin};
 
     ghost Value = { PickTableV };
 
     ghost coded = { pick_table_code };
 
-    ghost view = { λ t. record { none = t.none; width = t.width; entries = t.entries.items } };
+    ghost view = { λ t. table_in t.blocks.now t.table.now };
 
-    ghost invariant = { λ t. HasEntries t.width t.entries.items };
+    ghost invariant = { λ t. IsWithin t.blocks.now t.table.now };
 }
 
-impl PickTable {
-    /// A table with these entries.
-    pub fn new(none: Option<u16>, width: u8, entries: Vec<Entry>) -> PickTable
-        requires { HasEntries width entries.items }
-        ensures { result ≡ record { none = none; width = width; entries = entries.items } }
+impl<'a> PickTable<'a> {
+    /// The table in these blocks.
+    pub fn new(table: &'a KeptTable, blocks: &'a Blocks) -> PickTable<'a>
+        requires { IsWithin blocks.now table.now }
+        ensures { result ≡ table_in blocks.now table.now }
     {
-        PickTable {
-            none,
-            width,
-            entries,
-        }
+        PickTable { table, blocks }
     }
 
     /// The alternative that takes no bits, where there is one.
     pub fn none(&self) -> Option<u16>
         ensures { result ≡ self.now.none }
     {
-        self.none
+        self.table.none
     }
 
     /// The entry of held bits.
     pub fn entry(&self, held: &Word) -> Entry
         ensures { result ≡ entry_at self.now held.now }
     {
-        let over = held.len().saturating_sub(self.width);
-        self.entries.as_slice()[held.place() >> over]
+        let over = held.len().saturating_sub(self.table.width);
+        let place = held.place() >> over;
+        let block = self.table.index[place / BLOCK];
+        self.blocks.entry(block as usize, place % BLOCK)
     }
 }

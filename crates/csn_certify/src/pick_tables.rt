@@ -8,11 +8,12 @@ ghost use Rattle.csn_look.specs.ReachV.{IsReachOf};
 ghost use Rattle.csn_look.specs.FollowV.{IsFollowOf};
 ghost use Rattle.csn_certify.specs.Search.{IsSurveyed};
 ghost use Rattle.csn_look.specs.Steps.{HasPartsBelow};
-ghost use Rattle.csn_certify.specs.PickTables.{PickTableV, table_of, HasNumber, HaveTables, ArePickTables};
+ghost use Rattle.csn_certify.specs.PickTables.{PickTableV, table_of, HasEntries, IsTableOf, HasNumber, HaveTables, ArePickTables};
 ghost use Rattle.csn_certify.specs.Filling.{HaveSameTables};
 
 use crate::chooser::Chooser;
-use crate::pick_table::PickTable;
+use crate::pick_blocks::Blocks;
+use crate::pick_table::{Filled, KeptTable, PickTable};
 use crate::search::Search;
 use csn_bits::NoMemory;
 use csn_desc::{Desc, Node, Parts};
@@ -24,19 +25,23 @@ use std::marker::Model;
 /// the tables and their numbers, and `ArePickTables` says that they are those of a description.
 #[derive(Drop)]
 pub(crate) struct PickTables {
-    tables: Vec<PickTable>,
+    blocks: Blocks,
+    tables: Vec<KeptTable>,
     // for each node, and each octet position from 0 to 7, which table it has
     numbers: Vec<usize>,
 }
 
 impl Model for PickTables {
-    ghost use Rattle.csn_certify.specs.PickTables.{PickTablesV, pick_tables_code};
+    ghost use Rattle.std.specs.Prelude.{map};
+    ghost use Rattle.csn_certify.specs.PickTables.{PickTablesV, pick_tables_code, table_in, AreWithin};
 
     ghost Value = { PickTablesV };
 
     ghost coded = { pick_tables_code };
 
-    ghost view = { λ p. record { tables = p.tables.items; numbers = p.numbers.items } };
+    ghost view = { λ p. record { tables = map (table_in p.blocks) p.tables.items; numbers = p.numbers.items } };
+
+    ghost invariant = { λ p. AreWithin p.blocks p.tables.items };
 }
 
 impl PickTables {
@@ -56,6 +61,7 @@ impl PickTables {
         let known = Search { desc, look, reach };
         let count = desc.len();
         let mut picks = PickTables {
+            blocks: Blocks::new(alloc),
             tables: Vec::new(alloc),
             numbers: no_numbers(alloc, count)?,
         };
@@ -68,21 +74,21 @@ impl PickTables {
     }
 
     /// The table of a choice at an octet position.
-    pub fn table(&self, node: u16, octet: u8) -> &PickTable
+    pub fn table(&self, node: u16, octet: u8) -> PickTable<'_>
         requires octet { octet ≤ 7 }
         requires within { 8 * node + octet < length self.now.numbers }
         requires there { (t : PickTableV) × (table_of self.now node octet ≡ Some t) }
-        ensures { table_of self.now node octet ≡ Some result.now }
+        ensures { table_of self.now node octet ≡ Some result }
     {
         self.of(self.numbers.as_slice()[place(node, octet)])
     }
 
     /// The table with this number.
-    fn of(&self, number: usize) -> &PickTable
+    fn of(&self, number: usize) -> PickTable<'_>
         requires { number < length self.now.tables }
-        ensures { slice_get self.now.tables number ≡ Some result.now }
+        ensures { slice_get self.now.tables number ≡ Some result }
     {
-        &self.tables[number]
+        PickTable::new(&self.tables[number], &self.blocks)
     }
 
     /// Adds the tables of a choice.
@@ -134,7 +140,7 @@ impl PickTables {
             parts,
             octet,
         };
-        self.keep(chooser.table(alloc)?)
+        self.keep(alloc, chooser.table(alloc)?)
     }
 
     /// The number of the table of a choice at an earlier octet position, where the alternatives have the same keys.
@@ -162,14 +168,20 @@ impl PickTables {
         self.numbers[place] = number;
     }
 
-    /// Keeps a table, and answers its number.
-    fn keep(&mut self, table: PickTable) -> Result<usize, NoMemory>
-        ensures number { IfOk result (λ number. slice_get self.new.tables number ≡ Some table) }
+    /// Keeps the table of some entries, and answers its number.
+    fn keep(&mut self, alloc: Global, filled: Filled) -> Result<usize, NoMemory>
+        requires { HasEntries filled.width filled.entries.items }
+        ensures number { IfOk result (λ number. (t : PickTableV) × (slice_get self.new.tables number ≡ Some t) × IsTableOf filled t) }
         ensures numbers { self.new.numbers ≡ self.old.numbers }
         ensures more { (more : List PickTableV) × (self.new.tables ≡ self.old.tables ++ more) }
     {
+        let index = self.blocks.keep_all(alloc, filled.entries.as_slice())?;
         let number = self.tables.len();
-        self.tables.push(table)?;
+        self.tables.push(KeptTable {
+            none: filled.none,
+            width: filled.width,
+            index,
+        })?;
         Ok(number)
     }
 }

@@ -1,7 +1,7 @@
 use Rattle.std.proofs.Common.{◌≡◌, ◌+◌, ℕ, List, length, Option, Some, subst, sym, ap, ◌∙◌, arith}
 use Rattle.csn_look.proofs.Handing.ReachedParts.{written_back}
 use Rattle.csn_certify.specs.declared.pick_table.Entry.{Entry}
-use Rattle.csn_certify.specs.PickTables.{PickTableV, HasEntries, IsPickTable}
+use Rattle.csn_certify.specs.PickTables.{HasEntries}
 use Rattle.csn_certify.proofs.FillingFacts.{fresh_empty}
 use Rattle.csn_certify.proofs.ChooserFacts.{AllTell, deep_table, all_null, all_marks, table_done}
 use Rattle.csn_certify.proofs.chooser.Chooser.table.Goals.{in-None, in-Some}
@@ -44,11 +44,12 @@ pub returns : goal.returns
 returns c =
     let d = c.args.self.now.desc.now in
     let parts = c.args.self.now.parts.now in
-    let octet = c.args.self.now.octet in
     let count = c.len-j-end.ensures.len in
     let end = c.loop-j-test.false in
-    let P : PickTableV → Type 0 = λ t. IsPickTable d parts octet t in
-    subst P (sym c.new-2.ensures) (table_done d parts octet (length parts) c.loop-j.j c.width-width.result c.loop-j.none c.loop-j.entries.items c.width-width.ensures.deep (omega arith) (omega arith) c.loop-j.invariant.1)
+    record {
+      size = c.loop-j.invariant.0;
+      tells = table_done d parts c.args.self.now.octet (length parts) c.loop-j.j c.width-width.result c.loop-j.none c.loop-j.entries.items c.width-width.ensures.deep (omega arith) (omega arith) c.loop-j.invariant.1;
+    }
 
 pub fill-requires-clause-fresh : goal.fill-requires-clause-fresh
 fill-requires-clause-fresh c = fresh_empty c.in-Some.table.now c.new.result c.new.ensures
