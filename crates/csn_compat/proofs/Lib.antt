@@ -1,0 +1,2 @@
+pub mod PairFacts
+pub mod Taken

@@ -1,0 +1,5 @@
+//! Whether a new description takes the blocks of an old one.
+#![tactic(auto)]
+
+pub mod laws;
+mod pairs;
