@@ -1,8 +1,7 @@
 -- Fields that are pairs have one number, in the old values and in the new ones.
-use Rattle.std.proofs.Common.{◌≡◌, ℕ, zero, suc, ◌+◌, ◌*◌, ◌<◌, ◌≤◌, ◌==◌, ◌&&◌, ◌||◌, ◌⊎◌, Bool, true, false, if◌then◌else◌, IsTrue, List, [], ◌∷◌, ◌++◌, refl, sym, ◌∙◌, ap, subst, arith, inl, inr, Option, Some, None, eqb-true}
+use Rattle.std.proofs.Common.{◌≡◌, ℕ, ◌+◌, ◌*◌, ◌<◌, ◌≤◌, ◌==◌, ◌&&◌, ◌||◌, ◌⊎◌, Bool, true, false, if◌then◌else◌, IsTrue, List, [], ◌∷◌, ◌++◌, refl, sym, ◌∙◌, ap, arith, inl, inr, Option, Some, None, eqb-true}
 use Rattle.std.specs.Prelude.{slice_get}
 use Rattle.std.specs.Option.{option_map, option_and_then}
-use Rattle.std.specs.List.{list_any}
 use Rattle.std.proofs.lemmas.Bool.{eq-eqb}
 use Rattle.csn_bits.specs.Numbers.{number_of}
 use Rattle.csn_desc.specs.declared.node.Count.{Count}
@@ -154,10 +153,10 @@ as_many pairs v w unit other n (Fixed a) (Fixed b) values agree is = record {
 as_many pairs v w unit other n (Counted m field c) (Counted k taker e) values agree is = record {
   amount = n;
   counted =
-  ap (λ value. option_map (λ x. k * x + e) value) (sym (values.agree field taker agree.3))
-  ∙ ap (λ f. option_map (λ x. f * x + e) (value_of v field)) (sym agree.1)
-  ∙ ap (λ s. option_map (λ x. m * x + s) (value_of v field)) (sym agree.2)
-  ∙ is;
+      ap (λ value. option_map (λ x. k * x + e) value) (sym (values.agree field taker agree.3))
+      ∙ ap (λ f. option_map (λ x. f * x + e) (value_of v field)) (sym agree.1)
+      ∙ ap (λ s. option_map (λ x. m * x + s) (value_of v field)) (sym agree.2)
+      ∙ is;
   equal = ap (λ u. u * n) agree.0;
 }
 as_many pairs v w unit other n (Fixed a) (Counted k taker e) values agree is = absurd agree

@@ -1,28 +1,27 @@
 -- What the new description takes has a tree by it.
-use Rattle.std.proofs.Common.{◌≡◌, ℕ, zero, suc, ◌+◌, ◌*◌, ◌<◌, Bool, true, false, List, [], ◌∷◌, ◌++◌, length, refl, sym, ◌∙◌, ap, subst, arith, append-nil, Some}
-use Rattle.std.specs.Prelude.{slice_get, replicate}
+use Rattle.std.proofs.Common.{◌≡◌, ℕ, suc, List, [], length, refl, sym, ◌∙◌, ap, subst, arith, append-nil, Some}
+use Rattle.std.specs.Prelude.{slice_get}
 use Rattle.csn_bits.specs.Octets.{IsBits}
 use Rattle.csn_desc.specs.declared.reading.Reading.{Reading}
 use Rattle.csn_desc.specs.declared.symbol.Symbol.{Symbol}
 use Rattle.csn_desc.specs.declared.symbol.Symbol.TheVariants.{Low}
-use Rattle.csn_desc.specs.declared.node.Count.{Count}
 use Rattle.csn_desc.specs.declared.node.Count.TheVariants.{Fixed}
 use Rattle.csn_desc.specs.declared.node.Node.{Node}
-use Rattle.csn_desc.specs.declared.node.Node.TheVariants.{Lits, Spare, Pad, Null, Field, Rest, Seq, Choice, Times, Many, Trunc, Window, Named}
+use Rattle.csn_desc.specs.declared.node.Node.TheVariants.{Lits, Spare, Pad, Null, Field, Rest, Choice, Times, Many, Trunc, Window, Named}
 use Rattle.csn_desc.specs.TreeV.{TreeV, empty, bits, row, alt, named, Trees, none, more}
-use Rattle.csn_desc.specs.Nodes.{DescV, parts_of}
+use Rattle.csn_desc.specs.Nodes.{DescV}
 use Rattle.csn_desc.specs.Spelled.{spelled, IsSpare}
-use Rattle.csn_desc.specs.Values.{Values, count_of, with_value}
+use Rattle.csn_desc.specs.Values.{Values}
 use Rattle.csn_desc.specs.Means.{NMeans, NodeMeans, PartsMean, TimesMean, ManyMean, LeadMean, means_at, means_lits, means_spare, means_pad, means_null, means_field, means_rest, means_seq, means_choice, means_times, means_many, means_cut, means_trunc, means_window, means_named, parts_end, parts_next, times_end, times_next, many_end, many_next, lead_last, lead_next}
-use Rattle.csn_desc.specs.Formed.{IsDescription, Spans, PartsSpan, span_end, span_next}
+use Rattle.csn_desc.specs.Formed.{Spans, PartsSpan, span_next}
 use Rattle.csn_desc.proofs.Nodewise.{meaning_at}
 use Rattle.csn_desc.proofs.MeantBits.{meant_bits}
 use Rattle.csn_desc.proofs.BitFacts.{IsBits-along, IsBits-split, IsBits-spelled, IsBits-spare, length-spelled}
-use Rattle.csn_desc.proofs.Numbering.{span_grows, parts_span_grow, part_from, part_spans, span_parts}
+use Rattle.csn_desc.proofs.Numbering.{span_grows, span_parts}
 use Rattle.csn_compat.specs.declared.pairs.Pair.{Pair}
-use Rattle.csn_compat.specs.Pairs.{with_pair, CountsAgree}
-use Rattle.csn_compat.specs.Takes.{IsAnyBits, Takes, NodeTakes, PartsTake, LeadTake, any_bits, any_bits_labelled, takes_at, takes_labelled, takes_by_labelled, takes_by_rest, takes_choice, takes_by_choice, takes_null, takes_null_by_many, takes_null_by_trunc, takes_lits, takes_lits_by_field, takes_spare, takes_spare_by_field, takes_pad, takes_field, takes_seq, takes_times, takes_many, takes_trunc, takes_window, parts_taken, parts_take, parts_taken_by_rest, lead_taken, lead_takes}
-use Rattle.csn_compat.specs.Laws.{TakesStrings, BlocksAreTaken}
+use Rattle.csn_compat.specs.Takes.{LeafTakes, takes_leaf, IsAnyBits, Takes, NodeTakes, PartsTake, LeadTake, any_bits, any_bits_labelled, takes_at, takes_labelled, takes_by_labelled, takes_by_rest, takes_choice, takes_by_choice, takes_seq, takes_times, takes_many, takes_trunc, takes_window, parts_taken, parts_take, parts_taken_by_rest, lead_taken, lead_takes}
+use Rattle.csn_compat.specs.Laws.{BlocksAreTaken}
+use Rattle.csn_compat.proofs.Below.{below}
 use Rattle.csn_compat.proofs.PairFacts.{AreEarlier, AgreeOn, none_earlier, none_agree, later_still, next_earlier, next_agree, as_many}
 
 -- some tree, or some trees, of the bits
@@ -51,10 +50,10 @@ record HasMany (d : DescV) (j o : ℕ) (w : Values) (b : List ℕ) : Type 0 wher
   means : ManyMean d j o w b trees
 
 -- any bits have a tree where any are taken
-any_tree : (was now : DescV) (o : ℕ) (w : Values) (b : List ℕ) {j : ℕ} → IsAnyBits was now j → IsBits b → HasTree now j o w b
-any_tree was now o w b (any_bits at) is = record { tree = bits b; means = means_at Rest at (means_rest is) }
-any_tree was now o w b (any_bits_labelled label part at h) is =
-    let inner = any_tree was now o w b h is in
+any_tree : (now : DescV) (o : ℕ) (w : Values) (b : List ℕ) {j : ℕ} → IsAnyBits now j → IsBits b → HasTree now j o w b
+any_tree now o w b (any_bits at) is = record { tree = bits b; means = means_at Rest at (means_rest is) }
+any_tree now o w b (any_bits_labelled label part at h) is =
+    let inner = any_tree now o w b h is in
     record { tree = named label inner.tree; means = means_at (Named label part) at (means_named inner.means) }
 
 -- turn by turn
@@ -83,19 +82,7 @@ spare_along r s x y o b same equal is =
     let Q : Symbol → Type 0 = λ k. IsSpare r k o b in
     subst P same (subst Q equal is)
 
--- a part of a node
-record Below (nodes : List Node) (i p : ℕ) : Type 0 where
-  behind : i < p
-  end : ℕ
-  span : Spans nodes p end
-
-below : (nodes : List Node) (i e k p : ℕ) (n : Node) → slice_get nodes i ≡ Some n → Spans nodes i e → slice_get (parts_of n) k ≡ Some p → Below nodes i p
-below nodes i e k p n at h there =
-    let parts = span_parts nodes at h in
-    let inner = part_spans nodes k p parts there in
-    let from = part_from nodes k p parts there in
-    record { behind = omega arith; end = inner.0; span = inner.1 }
-
+-- pairs that are earlier than some parts are earlier than the first of them
 start : (pairs : List Pair) (at to p q : ℕ) → p ≡ at → q ≡ to → AreEarlier pairs at to → AreEarlier pairs p q
 start pairs at to p q is_p is_q = later_still pairs at to p q (omega arith) (omega arith)
 
@@ -104,6 +91,25 @@ node_tree : (now : DescV) {j o : ℕ} {w : Values} {b : List ℕ} {m : Node} →
 node_tree now at h = record { tree = h.tree; means = meaning_at now at h.means }
 
 module _ (was now : DescV) (readings : was.reading ≡ now.reading) where
+  -- a leaf that is taken
+  leaf_carried : (n m : Node) {pairs : List Pair} → LeafTakes pairs n m → {o : ℕ} {v w : Values} {b : List ℕ} {t : TreeV} → AgreeOn pairs v w → NodeMeans was n o v b t → HasNodeTree now m o w b
+  leaf_carried Null Null h agree (means_null void) = record { tree = empty; means = means_null void }
+  leaf_carried Null (Many other) h agree (means_null void) = record { tree = row none; means = means_many (many_end void) }
+  leaf_carried Null (Trunc others) h agree (means_null void) = record { tree = row none; means = means_cut void }
+  leaf_carried (Lits run) (Lits other) same {o = o} agree (means_lits is) = record { tree = empty; means = means_lits (is ∙ ap (λ run. spelled run o) same) }
+  leaf_carried (Lits run) (Field unit (Fixed n)) wide {o = o} {b = b} agree (means_lits is) =
+      record { tree = bits b; means = means_field n refl (ap length is ∙ length-spelled run o ∙ sym wide) (IsBits-along is (IsBits-spelled run o)) }
+  leaf_carried (Spare x) (Spare y) same {o = o} {b = b} agree (means_spare one is) =
+      record { tree = bits b; means = means_spare one (spare_along was.reading now.reading x y o b readings same is) }
+  leaf_carried (Spare x) (Field unit (Fixed n)) wide {o = o} {b = b} agree (means_spare one is) =
+      record { tree = bits b; means = means_field n refl (one ∙ sym wide) (IsBits-spare was.reading x o b is) }
+  leaf_carried Pad Pad h {o = o} {b = b} agree (means_pad some is) =
+      record { tree = bits b; means = means_pad some (spare_along was.reading now.reading Low Low o b readings refl is) }
+  leaf_carried (Field unit count) (Field other taker) {pairs = pairs} counts {v = v} {w = w} {b = b} agree (means_field n is_n wide is) =
+      let many = as_many pairs v w unit other n count taker agree counts is_n in
+      record { tree = bits b; means = means_field many.amount many.counted (wide ∙ many.equal) is }
+  leaf_carried _ _ h agree means = absurd h
+
   mutual
     carried : {i j : ℕ} {pairs : List Pair} → Takes was now i j pairs → (e f : ℕ) → Spans was.nodes i e → Spans now.nodes j f → AreEarlier pairs i j → {o : ℕ} {v w : Values} {b : List ℕ} {t : TreeV} → AgreeOn pairs v w → NMeans was i o v b t → HasTree now j o w b
     carried (takes_at n m at_i at_j h) e f old new earlier agree means =
@@ -129,21 +135,7 @@ module _ (was now : DescV) (readings : was.reading ≡ now.reading) where
         let down = below now.nodes j f k q (Choice others) at_j new at in
         let inner = carried h e down.end old down.span (later_still pairs i j i q (omega arith) (omega (arith, down.behind)) earlier) agree (means_at n at_i means) in
         record { tree = alt k inner.tree; means = means_choice at inner.means }
-    node_carried takes_null e f at_i at_j old new earlier agree (means_null void) = record { tree = empty; means = means_null void }
-    node_carried takes_null_by_many e f at_i at_j old new earlier agree (means_null void) = record { tree = row none; means = means_many (many_end void) }
-    node_carried takes_null_by_trunc e f at_i at_j old new earlier agree (means_null void) = record { tree = row none; means = means_cut void }
-    node_carried (takes_lits same) e f at_i at_j old new earlier {o = o} agree (means_lits is) = record { tree = empty; means = means_lits (is ∙ ap (λ run. spelled run o) same) }
-    node_carried (takes_lits_by_field {n = n} {run = run} wide) e f at_i at_j old new earlier {o = o} {b = b} agree (means_lits is) =
-        record { tree = bits b; means = means_field n refl (ap length is ∙ length-spelled run o ∙ sym wide) (IsBits-along is (IsBits-spelled run o)) }
-    node_carried (takes_spare {symbol = x} {other = y} same) e f at_i at_j old new earlier {o = o} {b = b} agree (means_spare one is) =
-        record { tree = bits b; means = means_spare one (spare_along was.reading now.reading x y o b readings same is) }
-    node_carried (takes_spare_by_field {n = n} {symbol = x} wide) e f at_i at_j old new earlier {o = o} {b = b} agree (means_spare one is) =
-        record { tree = bits b; means = means_field n refl (one ∙ sym wide) (IsBits-spare was.reading x o b is) }
-    node_carried takes_pad e f at_i at_j old new earlier {o = o} {b = b} agree (means_pad some is) =
-        record { tree = bits b; means = means_pad some (spare_along was.reading now.reading Low Low o b readings refl is) }
-    node_carried (takes_field {unit = unit} {other = other} {count = count} {taker = taker} {pairs = pairs} counts) e f at_i at_j old new earlier {v = v} {w = w} {b = b} agree (means_field n is_n wide is) =
-        let many = as_many pairs v w unit other n count taker agree counts is_n in
-        record { tree = bits b; means = means_field many.amount many.counted (wide ∙ many.equal) is }
+    node_carried (takes_leaf {n = n} {m = m} h) e f at_i at_j old new earlier agree means = leaf_carried n m h agree means
     node_carried (takes_seq {i = i} {j = j} {pairs = pairs} h) e f at_i at_j old new earlier agree (means_seq means) =
         let inner = parts_carried h e f (span_parts was.nodes at_i old) (span_parts now.nodes at_j new) (later_still pairs i j (suc i) (suc j) (omega arith) (omega arith) earlier) agree means in
         record { tree = row inner.trees; means = means_seq inner.means }
@@ -181,7 +173,7 @@ module _ (was now : DescV) (readings : was.reading ≡ now.reading) where
         let others_tree = parts_carried rest e f later behind (next_earlier was now pairs p q middle center (span_grows was.nodes span) (span_grows now.nodes wide) here) (next_agree was now pairs p q v w b1 here agree) others in
         record { trees = more inner.tree others_tree.trees; means = parts_next b1 b2 cut inner.means others_tree.means }
     parts_carried (parts_taken_by_rest any) e f old new earlier {o = o} {w = w} {b = b} agree means =
-        let inner = any_tree was now o w b any (parts_are_bits was means) in
+        let inner = any_tree now o w b any (parts_are_bits was means) in
         record { trees = more inner.tree none; means = parts_next b [] (sym (append-nil b)) inner.means (parts_end refl) }
 
     lead_carried : {parts others : List ℕ} {pairs : List Pair} → LeadTake was now parts others pairs → {at to : ℕ} (e f : ℕ) → PartsSpan was.nodes parts at e → PartsSpan now.nodes others to f → AreEarlier pairs at to → {o : ℕ} {v w : Values} {b : List ℕ} {ts : Trees} → AgreeOn pairs v w → LeadMean was parts o v b ts → HasLead now others o w b

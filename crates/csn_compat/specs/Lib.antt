@@ -1,3 +1,4 @@
 pub mod Pairs
 pub mod Takes
+pub mod Places
 pub mod Laws

@@ -5,7 +5,7 @@ use Rattle.std.specs.List.{list_any}
 use Rattle.csn_desc.specs.declared.node.Count.{Count}
 use Rattle.csn_desc.specs.declared.node.Count.TheVariants.{Fixed, Counted}
 use Rattle.csn_desc.specs.Nodes.{DescV}
-use Rattle.csn_desc.specs.Formed.{value_width}
+use Rattle.csn_desc.specs.Formed.{value_width, is_counted}
 use Rattle.csn_compat.specs.declared.pairs.Pair.{Pair}
 
 -- are these two fields a pair?
@@ -23,6 +23,10 @@ with_pair was now p q pairs =
     if same_width (value_width was.nodes p) (value_width now.nodes q)
     then pairs ++ record { before = p; after = q } ∷ []
     else pairs
+
+-- the same, without those whose old field no count stands on
+abbrev pub with_kept : DescV → DescV → ℕ → ℕ → List Pair → List Pair
+with_kept was now p q pairs = if is_counted was.nodes p then with_pair was now p q pairs else pairs
 
 -- two counts, of units of so many bits, are as many bits: constant ones where they are equal in bits, and those on
 -- fields where unit, factor and summand are equal and the fields are a pair

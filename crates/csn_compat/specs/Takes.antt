@@ -1,8 +1,7 @@
 -- When a node of a new description takes the bits of a node of an old one. The kinds of the two nodes choose the
 -- case: labels are passed by first, then come any bits, the alternatives of the old node, and those of the new one.
 -- That a node is taken is enough for its bits to have a tree, and is not needed for it.
-use Rattle.std.specs.Prelude.{◌≡◌, ℕ, ◌*◌, Bool, true, false, List, [], ◌∷◌, length, slice_get, Some}
-use Rattle.csn_desc.specs.declared.symbol.Symbol.{Symbol}
+use Rattle.std.specs.Prelude.{◌≡◌, ℕ, ◌*◌, Bool, true, false, List, [], ◌∷◌, length, slice_get, Some, ⊤}
 use Rattle.csn_desc.specs.declared.node.Count.{Count}
 use Rattle.csn_desc.specs.declared.node.Count.TheVariants.{Fixed}
 use Rattle.csn_desc.specs.declared.node.Node.{Node}
@@ -28,14 +27,30 @@ is_label_or_choice (Named label part) = true
 is_label_or_choice (Choice parts) = true
 is_label_or_choice _ = false
 
-module _ (was now : DescV) where
-  -- without its labels, the new node is any bits
+-- a node that has no parts is taken as it stands: no bits by what may have none, a literal by an equal one or by a
+-- field of as many bits, a spare bit by one of the same symbol or by a field of one bit, and a field by one of as
+-- many bits
+abbrev pub LeafTakes : List Pair → Node → Node → Type 0
+LeafTakes pairs Null Null = ⊤
+LeafTakes pairs Null (Many other) = ⊤
+LeafTakes pairs Null (Trunc others) = ⊤
+LeafTakes pairs (Lits run) (Lits other) = run ≡ other
+LeafTakes pairs (Lits run) (Field unit (Fixed n)) = unit * n ≡ length run
+LeafTakes pairs (Spare symbol) (Spare other) = symbol ≡ other
+LeafTakes pairs (Spare symbol) (Field unit (Fixed n)) = unit * n ≡ 1
+LeafTakes pairs Pad Pad = ⊤
+LeafTakes pairs (Field unit count) (Field other taker) = CountsAgree pairs unit count other taker
+LeafTakes pairs _ _ = ⊥
+
+module _ (d : DescV) where
+  -- without its labels, the node is any bits
   pub data IsAnyBits : ℕ → Type 0 where
-    any_bits : {j : ℕ} → slice_get now.nodes j ≡ Some Rest → IsAnyBits j
+    any_bits : {j : ℕ} → slice_get d.nodes j ≡ Some Rest → IsAnyBits j
     any_bits_labelled :
-        {j : ℕ} (label : List ℕ) (part : ℕ) → slice_get now.nodes j ≡ Some (Named label part) → IsAnyBits part
+        {j : ℕ} (label : List ℕ) (part : ℕ) → slice_get d.nodes j ≡ Some (Named label part) → IsAnyBits part
         → IsAnyBits j
 
+module _ (was now : DescV) where
   mutual
     -- node j of the new description takes node i of the old one, where these fields are pairs
     pub data Takes : ℕ → ℕ → List Pair → Type 0 where
@@ -69,33 +84,7 @@ module _ (was now : DescV) where
           {i j : ℕ} {others : List ℕ} {n : Node} {pairs : List Pair}
           (k q : ℕ) → is_label_or_choice n ≡ false → slice_get others k ≡ Some q → Takes i q pairs
           → NodeTakes i n j (Choice others) pairs
-      -- no bits are taken by what may have none
-      takes_null : {i j : ℕ} {pairs : List Pair} → NodeTakes i Null j Null pairs
-      takes_null_by_many : {i j other : ℕ} {pairs : List Pair} → NodeTakes i Null j (Many other) pairs
-      takes_null_by_trunc : {i j : ℕ} {others : List ℕ} {pairs : List Pair} → NodeTakes i Null j (Trunc others) pairs
-      -- a literal is taken by an equal one, and by a field of as many bits
-      takes_lits :
-          {i j : ℕ} {run other : List Symbol} {pairs : List Pair}
-          → run ≡ other
-          → NodeTakes i (Lits run) j (Lits other) pairs
-      takes_lits_by_field :
-          {i j unit n : ℕ} {run : List Symbol} {pairs : List Pair}
-          → unit * n ≡ length run
-          → NodeTakes i (Lits run) j (Field unit (Fixed n)) pairs
-      -- a spare bit is taken by one of the same symbol, and by a field of one bit
-      takes_spare :
-          {i j : ℕ} {symbol other : Symbol} {pairs : List Pair}
-          → symbol ≡ other
-          → NodeTakes i (Spare symbol) j (Spare other) pairs
-      takes_spare_by_field :
-          {i j unit n : ℕ} {symbol : Symbol} {pairs : List Pair}
-          → unit * n ≡ 1
-          → NodeTakes i (Spare symbol) j (Field unit (Fixed n)) pairs
-      takes_pad : {i j : ℕ} {pairs : List Pair} → NodeTakes i Pad j Pad pairs
-      takes_field :
-          {i j unit other : ℕ} {count taker : Count} {pairs : List Pair}
-          → CountsAgree pairs unit count other taker
-          → NodeTakes i (Field unit count) j (Field other taker) pairs
+      takes_leaf : {i j : ℕ} {n m : Node} {pairs : List Pair} → LeafTakes pairs n m → NodeTakes i n j m pairs
       takes_seq :
           {i j : ℕ} {parts others : List ℕ} {pairs : List Pair}
           → PartsTake parts others pairs
@@ -126,7 +115,7 @@ module _ (was now : DescV) where
           → PartsTake (p ∷ parts) (q ∷ others) pairs
       parts_taken_by_rest :
           {p q : ℕ} {parts : List ℕ} {pairs : List Pair}
-          → IsAnyBits q
+          → IsAnyBits now q
           → PartsTake (p ∷ parts) (q ∷ []) pairs
 
     -- each part is taken by the one at its place, and more may stand behind these
