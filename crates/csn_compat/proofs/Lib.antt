@@ -7,3 +7,4 @@ pub mod KeptPairs
 pub mod ByPlaces
 pub mod Taken
 pub mod Lists
+pub mod ExampleFacts

@@ -2,3 +2,4 @@ pub mod Pairs
 pub mod Takes
 pub mod Places
 pub mod Laws
+pub mod Examples

@@ -2,9 +2,12 @@
 #![tactic(auto)]
 
 mod comparing;
+pub mod examples;
 pub mod laws;
 mod leaf;
 mod pairs;
 mod taking;
+#[cfg(test)]
+mod tests;
 
 pub use comparing::compat;
