@@ -1,8 +1,8 @@
 -- The worked examples hold, case by case.
 use Rattle.std.proofs.Common.{[], ◌∷◌, refl}
-use Rattle.csn_desc.specs.declared.symbol.Symbol.TheVariants.{Zero, One}
+use Rattle.csn_desc.specs.declared.symbol.Symbol.TheVariants.{Zero}
 use Rattle.csn_desc.specs.declared.node.Count.TheVariants.{Fixed, Counted}
-use Rattle.csn_desc.specs.declared.node.Node.TheVariants.{Lits, Field, Rest, Seq, Choice, Named}
+use Rattle.csn_desc.specs.declared.node.Node.TheVariants.{Lits, Field, Seq, Choice, Named}
 use Rattle.csn_compat.specs.Takes.{any_bits, any_bits_labelled, takes_at, takes_labelled, takes_by_labelled, takes_by_choice, takes_leaf, takes_seq, parts_taken, parts_take, parts_taken_by_rest}
 use Rattle.csn_compat.specs.Examples.{LaterMessageTakesMessage, CountsGoByPairs}
 
