@@ -1,0 +1,10 @@
+pub mod AnyBits
+pub mod Below
+pub mod KindFacts
+pub mod PairFacts
+pub mod PlaceFacts
+pub mod KeptPairs
+pub mod ByPlaces
+pub mod Taken
+pub mod Lists
+pub mod ExampleFacts

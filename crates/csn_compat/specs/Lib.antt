@@ -1,0 +1,5 @@
+pub mod Pairs
+pub mod Takes
+pub mod Places
+pub mod Laws
+pub mod Examples

@@ -1,0 +1,13 @@
+//! Whether a new description takes the blocks of an old one.
+#![tactic(auto)]
+
+mod comparing;
+pub mod examples;
+pub mod laws;
+mod leaf;
+mod pairs;
+mod taking;
+#[cfg(test)]
+mod tests;
+
+pub use comparing::compat;

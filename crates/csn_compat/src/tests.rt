@@ -1,0 +1,143 @@
+use super::*;
+use csn_desc::{Count, Desc, DescBuilder, Head, Label, Reading, Run, Symbol};
+use std::alloc::Global;
+use std::test::Fail;
+
+fn enter(builder: &mut DescBuilder, head: Head) -> bool {
+    builder.takes(&head) && builder.enter(head).is_ok()
+}
+
+fn leave(builder: &mut DescBuilder) -> bool {
+    let may = builder.may_leave();
+    if may {
+        builder.leave();
+    }
+    may
+}
+
+fn leaf(builder: &mut DescBuilder, head: Head) -> bool {
+    enter(builder, head) && leave(builder)
+}
+
+fn literal(alloc: Global, builder: &mut DescBuilder, symbol: Symbol) -> Result<bool, Fail> {
+    let mut run = Run::new(alloc);
+    run.push(symbol).map_err(|_| "out of memory")?;
+    Ok(leaf(builder, Head::Lits(run)))
+}
+
+fn labelled(
+    alloc: Global,
+    builder: &mut DescBuilder,
+    name: &[u8],
+    head: Head,
+) -> Result<bool, Fail> {
+    let label = Label::new(alloc, name).map_err(|_| "no label")?;
+    Ok(enter(builder, Head::Named(label)) && leaf(builder, head) && leave(builder))
+}
+
+fn bits(n: u32) -> Head {
+    Head::Field {
+        unit: 1,
+        count: Count::Fixed(n),
+    }
+}
+
+fn finished(builder: DescBuilder, built: bool) -> Result<Desc, Fail> {
+    if !built || !builder.is_whole() {
+        return Err("not built".into());
+    }
+    Ok(builder.finish().map_err(|_| "no description")?)
+}
+
+// 0 <A : bit (3)> <B : bit (4)>
+fn message(alloc: Global) -> Result<Desc, Fail> {
+    let mut builder = DescBuilder::new(alloc, Reading::Received);
+    let built = enter(&mut builder, Head::Seq)
+        && literal(alloc, &mut builder, Symbol::Zero)?
+        && labelled(alloc, &mut builder, b"A", bits(3))?
+        && labelled(alloc, &mut builder, b"B", bits(4))?
+        && leave(&mut builder);
+    finished(builder, built)
+}
+
+// { 0 <A : bit (3)> <Later : bit (**)> | 1 }
+fn later_message(alloc: Global) -> Result<Desc, Fail> {
+    let mut builder = DescBuilder::new(alloc, Reading::Received);
+    let built = enter(&mut builder, Head::Choice)
+        && enter(&mut builder, Head::Seq)
+        && literal(alloc, &mut builder, Symbol::Zero)?
+        && labelled(alloc, &mut builder, b"A", bits(3))?
+        && labelled(alloc, &mut builder, b"Later", Head::Rest)?
+        && leave(&mut builder)
+        && literal(alloc, &mut builder, Symbol::One)?
+        && leave(&mut builder);
+    finished(builder, built)
+}
+
+// <N : bit (2)> <V : bit (val(N) + more)>, under some label in the place of V
+fn counted(alloc: Global, name: &[u8], more: u32) -> Result<Desc, Fail> {
+    let mut builder = DescBuilder::new(alloc, Reading::Received);
+    let count = Count::Counted {
+        m: 1,
+        field: 1,
+        c: more,
+    };
+    let built = enter(&mut builder, Head::Seq)
+        && labelled(alloc, &mut builder, b"N", bits(2))?
+        && labelled(alloc, &mut builder, name, Head::Field { unit: 1, count })?
+        && leave(&mut builder);
+    finished(builder, built)
+}
+
+// <A : bit (3)> 0 <B : bit (4)>
+fn flat(alloc: Global) -> Result<Desc, Fail> {
+    let mut builder = DescBuilder::new(alloc, Reading::Received);
+    let built = enter(&mut builder, Head::Seq)
+        && labelled(alloc, &mut builder, b"A", bits(3))?
+        && literal(alloc, &mut builder, Symbol::Zero)?
+        && labelled(alloc, &mut builder, b"B", bits(4))?
+        && leave(&mut builder);
+    finished(builder, built)
+}
+
+// <A : bit (3)> { 0 <B : bit (4)> | 1 }
+fn branched(alloc: Global) -> Result<Desc, Fail> {
+    let mut builder = DescBuilder::new(alloc, Reading::Received);
+    let built = enter(&mut builder, Head::Seq)
+        && labelled(alloc, &mut builder, b"A", bits(3))?
+        && enter(&mut builder, Head::Choice)
+        && enter(&mut builder, Head::Seq)
+        && literal(alloc, &mut builder, Symbol::Zero)?
+        && labelled(alloc, &mut builder, b"B", bits(4))?
+        && leave(&mut builder)
+        && literal(alloc, &mut builder, Symbol::One)?
+        && leave(&mut builder)
+        && leave(&mut builder);
+    finished(builder, built)
+}
+
+fn answer(was: &Desc, now: &Desc) -> Option<bool> {
+    if was.reading() == now.reading() {
+        Some(compat(was, now))
+    } else {
+        None
+    }
+}
+
+#[test]
+fn a_description_takes_the_blocks_of_another(rt: HostRuntime) -> Result<(), Fail> {
+    let alloc = rt.alloc();
+    let cases = [
+        (message(alloc)?, later_message(alloc)?, true),
+        (later_message(alloc)?, message(alloc)?, false),
+        (later_message(alloc)?, later_message(alloc)?, true),
+        (counted(alloc, b"V", 1)?, counted(alloc, b"C", 1)?, true),
+        (counted(alloc, b"V", 1)?, counted(alloc, b"V", 2)?, false),
+        (flat(alloc)?, branched(alloc)?, false),
+        (branched(alloc)?, branched(alloc)?, true),
+    ];
+    for (was, now, taken) in &cases {
+        assert_eq!(rt; answer(was, now), Some(*taken));
+    }
+    Ok(())
+}
