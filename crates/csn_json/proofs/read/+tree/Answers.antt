@@ -1,0 +1,118 @@
+use Rattle.std.proofs.Common.{◌≡◌, ◌+◌, ◌++◌, ◌∷◌, [], ◌≤◌, ◌<◌, length, take, refl, ap, sym, ◌∙◌, subst, arith, rules, inl, inr, length-append}
+use Rattle.std.proofs.lemmas.Result.{err_from_is_err_and}
+use Rattle.csn_desc.specs.TreeV.{trees_of}
+use Rattle.serde_json.specs.Data.{boolean, number, string, array, object}
+use Rattle.serde_json.specs.View.{view, number_view, items_view, members_view}
+use Rattle.serde_json.specs.declared.value.Value.{the_lemmas}
+use Rattle.serde_json.proofs.Views.{view-Array}
+use Rattle.csn_json.specs.Reading.{IsShown, AreShown, values_in_items}
+use Rattle.csn_json.proofs.Refusals.{passed, no_room, no_truth, no_number, line_of, row_of, tag_of, known_tag, no_alternative, no_label, no_inside, no_key}
+use Rattle.csn_json.proofs.Rows.{next_shown, item_shown, few_items, few_in_item}
+use Rattle.csn_json.proofs.read.+tree.Goals as goal
+
+-- ---- the values of an array
+
+pub rows_of-tree_of-requires : goal.rows_of-tree_of-requires
+rows_of-tree_of-requires t c =
+    let xs = c.deref-value-items.result.now in
+    let few = few_in_item xs c.loop-value.value-index c.value-item.result (omega arith) c.value-item.is in
+    let same = ap (λ vs. values_in_items (items_view vs)) c.deref-value-items.ensures.value in
+    (omega (arith, few, same, c.decreases), (c.requires.round, omega (arith, few, same, c.requires.few)))
+
+pub rows_of-returns-in_err-tree-clause-refused : goal.rows_of-returns-in_err-tree-clause-refused
+rows_of-returns-in_err-tree-clause-refused t c =
+    let xs = c.deref-value-items.result.now in
+    let p = err_from_is_err_and c.from_residual.result c.from_residual.ensures.1 in
+    passed c.from_residual.result p.0 c.in_err-tree.field-0.0 p.1 p.2 (λ nothing ts all.
+    let here = subst (λ vs. AreShown c.args.round (items_view vs) ts) (sym c.deref-value-items.ensures.value) all in
+    let found = item_shown c.args.round xs c.loop-value.value-index c.value-item.result ts (omega arith) c.value-item.is here in
+    nothing found.0 found.1) c.in_err-tree.ensures.refused
+
+pub rows_of-push-requires : goal.rows_of-push-requires
+rows_of-push-requires t c =
+    let same = ap (λ vs. values_in_items (items_view vs)) c.deref-value-items.ensures.value in
+    omega (arith, c.loop-value.invariant.1, few_items c.deref-value-items.result.now, same, c.requires.few)
+
+pub rows_of-loop-value-preserved : goal.rows_of-loop-value-preserved
+rows_of-loop-value-preserved t c =
+    let xs = c.deref-value-items.result.now in
+    let at = c.loop-value.value-index in
+    let rows = c.loop-value.rows in
+    let tree = c.in_ok-tree.tree in
+    let pushed : c.push.new.self ≡ rows ++ tree ∷ [] = search rules in (
+      subst (λ ts. AreShown c.args.round (items_view (take (at + 1) xs)) (trees_of ts)) (sym pushed)
+          (next_shown c.args.round xs at c.value-item.result rows tree (omega arith) c.value-item.is c.loop-value.invariant.0 c.in_ok-tree.ensures.ok),
+      omega (arith, ap (λ ts. length ts) pushed, length-append rows (tree ∷ []), c.loop-value.invariant.1),
+    )
+
+-- ---- the members of an object
+
+pub tagged_of-returns-in_default-clause-refused : goal.tagged_of-returns-in_default-clause-refused
+tagged_of-returns-in_default-clause-refused t c = λ t' is.
+    let found = tag_of c.args.round (members_view c.args.members.now.entries) t' is in
+    c.in_default.ensures.none found.0 found.1 found.2 found.3
+
+pub tagged_of-returns-in_default-key-clause-refused : goal.tagged_of-returns-in_default-key-clause-refused
+tagged_of-returns-in_default-key-clause-refused t c = λ t' is.
+    no_key c.args.round c.in-Some.key.now (view c.in-Some.of.now) (view c.in-Some.inside.now) c.in_default-key.not-alt c.in_default-key.not-label
+    (known_tag c.args.round (members_view c.args.members.now.entries) c.in-Some.key.now (view c.in-Some.of.now) (view c.in-Some.inside.now) c.in-Some.ensures.some t' is)
+
+pub tagged_of-returns-in_err-number-in-alt-clause-refused : goal.tagged_of-returns-in_err-number-in-alt-clause-refused
+tagged_of-returns-in_err-number-in-alt-clause-refused t c =
+    let p = err_from_is_err_and c.from_residual.result c.from_residual.ensures.1 in
+    passed c.from_residual.result p.0 c.in_err-number-in-alt.field-0.0 p.1 p.2 (λ nothing t' is.
+    no_alternative c.args.round c.in-Some.key.now (view c.in-Some.of.now) (view c.in-Some.inside.now) c.in-alt.is nothing
+    (known_tag c.args.round (members_view c.args.members.now.entries) c.in-Some.key.now (view c.in-Some.of.now) (view c.in-Some.inside.now) c.in-Some.ensures.some t' is)) c.in_err-number-in-alt.ensures.refused
+
+pub tagged_of-returns-in_err-label-in-label-clause-refused : goal.tagged_of-returns-in_err-label-in-label-clause-refused
+tagged_of-returns-in_err-label-in-label-clause-refused t c =
+    let p = err_from_is_err_and c.from_residual-in_err-label-in-label.result c.from_residual-in_err-label-in-label.ensures.1 in
+    passed c.from_residual-in_err-label-in-label.result p.0 c.in_err-label-in-label.field-0.0 p.1 p.2 (λ nothing t' is.
+    no_label c.args.round c.in-Some.key.now (view c.in-Some.of.now) (view c.in-Some.inside.now) c.in-label.is nothing
+    (known_tag c.args.round (members_view c.args.members.now.entries) c.in-Some.key.now (view c.in-Some.of.now) (view c.in-Some.inside.now) c.in-Some.ensures.some t' is)) c.in_err-label-in-label.ensures.refused
+
+pub tagged_of-returns-in_err-tree-in-alt-clause-refused : goal.tagged_of-returns-in_err-tree-in-alt-clause-refused
+tagged_of-returns-in_err-tree-in-alt-clause-refused t c =
+    let p = err_from_is_err_and c.from_residual-in_err-tree-in-alt.result c.from_residual-in_err-tree-in-alt.ensures.1 in
+    passed c.from_residual-in_err-tree-in-alt.result p.0 c.in_err-tree-in-alt.field-0.0 p.1 p.2 (λ nothing t' is.
+    no_inside c.args.round c.in-Some.key.now (view c.in-Some.of.now) (view c.in-Some.inside.now) nothing
+    (known_tag c.args.round (members_view c.args.members.now.entries) c.in-Some.key.now (view c.in-Some.of.now) (view c.in-Some.inside.now) c.in-Some.ensures.some t' is)) c.in_err-tree-in-alt.ensures.refused
+
+pub tagged_of-returns-in_err-tree-in-label-clause-refused : goal.tagged_of-returns-in_err-tree-in-label-clause-refused
+tagged_of-returns-in_err-tree-in-label-clause-refused t c =
+    let p = err_from_is_err_and c.from_residual-in_err-tree-in-label.result c.from_residual-in_err-tree-in-label.ensures.1 in
+    passed c.from_residual-in_err-tree-in-label.result p.0 c.in_err-tree-in-label.field-0.0 p.1 p.2 (λ nothing t' is.
+    no_inside c.args.round c.in-Some.key.now (view c.in-Some.of.now) (view c.in-Some.inside.now) nothing
+    (known_tag c.args.round (members_view c.args.members.now.entries) c.in-Some.key.now (view c.in-Some.of.now) (view c.in-Some.inside.now) c.in-Some.ensures.some t' is)) c.in_err-tree-in-label.ensures.refused
+
+-- ---- a value
+
+pub tree_of-returns-then-round-eq-MOST_LEVELS-clause-refused : goal.tree_of-returns-then-round-eq-MOST_LEVELS-clause-refused
+tree_of-returns-then-round-eq-MOST_LEVELS-clause-refused t c = λ t' is. no_room c.args.round (view c.args.value.now) (omega arith) t' is
+
+pub tree_of-returns-in_err-bits_of-in-String-clause-refused : goal.tree_of-returns-in_err-bits_of-in-String-clause-refused
+tree_of-returns-in_err-bits_of-in-String-clause-refused t c =
+    let seen : string c.as_bytes.result.now ≡ view c.args.value.now = rw c.in-String.is (search (rules, the_lemmas)) in
+    let p = err_from_is_err_and c.from_residual.result c.from_residual.ensures.1 in
+    passed c.from_residual.result p.0 c.in_err-bits_of-in-String.field-0.0 p.1 p.2 (λ nothing t' is.
+    let found = line_of c.args.round c.as_bytes.result.now t' (subst (λ d. IsShown c.args.round d t') (sym seen) is) in
+    nothing found.0 found.1) c.in_err-bits_of-in-String.ensures.refused
+
+pub tree_of-returns-in_err-rows_of-in-Array-clause-refused : goal.tree_of-returns-in_err-rows_of-in-Array-clause-refused
+tree_of-returns-in_err-rows_of-in-Array-clause-refused t c =
+    let seen = ap view c.in-Array.is ∙ view-Array c.in-Array.values in
+    let p = err_from_is_err_and c.from_residual-in_err-rows_of-in-Array.result c.from_residual-in_err-rows_of-in-Array.ensures.1 in
+    passed c.from_residual-in_err-rows_of-in-Array.result p.0 c.in_err-rows_of-in-Array.field-0.0 p.1 p.2 (λ nothing t' is.
+    let found = row_of c.args.round (items_view c.in-Array.values.items) t' (subst (λ d. IsShown c.args.round d t') seen is) in
+    nothing found.0 found.1) c.in_err-rows_of-in-Array.ensures.refused
+
+pub tree_of-returns-in-Bool-clause-refused : goal.tree_of-returns-in-Bool-clause-refused
+tree_of-returns-in-Bool-clause-refused t c = λ t' is.
+    elim c.in-Bool.is [
+      | inl b ↦ (
+          let seen : view c.args.value.now ≡ boolean b.0 = rw b.1 (search (rules, the_lemmas)) in
+          no_truth c.args.round b.0 t' (subst (λ d. IsShown c.args.round d t') seen is))
+      | inr n ↦ (
+          let seen : view c.args.value.now ≡ number (number_view n.0) = rw n.1 (search (rules, the_lemmas)) in
+          no_number c.args.round (number_view n.0) t' (subst (λ d. IsShown c.args.round d t') seen is))
+    ]

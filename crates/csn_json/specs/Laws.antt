@@ -1,0 +1,29 @@
+-- Laws over JSON texts of trees.
+use Rattle.std.specs.Prelude.{◌≡◌, ◌↔◌, ℕ, List}
+use Rattle.csn_desc.specs.TreeV.{TreeV}
+use Rattle.serde_json.specs.Data.{Data}
+use Rattle.csn_json.specs.declared.fault.JsonFault.{JsonFault}
+use Rattle.csn_json.specs.declared.fault.JsonFault.TheVariants.{NoMemory}
+use Rattle.csn_treetext.specs.Place.{TreeText}
+use Rattle.csn_json.specs.JsonTree.{JsonTree}
+use Rattle.csn_json.specs.JsonText.{JsonText, IsFaultOf}
+
+-- one value shows a tree
+abbrev pub TreesHaveOneValue : Type 0
+TreesHaveOneValue = (t : TreeV) (a b : Data) → JsonTree t a → JsonTree t b → a ≡ b
+
+-- a value shows one tree
+abbrev pub ValuesHaveOneTree : Type 0
+ValuesHaveOneTree = (t u : TreeV) (value : Data) → JsonTree t value → JsonTree u value → t ≡ u
+
+-- bytes show one tree
+abbrev pub TextsHaveOneTree : Type 0
+TextsHaveOneTree = (t u : TreeV) (text : List ℕ) → JsonText t text → JsonText u text → t ≡ u
+
+-- bytes that show a tree are refused for want of memory alone
+abbrev pub TextsAreNotRefused : Type 0
+TextsAreNotRefused = (t : TreeV) (text : List ℕ) (fault : JsonFault) → JsonText t text → IsFaultOf text fault → fault ≡ NoMemory
+
+-- a tree has a JSON value exactly where it has a text of the plain form
+abbrev pub TreeTextsShareTrees : Type 0
+TreeTextsShareTrees = (t : TreeV) → ((value : Data) × JsonTree t value) ↔ ((text : List ℕ) × TreeText t text)

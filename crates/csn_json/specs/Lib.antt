@@ -1,0 +1,5 @@
+pub mod JsonTree
+pub mod JsonText
+pub mod Reading
+pub mod Laws
+pub mod Examples

@@ -1,0 +1,23 @@
+//! Laws over trees as JSON, each the contract of a function that does nothing.
+
+ghost use Rattle.csn_json.specs.Laws.{TreesHaveOneValue, ValuesHaveOneTree, TextsHaveOneTree, TextsAreNotRefused, TreeTextsShareTrees};
+
+/// A tree has one value, a value shows one tree, and so does a text.
+pub fn texts_have_one_tree()
+    ensures value { TreesHaveOneValue }
+    ensures tree { ValuesHaveOneTree }
+    ensures text { TextsHaveOneTree }
+{
+    csn_bits::laws::written_apart();
+}
+
+/// What shows a tree is refused for want of memory alone. So what was written for a tree is read back as
+/// it.
+pub fn trees_are_not_refused()
+    ensures { TextsAreNotRefused }
+{}
+
+/// A tree can be shown as JSON exactly where it has a text of the plain form.
+pub fn plain_texts_share_trees()
+    ensures { TreeTextsShareTrees }
+{}

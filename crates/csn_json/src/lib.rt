@@ -1,0 +1,15 @@
+//! Trees as JSON, both ways, for programs that read nothing else.
+#![tactic(auto)]
+
+pub mod examples;
+mod fault;
+pub mod laws;
+mod read;
+mod write;
+
+pub use fault::JsonFault;
+pub use read::read_json;
+pub use write::{json_fits, write_json};
+
+#[cfg(test)]
+mod tests;
