@@ -4,7 +4,7 @@ ghost use Rattle.std.specs.Prelude.{◌≡◌, ◌≤◌, ◌<◌, ◌+◌, ◌�
 ghost use Rattle.csn_io.specs.Faults.{Rose};
 ghost use Rattle.csn_io.specs.Got.{IfBytes, OnEnd, OnFailed, UnlessBytes, Gave, NothingLeft};
 ghost use Rattle.csn_io.specs.Put.{Appended};
-ghost use Rattle.csn_run.specs.declared.lines.TheConstants.{LINE_FEED, MOST_INPUT};
+ghost use Rattle.csn_run.specs.declared.lines.TheConstants.{LINE_FEED, MOST_INPUT, PIECE};
 ghost use Rattle.csn_run.specs.Lines.{HasNoFeed, without_return, is_refusal};
 ghost use Rattle.csn_run.specs.Outside.{Keeps};
 ghost use Rattle.csn_run.specs.Progress.{AddsAnswers, Advances, Halts, PassesOn, HaltsAt, AnswersAll, Stops};
@@ -107,10 +107,12 @@ fn answer_line<C: LineCommand>(
 /// Asks a source for at most so many bytes.
 fn take_piece<S: Source>(input: &mut S, buffer: &mut [u8], room: usize) -> Got
     requires buffer { 0 < length buffer.old }
+    requires piece { length buffer.old ≤ PIECE }
     requires room { 0 < room }
     ensures gave { IfBytes result (λ n. Gave (S.left input.old) (S.left input.new) (take n buffer.new)) }
     ensures at_least_one { IfBytes result (λ n. 0 < n) }
     ensures within { IfBytes result (λ n. n ≤ length buffer.new) }
+    ensures piece { IfBytes result (λ n. n ≤ PIECE) }
     ensures room { IfBytes result (λ n. n ≤ room) }
     ensures end { OnEnd result (NothingLeft (S.left input.old)) }
     ensures left_stays { UnlessBytes result (S.left input.new ≡ S.left input.old) }

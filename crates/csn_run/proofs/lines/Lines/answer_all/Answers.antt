@@ -11,17 +11,17 @@ pub returns-in_err-pass_piece-in-Bytes-clause-err : goal.returns-in_err-pass_pie
 returns-in_err-pass_piece-in-Bytes-clause-err g c =
     let p = err_from_is_err_and c.from_residual.result c.from_residual.ensures.1 in
     let past = last_byte c.in-Bytes.n c.take_piece.new.buffer c.in-Bytes.ensures.at_least_one c.in-Bytes.ensures.within in
-    rw p.1 (stops_halted _ _ _ _ _ _ _ _ _ _ _ _ _ _ _ _ c.pieces.invariant.standing c.in-Bytes.ensures.gave past.1 (omega (arith, length-take (c.in-Bytes.n - 1) c.take_piece.new.buffer, c.in-Bytes.ensures.within, c.in-Bytes.ensures.at_least_one, c.if-n-room.true)) (omega (arith, length-take c.in-Bytes.n c.take_piece.new.buffer, c.in-Bytes.ensures.room)) c.in_err-pass_piece-in-Bytes.ensures.err (subst (λ f. (f ≡ Write) ⊎ (f ≡ Memory)) (sym p.2) c.in_err-pass_piece-in-Bytes.ensures.causes))
+    rw p.1 (stops_halted _ _ _ _ _ _ _ _ _ _ _ _ _ _ _ _ c.pieces.invariant.standing c.in-Bytes.ensures.gave past.1 (omega (arith, length-take (c.in-Bytes.n - 1) c.take_piece.new.buffer, c.in-Bytes.ensures.within, c.in-Bytes.ensures.at_least_one, c.if-n-room.true)) (omega (arith, length-take c.in-Bytes.n c.take_piece.new.buffer, c.in-Bytes.ensures.room)) (omega (arith, length-take c.in-Bytes.n c.take_piece.new.buffer, c.in-Bytes.ensures.piece)) c.in_err-pass_piece-in-Bytes.ensures.err (subst (λ f. (f ≡ Write) ⊎ (f ≡ Memory)) (sym p.2) c.in_err-pass_piece-in-Bytes.ensures.causes))
 
 pub returns-in-Bytes-clause-err : goal.returns-in-Bytes-clause-err
 returns-in-Bytes-clause-err g c =
     let past = last_byte c.in-Bytes.n c.take_piece.new.buffer c.in-Bytes.ensures.at_least_one c.in-Bytes.ensures.within in
-    stops_too_long _ _ _ _ _ _ _ _ _ _ _ _ _ _ _ _ _ c.pieces.invariant.standing c.in-Bytes.ensures.gave past.1 (omega (arith, length-take (c.in-Bytes.n - 1) c.take_piece.new.buffer, c.in-Bytes.ensures.within, c.in-Bytes.ensures.at_least_one, c.if-n-room.true)) past.2 c.in_ok-pass_piece-in-Bytes.ensures.ok c.in_ok-pass_piece-in-Bytes.ensures.pending
+    stops_too_long _ _ _ _ _ _ _ _ _ _ _ _ _ _ _ _ _ c.pieces.invariant.standing c.in-Bytes.ensures.gave past.1 (omega (arith, length-take (c.in-Bytes.n - 1) c.take_piece.new.buffer, c.in-Bytes.ensures.within, c.in-Bytes.ensures.at_least_one, c.if-n-room.true)) past.2 (omega (arith, length-take c.in-Bytes.n c.take_piece.new.buffer, c.in-Bytes.ensures.piece)) c.in_ok-pass_piece-in-Bytes.ensures.ok c.in_ok-pass_piece-in-Bytes.ensures.pending
 
 pub returns-in_err-pass_piece-in-Bytes-2-clause-err : goal.returns-in_err-pass_piece-in-Bytes-2-clause-err
 returns-in_err-pass_piece-in-Bytes-2-clause-err g c =
     let p = err_from_is_err_and c.from_residual-in_err-pass_piece-in-Bytes-2.result c.from_residual-in_err-pass_piece-in-Bytes-2.ensures.1 in
-    rw p.1 (stops_halted _ _ _ _ _ _ _ _ _ _ _ _ _ [] _ _ c.pieces.invariant.standing c.in-Bytes.ensures.gave (sym (append-nil _)) (omega (arith, length-take c.in-Bytes.n c.take_piece.new.buffer, c.in-Bytes.ensures.room, c.if-n-room.false)) (omega (arith, length-take c.in-Bytes.n c.take_piece.new.buffer, c.in-Bytes.ensures.room)) c.in_err-pass_piece-in-Bytes-2.ensures.err (subst (λ f. (f ≡ Write) ⊎ (f ≡ Memory)) (sym p.2) c.in_err-pass_piece-in-Bytes-2.ensures.causes))
+    rw p.1 (stops_halted _ _ _ _ _ _ _ _ _ _ _ _ _ [] _ _ c.pieces.invariant.standing c.in-Bytes.ensures.gave (sym (append-nil _)) (omega (arith, length-take c.in-Bytes.n c.take_piece.new.buffer, c.in-Bytes.ensures.room, c.if-n-room.false)) (omega (arith, length-take c.in-Bytes.n c.take_piece.new.buffer, c.in-Bytes.ensures.room)) (omega (arith, length-take c.in-Bytes.n c.take_piece.new.buffer, c.in-Bytes.ensures.piece)) c.in_err-pass_piece-in-Bytes-2.ensures.err (subst (λ f. (f ≡ Write) ⊎ (f ≡ Memory)) (sym p.2) c.in_err-pass_piece-in-Bytes-2.ensures.causes))
 
 pub pieces-preserved : goal.pieces-preserved
 pieces-preserved g c = record {
