@@ -25,6 +25,8 @@ mod shown;
 mod tests;
 #[cfg(test)]
 mod texts;
+#[cfg(test)]
+mod written;
 
 /// How a run over memory ended, and what it wrote.
 #[derive(Debug, Drop)]

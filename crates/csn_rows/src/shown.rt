@@ -126,7 +126,7 @@ const ROWS: &str = "\
 <M> ::= { 0 | 1 <M> } ; @ show @ M @ received @  @ description 3 16 @ 3";
 
 /// A line with its line feed, or nothing.
-fn line_of(alloc: Global, text: &str) -> Result<Vec<u8>, AllocError> {
+pub(crate) fn line_of(alloc: Global, text: &str) -> Result<Vec<u8>, AllocError> {
     let mut line = Vec::from_slice(alloc, text.as_bytes())?;
     if !line.is_empty() {
         line.push(b'\n')?;
@@ -135,7 +135,12 @@ fn line_of(alloc: Global, text: &str) -> Result<Vec<u8>, AllocError> {
 }
 
 /// A row holds of a description.
-fn expect_row(rt: &impl Abort, alloc: Global, text: &[u8], row: &str) -> Result<(), Fail> {
+pub(crate) fn expect_row(
+    rt: &impl Abort,
+    alloc: Global,
+    text: &[u8],
+    row: &str,
+) -> Result<(), Fail> {
     let cells = row.split(" @ ").collect::<Vec<&str>>(alloc)?;
     let [command, name, reading, block, line, status] = cells.as_slice() else {
         return Err("no row".into());

@@ -190,6 +190,8 @@ fn words_are_held_against_the_table(rt: HostRuntime) -> Result<(), Fail> {
         &["show", "F", "-M", "sent"],
         &["show", "F", "", "received"],
         &["show", "F", "M", "received", "more"],
+        &["write", "F", "M"],
+        &["writes", "F", "M", "sent"],
         &["migrate", "F"],
         &["migrates"],
         &["soak", "uplink", "0"],
@@ -275,11 +277,16 @@ fn pieces_do_not_matter(rt: HostRuntime) -> Result<(), Fail> {
     let alloc = rt.alloc();
     let input = b"A5\r\nB5\n\nA0/6\nA0GG\nA5";
     let text = b"ok [<A>=3'5 . <B>=4'5]\nno 3 bit\nno 6 ended\nbad 1 2\nok [<A>=3'5 . <B>=4'5]\n";
+    let trees = b"[<A>=3'5 . <B>=4'5]\r\n\n[<A>=3'5 .]\nb0";
+    let blocks = b"ok A5\nno / WrongCount 3 2\nbad 1\n";
     let old = b"b\n<A>=3'9\n[3'5 .]";
     let new = b"ok b\nbad 6\nok [3'5 .]\n";
     for most in [1, 2, 7, 4096] {
         let ran = ran_in_pieces(alloc, SHOW, input, most, Vec::new(alloc), Vec::new(alloc))?;
         expect(&rt, &ran, text, 1, "pieces of blocks");
+        let words = &["write", "F", "M", "received"];
+        let ran = ran_in_pieces(alloc, words, trees, most, Vec::new(alloc), Vec::new(alloc))?;
+        expect(&rt, &ran, blocks, 1, "pieces of trees");
         let words = &["migrate"];
         let ran = ran_in_pieces(alloc, words, old, most, Vec::new(alloc), Vec::new(alloc))?;
         expect(&rt, &ran, new, 1, "pieces of old texts");
@@ -352,6 +359,7 @@ fn input_is_left_alone_before_its_lines(rt: HostRuntime) -> Result<(), Fail> {
         ),
         (["check", "F", "N", "sent"], b"description 1 0\n", 3),
         (["show", "F", "N", "sent"], b"description 1 0\n", 3),
+        (["write", "F", "N", "sent"], b"description 1 0\n", 3),
     ] {
         // The first take would fail.
         let first = vec![in alloc; 0]?;
@@ -364,7 +372,7 @@ fn input_is_left_alone_before_its_lines(rt: HostRuntime) -> Result<(), Fail> {
 #[test]
 fn shelf_that_fails_ends_the_run(rt: HostRuntime) -> Result<(), Fail> {
     let alloc = rt.alloc();
-    for command in ["check", "show"] {
+    for command in ["check", "show", "write"] {
         let words = words_of(alloc, &[command, "F", "M", "received"])?;
         let first = vec![in alloc; 0]?;
         let mut shelf = MemShelf::new(file(alloc, FIELDS)?, first);
