@@ -66,14 +66,8 @@ fn rows_of_write_hold(rt: HostRuntime) -> Result<(), Fail> {
 }
 
 /// A block is shown, and the tree that is shown is written as this block.
-fn expect_back(
-    rt: &impl Abort,
-    alloc: Global,
-    name: &str,
-    reading: &str,
-    block: &str,
-) -> Result<(), Fail> {
-    let words = words_of(alloc, &["show", "F", name, reading])?;
+fn expect_back(rt: &impl Abort, alloc: Global, name: &str, block: &str) -> Result<(), Fail> {
+    let words = words_of(alloc, &["show", "F", name, "received"])?;
     let shown = run_in_memory(
         alloc,
         &words,
@@ -83,7 +77,7 @@ fn expect_back(
     let [b'o', b'k', b' ', tree @ ..] = shown.text.as_slice() else {
         return Err("no tree".into());
     };
-    let words = words_of(alloc, &["write", "F", name, reading])?;
+    let words = words_of(alloc, &["write", "F", name, "received"])?;
     let tree = Vec::from_slice(alloc, tree)?;
     let written = run_in_memory(alloc, &words, file(alloc, CATALOGUE)?, tree)?;
     let line = format!(in alloc; "ok {block}\n")?;
@@ -94,8 +88,7 @@ fn expect_back(
 #[test]
 fn samples_are_written_back(rt: HostRuntime) -> Result<(), Fail> {
     for (name, block) in SAMPLES {
-        expect_back(&rt, rt.alloc(), name, "received", block)?;
-        expect_back(&rt, rt.alloc(), name, "sent", block)?;
+        expect_back(&rt, rt.alloc(), name, block)?;
     }
     Ok(())
 }
