@@ -1,16 +1,18 @@
 -- The numbers that the bits of symbols write, and where bits differ from those of symbols.
-use Rattle.std.proofs.Common.{◌≡◌, ℕ, zero, suc, ◌+◌, ◌*◌, ◌/◌, ◌%◌, ◌^◌, ◌<◌, ◌≤◌, List, [], ◌∷◌, ◌++◌, length, take, drop, refl, sym, ap, subst, ◌∙◌, arith, Some, slice_get}
+use Rattle.std.proofs.Common.{◌≡◌, ℕ, zero, suc, ◌+◌, ◌-◌, ◌*◌, ◌/◌, ◌%◌, ◌^◌, ◌<◌, ◌≤◌, List, [], ◌∷◌, ◌++◌, length, take, drop, refl, sym, ap, subst, ◌∙◌, arith, Some, slice_get}
 use Rattle.std.specs.Prelude.{replicate}
 use Rattle.std.proofs.Math.Nat.{pow-succ'}
-use Rattle.std.proofs.lemmas.List.{take_all, length-take-le, length-replicate, replicate_more}
-use Rattle.csn_bits.specs.Octets.{IsBits}
+use Rattle.std.proofs.lemmas.List.{take_all, length-take-le, length-replicate}
+use Rattle.std.proofs.lemmas.Nat.{one_shl}
+use Rattle.csn_bits.specs.Octets.{IsBits, pattern}
 use Rattle.csn_desc.specs.declared.reading.Reading.{Reading}
 use Rattle.csn_desc.specs.declared.reading.Reading.TheVariants.{Received, Sent}
 use Rattle.csn_desc.specs.declared.symbol.Symbol.{Symbol}
+use Rattle.csn_desc.specs.declared.symbol.Symbol.TheVariants.{Zero, One, Low, High}
 use Rattle.csn_desc.specs.Spelled.{symbol_bit, spelled, IsSpare}
 use Rattle.csn_bits.specs.Numbers.{low_bits}
-use Rattle.csn_bits.proofs.NumberFacts.{low_bits-join}
-use Rattle.csn_judge.proofs.Leaves.{spelled-append}
+use Rattle.csn_bits.proofs.NumberFacts.{length-low_bits, low_bits-first, low_bits-join, low_bits-mod}
+use Rattle.csn_judge.proofs.Leaves.{spelled-append, spare_front, spare_back}
 use Rattle.csn_desc.proofs.BitFacts.{length-spelled}
 
 -- ---- one symbol more
@@ -62,17 +64,36 @@ run-more run at k place v bit s here within is small so_far =
     ∙ ap (λ b. spelled (take k (drop at run)) place ++ b ∷ []) is
     ∙ sym (spelled-more (drop at run) k place s (sym (from_drop run at k) ∙ here) within)
 
--- once more the same symbol
-pub repeated-more : (k place v bit : ℕ) (s : Symbol) → bit ≡ symbol_bit s (place + k) → bit ≤ 1
-    → low_bits k v ≡ spelled (replicate k s) place
-    → low_bits (k + 1) (2 * v + bit) ≡ spelled (replicate (k + 1) s) place
-repeated-more k place v bit s is small so_far =
-    low_bits-more k v bit (omega (arith, small))
-    ∙ ap (λ l. l ++ bit ∷ []) so_far
-    ∙ ap (λ b. spelled (replicate k s) place ++ b ∷ []) is
-    ∙ ap (λ n. spelled (replicate k s) place ++ symbol_bit s (place + n) ∷ []) (sym (length-replicate k s))
-    ∙ sym (spelled-append (replicate k s) (s ∷ []) place)
-    ∙ ap (λ l. spelled l place) (replicate_more k s)
+-- ---- one symbol many times
+
+octet_again : (s : Symbol) (a b : ℕ) → a % 8 ≡ b % 8 → symbol_bit s a ≡ symbol_bit s b
+octet_again Zero a b same = refl
+octet_again One a b same = refl
+octet_again Low a b same = ap (λ p. pattern p) same
+octet_again High a b same = ap (λ p. 1 - pattern p) same
+
+spelled_again : (n : ℕ) (s : Symbol) (a b : ℕ) → a % 8 ≡ b % 8 → spelled (replicate n s) a ≡ spelled (replicate n s) b
+spelled_again zero s a b same = refl
+spelled_again (suc n) s a b same =
+    let first = octet_again s a b same in
+    let others = spelled_again n s (suc a) (suc b) (omega (arith, same)) in
+    cc
+
+-- from any place on, of the number that a symbol writes 63 times
+pub repeated_bits : (s : Symbol) (all n place : ℕ) → low_bits 63 all ≡ spelled (replicate 63 s) 0 → n ≤ 56
+    → low_bits n (all / 2 ^ (63 - place % 8 - n) % (1 * 2 ^ n % 2 ^ 64)) ≡ spelled (replicate n s) place
+repeated_bits s all n place whole few =
+    let q : ℕ = place % 8 in
+    let octet : q < 8 = omega arith in
+    let v : ℕ = all / 2 ^ (63 - q - n) in
+    let one : 1 * 2 ^ n % 2 ^ 64 ≡ 2 ^ (0 + n) = (let e : 0 + n ≡ n = omega arith in rw e (one_shl n 64 (omega (arith, few)))) in
+    let before : List ℕ = low_bits q (all / 2 ^ (63 - q)) in
+    let spare : IsSpare Sent s 0 (low_bits 63 all) = whole ∙ ap (λ k. spelled (replicate k s) 0) (sym (length-low_bits 63 all)) in
+    let from = spare_back Sent s 0 before (low_bits (63 - q) all) (subst (λ l. IsSpare Sent s 0 l) (low_bits-first 63 all q (omega (arith, octet))) spare) in
+    let front = spare_front Sent s (0 + length before) (low_bits n v) (low_bits (63 - q - n) all) (subst (λ l. IsSpare Sent s (0 + length before) l) (low_bits-first (63 - q) all n (omega (arith, octet, few))) from) in
+    ap (λ k. low_bits n (v % k)) one ∙ low_bits-mod n 0 v ∙ front
+    ∙ ap (λ k. spelled (replicate k s) (0 + length before)) (length-low_bits n v)
+    ∙ spelled_again n s (0 + length before) place (omega (arith, length-low_bits q (all / 2 ^ (63 - q))))
 
 -- ---- where bits differ from those of symbols
 

@@ -45,9 +45,18 @@ pub(crate) fn repeated(symbol: Symbol, count: u32, place: u32) -> u64
     ensures value { low_bits count result ≡ bits_of (replicate count symbol) place }
     ensures small { result < 2 ^ count }
 {
-    let mut number = 0;
-    for k in 0..count {
-        number = 2 * number + symbol_bit(symbol, place + k) as u64;
+    (many_times(symbol) >> (63 - place % 8 - count)) % (1 << count)
+}
+
+/// The number that the symbol writes 63 times from an octet position 0 on: from each octet position there are as
+/// many as may be asked for.
+fn many_times(symbol: Symbol) -> u64
+    ensures { low_bits 63 result ≡ bits_of (replicate 63 symbol) 0 }
+{
+    match symbol {
+        Symbol::Zero => 0,
+        Symbol::One => u64::MAX >> 1,
+        Symbol::Low => 0x2B2B_2B2B_2B2B_2B2B >> 1,
+        Symbol::High => 0xD4D4_D4D4_D4D4_D4D4 >> 1,
     }
-    number
 }

@@ -1,10 +1,10 @@
-use Rattle.std.proofs.Common.{◌<◌, arith}
-use Rattle.csn_judge.proofs.SpellingFacts.{repeated-more, small-more}
+use Rattle.std.proofs.Common.{arith}
+use Rattle.csn_judge.proofs.Numbers.{peeked_small}
+use Rattle.csn_judge.proofs.SpellingFacts.{repeated_bits}
 use Rattle.csn_judge.proofs.spelling.repeated.Goals as goal
 
-pub loop-k-preserved : goal.loop-k-preserved
-loop-k-preserved c =
-    let few : c.symbol_bit.result < 2 = omega (arith, c.symbol_bit.ensures.bit) in (
-      repeated-more c.loop-k.k c.args.place c.loop-k.number c.symbol_bit.result c.args.symbol c.symbol_bit.ensures.value c.symbol_bit.ensures.bit c.loop-k.invariant.0,
-      small-more c.loop-k.k c.loop-k.number c.symbol_bit.result few c.loop-k.invariant.1,
-    )
+pub returns-clause-value : goal.returns-clause-value
+returns-clause-value c = repeated_bits c.args.symbol c.many_times.result c.args.count c.args.place c.many_times.ensures c.requires.few
+
+pub returns-clause-small : goal.returns-clause-small
+returns-clause-small c = peeked_small _ c.args.count (omega (arith, c.requires.few))
