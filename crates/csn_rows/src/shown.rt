@@ -126,7 +126,7 @@ const ROWS: &str = "\
 <M> ::= { 0 | 1 <M> } ; @ show @ M @ received @  @ description 3 16 @ 3";
 
 /// A line with its line feed, or nothing.
-pub(crate) fn line_of(alloc: Global, text: &str) -> Result<Vec<u8>, AllocError> {
+fn line_of(alloc: Global, text: &str) -> Result<Vec<u8>, AllocError> {
     let mut line = Vec::from_slice(alloc, text.as_bytes())?;
     if !line.is_empty() {
         line.push(b'\n')?;

@@ -1,9 +1,10 @@
 //! What `write` answers by a rule of the file F.
 
-use crate::catalogue::CATALOGUE;
 use crate::run_in_memory;
-use crate::shown::{expect_row, line_of};
+use crate::shown::expect_row;
 use crate::tests::{expect, file, words_of};
+use csn_bits::Bits;
+use csn_catalogue::{Entry, entries, root_of, sample_of, text};
 use std::alloc::Global;
 use std::process::Abort;
 use std::test::Fail;
@@ -34,26 +35,6 @@ const ROWS: &str = "\
 <M> ::= { <A : bit (4)> { null | 1 } } // ; @ write @ M @ received @ [<A>=4'10 #0:.] @ no / WrongCount 1 2 @ 1
 <M> ::= <A : bit (3)> { 0 | 1 <M> } ; @ write @ M @ received @ [<A>=3'5 [[. <A>=3'2]] .] @ ok B4 @ 0";
 
-/// The blocks of the roots of the catalogue.
-const SAMPLES: &[(&str, &str)] = &[
-    (
-        "Uplink Control Block",
-        "04000000032B2B2B2B2B2B2B2B2B2B2B2B2B2B2B2B2B",
-    ),
-    (
-        "Downlink Control Block",
-        "10B00000006B2B2B2B2B2B2B2B2B2B2B2B2B2B2B2B2B",
-    ),
-    ("SI 1 Rest Octets", "83"),
-    ("SI 3 Rest Octets", "2B2B2B2B"),
-    ("SI 4 Rest Octets", "2B2B2B"),
-    (
-        "SI 13 Rest Octets",
-        "900058406FA2A00F512B2B2B2B2B2B2B2B2B2B2B",
-    ),
-    ("IA Rest Octets", "D0000000002B2B2B2B2B2B"),
-];
-
 #[test]
 fn rows_of_write_hold(rt: HostRuntime) -> Result<(), Fail> {
     for row in ROWS.split('\n') {
@@ -65,30 +46,33 @@ fn rows_of_write_hold(rt: HostRuntime) -> Result<(), Fail> {
     Ok(())
 }
 
-/// A block is shown, and the tree that is shown is written as this block.
-fn expect_back(rt: &impl Abort, alloc: Global, name: &str, block: &str) -> Result<(), Fail> {
-    let words = words_of(alloc, &["show", "F", name, "received"])?;
-    let shown = run_in_memory(
-        alloc,
-        &words,
-        file(alloc, CATALOGUE)?,
-        line_of(alloc, block)?,
-    )?;
+/// The sample block of an entry is shown, and the tree that is shown is written as this block.
+fn expect_back(rt: &impl Abort, alloc: Global, entry: Entry, reading: &str) -> Result<(), Fail> {
+    let name = str::from_utf8(root_of(entry)).map_err(|_| "no text")?;
+    let octets = sample_of(entry).octets;
+    let bits = Bits::from_octets(alloc, octets, 8 * octets.len() as u32)?;
+    let mut block = bits.to_hex_line(alloc)?;
+    block.push(b'\n')?;
+    let words = words_of(alloc, &["show", "F", name, reading])?;
+    let shown = run_in_memory(alloc, &words, file(alloc, text())?, block.clone()?)?;
     let [b'o', b'k', b' ', tree @ ..] = shown.text.as_slice() else {
         return Err("no tree".into());
     };
-    let words = words_of(alloc, &["write", "F", name, "received"])?;
+    let words = words_of(alloc, &["write", "F", name, reading])?;
     let tree = Vec::from_slice(alloc, tree)?;
-    let written = run_in_memory(alloc, &words, file(alloc, CATALOGUE)?, tree)?;
-    let line = format!(in alloc; "ok {block}\n")?;
-    expect(rt, &written, line.as_bytes(), 0, name);
+    let written = run_in_memory(alloc, &words, file(alloc, text())?, tree)?;
+    let mut line = Vec::from_slice(alloc, b"ok ")?;
+    line.extend_from_slice(&block)?;
+    expect(rt, &written, &line, 0, name);
     Ok(())
 }
 
 #[test]
 fn samples_are_written_back(rt: HostRuntime) -> Result<(), Fail> {
-    for (name, block) in SAMPLES {
-        expect_back(&rt, rt.alloc(), name, block)?;
+    for entry in entries() {
+        for reading in ["received", "sent"] {
+            expect_back(&rt, rt.alloc(), entry, reading)?;
+        }
     }
     Ok(())
 }
