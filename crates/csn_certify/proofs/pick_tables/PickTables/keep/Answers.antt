@@ -15,7 +15,7 @@ returns-in_err-index-clause-more c =
     let more = c.keep_all.ensures.more in (
       [],
       same_tables c.self.inside.tables.items c.self.inside.blocks c.keep_all.new.self more.0 more.1 c.self.invariant
-      ∙ ap (λ v. v.tables) c.self.view_is ∙ sym (append-nil c.args.self.now.tables),
+          ∙ ap (λ v. v.tables) c.self.view_is ∙ sym (append-nil c.args.self.now.tables),
     )
 
 pub invariant_of-self-in_err-push : goal.invariant_of-self-in_err-push
@@ -29,8 +29,8 @@ returns-in_err-push-clause-more c =
     let more = c.keep_all.ensures.more in (
       [],
       ap (map (table_in c.keep_all.new.self)) c.in_err-push.ensures.items
-      ∙ same_tables c.self.inside.tables.items c.self.inside.blocks c.keep_all.new.self more.0 more.1 c.self.invariant
-      ∙ ap (λ v. v.tables) c.self.view_is ∙ sym (append-nil c.args.self.now.tables),
+          ∙ same_tables c.self.inside.tables.items c.self.inside.blocks c.keep_all.new.self more.0 more.1 c.self.invariant
+          ∙ ap (λ v. v.tables) c.self.view_is ∙ sym (append-nil c.args.self.now.tables),
     )
 
 pub invariant_of-self-2 : goal.invariant_of-self-2
