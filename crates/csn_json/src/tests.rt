@@ -56,6 +56,7 @@ fn spaces_order_and_escapes_do_not_matter(rt: HostRuntime) -> Result<(), Fail> {
         ),
     ] {
         let tree = read(rt.alloc(), text.as_bytes()).map_err(|_| "no tree")?;
+        assert!(rt; json_fits(&tree));
         let wrote = write_json(rt.alloc(), &tree).map_err(|_| "out of memory")?;
         assert_eq!(rt; wrote.as_slice(), written.as_bytes());
     }
