@@ -116,9 +116,9 @@ fn branched(alloc: Global) -> Result<Desc, Fail> {
     finished(builder, built)
 }
 
-fn answer(was: &Desc, now: &Desc) -> Option<bool> {
+fn answer(was: Desc, now: Desc) -> Option<bool> {
     if was.reading() == now.reading() {
-        Some(compat(was, now))
+        Some(compat(&was, &now))
     } else {
         None
     }
@@ -127,17 +127,22 @@ fn answer(was: &Desc, now: &Desc) -> Option<bool> {
 #[test]
 fn a_description_takes_the_blocks_of_another(rt: HostRuntime) -> Result<(), Fail> {
     let alloc = rt.alloc();
+    let to_later = answer(message(alloc)?, later_message(alloc)?);
+    let from_later = answer(later_message(alloc)?, message(alloc)?);
+    let renamed = answer(counted(alloc, b"V", 1)?, counted(alloc, b"C", 1)?);
+    let counted_more = answer(counted(alloc, b"V", 1)?, counted(alloc, b"V", 2)?);
+    let to_branched = answer(flat(alloc)?, branched(alloc)?);
+    let to_itself = answer(branched(alloc)?, branched(alloc)?);
     let cases = [
-        (message(alloc)?, later_message(alloc)?, true),
-        (later_message(alloc)?, message(alloc)?, false),
-        (later_message(alloc)?, later_message(alloc)?, true),
-        (counted(alloc, b"V", 1)?, counted(alloc, b"C", 1)?, true),
-        (counted(alloc, b"V", 1)?, counted(alloc, b"V", 2)?, false),
-        (flat(alloc)?, branched(alloc)?, false),
-        (branched(alloc)?, branched(alloc)?, true),
+        (to_later, true),
+        (from_later, false),
+        (renamed, true),
+        (counted_more, false),
+        (to_branched, false),
+        (to_itself, true),
     ];
-    for (was, now, taken) in &cases {
-        assert_eq!(rt; answer(was, now), Some(*taken));
+    for (answer, taken) in cases {
+        assert_eq!(rt; answer, Some(taken));
     }
     Ok(())
 }
