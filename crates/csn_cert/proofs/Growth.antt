@@ -1,9 +1,10 @@
 -- How a certificate grows at its end.
 use Rattle.std.proofs.Common.{◌≡◌, ℕ, zero, suc, ◌+◌, ◌<◌, ◌≤◌, List, [], ◌∷◌, ◌++◌, length, set, Option, Some, None, refl, sym, ap, ◌∙◌, subst, arith, IsSome, IfSome, slice_get, get_or, ◌-◌, length-append}
 use Rattle.std.proofs.lemmas.Option.{slice_get_read}
+use Rattle.std.specs.List.{AllByRecursion}
 use Rattle.csn_cert.specs.PatternV.{PatternV}
 use Rattle.csn_cert.specs.PatternText.{ComesBefore}
-use Rattle.csn_cert.specs.CertificateV.{NodeV, PositionV, Each, Rises, IsPattern, IsPosition, IsNode, IsCertificate}
+use Rattle.csn_cert.specs.CertificateV.{NodeV, PositionV, Rises, IsPattern, IsPosition, IsNode, IsCertificate}
 use Rattle.csn_cert.specs.Growing.{last_of, at_last, node_with, position_with, node_with_pattern, with_position, with_pattern, last_position, last_position_of, last_pattern, last_pattern_of}
 
 -- ---- the last of a list
@@ -39,14 +40,14 @@ length-at_last change [] = refl
 length-at_last change (x ∷ []) = refl
 length-at_last change (x ∷ y ∷ rest) = ap suc (length-at_last change (y ∷ rest))
 
-pub Each-at_last : {A : Type 0} (P : A → Type 0) (change : A → A) (xs : List A) → Each P xs → IfSome (last_of xs) (λ x. P x → P (change x)) → Each P (at_last change xs)
-Each-at_last P change [] each keeps = tt
-Each-at_last P change (x ∷ []) each keeps = (keeps each.0, tt)
-Each-at_last P change (x ∷ y ∷ rest) each keeps = (each.0, Each-at_last P change (y ∷ rest) each.1 keeps)
+pub All-at_last : {A : Type 0} (P : A → Type 0) (change : A → A) (xs : List A) → AllByRecursion P xs → IfSome (last_of xs) (λ x. P x → P (change x)) → AllByRecursion P (at_last change xs)
+All-at_last P change [] each keeps = tt
+All-at_last P change (x ∷ []) each keeps = (keeps each.0, tt)
+All-at_last P change (x ∷ y ∷ rest) each keeps = (each.0, All-at_last P change (y ∷ rest) each.1 keeps)
 
-pub Each-push : {A : Type 0} (P : A → Type 0) (xs : List A) (x : A) → Each P xs → P x → Each P (xs ++ x ∷ [])
-Each-push P [] x each is = (is, tt)
-Each-push P (y ∷ rest) x each is = (each.0, Each-push P rest x each.1 is)
+pub All-push : {A : Type 0} (P : A → Type 0) (xs : List A) (x : A) → AllByRecursion P xs → P x → AllByRecursion P (xs ++ x ∷ [])
+All-push P [] x each is = (is, tt)
+All-push P (y ∷ rest) x each is = (each.0, All-push P rest x each.1 is)
 
 pub Rises-push : {A : Type 0} (Before : A → A → Type 0) (xs : List A) (x : A) → Rises Before xs → IfSome (last_of xs) (λ y. Before y x) → Rises Before (xs ++ x ∷ [])
 Rises-push Before [] x rises after = tt
@@ -66,21 +67,21 @@ node_there (n ∷ rest) some = omega arith
 pub position_there : (c : List NodeV) (n : NodeV) → last_of c ≡ Some n → IsSome (last_position c) → 0 < length n.positions
 position_there c n is some = let P : Option NodeV → Type 0 = λ o. IsSome (last_position_of o) in some_last n.positions (subst P is some)
 
-pub Each-get : {A : Type 0} (P : A → Type 0) (xs : List A) (k : ℕ) (x : A) → Each P xs → slice_get xs k ≡ Some x → P x
-Each-get P [] k x each is = absurd (cc)
-Each-get P (y ∷ rest) zero x each is = let same : y ≡ x = cc in subst P same each.0
-Each-get P (y ∷ rest) (suc k) x each is = Each-get P rest k x each.1 is
+pub All-get : {A : Type 0} (P : A → Type 0) (xs : List A) (k : ℕ) (x : A) → AllByRecursion P xs → slice_get xs k ≡ Some x → P x
+All-get P [] k x each is = absurd (cc)
+All-get P (y ∷ rest) zero x each is = let same : y ≡ x = cc in subst P same each.0
+All-get P (y ∷ rest) (suc k) x each is = All-get P rest k x each.1 is
 
 -- ---- what a certificate keeps as it grows
 
 pub node_pushed : (c : List NodeV) (n : NodeV) → IsCertificate c → length c < 16384 → IsNode n → IsCertificate (c ++ n ∷ [])
-node_pushed c n is room new = record { few = omega (arith, length-append c (n ∷ [])); nodes = Each-push IsNode c n is.nodes new }
+node_pushed c n is room new = record { few = omega (arith, length-append c (n ∷ [])); nodes = All-push IsNode c n is.nodes new }
 
 node_grown : (n : NodeV) (p : PositionV) → IsNode n → IsPosition p → IfSome (last_of n.positions) (λ q. q.octet < p.octet) → IsNode (node_with p n)
 node_grown n p is new after =
     record {
       follow = is.follow;
-      positions = Each-push IsPosition n.positions p is.positions new;
+      positions = All-push IsPosition n.positions p is.positions new;
       rising = Rises-push (λ x y. x.octet < y.octet) n.positions p is.rising after;
     }
 
@@ -90,7 +91,7 @@ position_grown p k is new after =
       octet = is.octet;
       ends = is.ends;
       start = is.start;
-      patterns = Each-push IsPattern p.patterns k is.patterns new;
+      patterns = All-push IsPattern p.patterns k is.patterns new;
       rising = Rises-push ComesBefore p.patterns k is.rising after;
     }
 
@@ -103,7 +104,7 @@ node_grown_by_pattern : (n : NodeV) (k : PatternV) → IsNode n → IsPattern k 
 node_grown_by_pattern n k is new after =
     record {
       follow = is.follow;
-      positions = Each-at_last IsPosition (position_with k) n.positions is.positions (last_position_grown k (last_of n.positions) new after);
+      positions = All-at_last IsPosition (position_with k) n.positions is.positions (last_position_grown k (last_of n.positions) new after);
       rising = Rises-at_last (λ x y. x.octet < y.octet) (position_with k) (λ x y low. low) n.positions is.rising;
     }
 
@@ -119,14 +120,14 @@ pub position_pushed : (c : List NodeV) (p : PositionV) → IsCertificate c → I
 position_pushed c p is new after =
     record {
       few = subst (λ n. n ≤ 16384) (sym (length-at_last (node_with p) c)) is.few;
-      nodes = Each-at_last IsNode (node_with p) c is.nodes (last_node_grown p (last_of c) new after);
+      nodes = All-at_last IsNode (node_with p) c is.nodes (last_node_grown p (last_of c) new after);
     }
 
 pub pattern_pushed : (c : List NodeV) (k : PatternV) → IsCertificate c → IsPattern k → IfSome (last_pattern c) (λ q. ComesBefore q k) → IsCertificate (with_pattern k c)
 pattern_pushed c k is new after =
     record {
       few = subst (λ n. n ≤ 16384) (sym (length-at_last (node_with_pattern k) c)) is.few;
-      nodes = Each-at_last IsNode (node_with_pattern k) c is.nodes (last_node_grown_by_pattern k (last_of c) new after);
+      nodes = All-at_last IsNode (node_with_pattern k) c is.nodes (last_node_grown_by_pattern k (last_of c) new after);
     }
 
 -- ---- as it is kept: the node that was read at the end is written back

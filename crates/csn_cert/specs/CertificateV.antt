@@ -1,5 +1,6 @@
 -- Certificates: what is claimed of each node of a description. (This project's own choice.)
 use Rattle.std.specs.Prelude.{◌<◌, ◌≤◌, ℕ, Bool, List, [], ◌∷◌, length}
+use Rattle.std.specs.List.{AllByRecursion}
 use Rattle.csn_desc.specs.declared.desc.TheConstants.{MOST_NODES}
 use Rattle.csn_cert.specs.declared.pattern.TheConstants.{MOST_MARKS}
 use Rattle.csn_cert.specs.PatternV.{PatternV}
@@ -23,11 +24,6 @@ pub record NodeV : Type 0 where
 
 -- ---- what a certificate keeps
 
--- each of a list
-abbrev pub Each : {A : Type 0} → (A → Type 0) → List A → Type 0
-Each P [] = Unit {0}
-Each P (x ∷ rest) = P x × Each P rest
-
 -- each stands after the one before it
 abbrev pub Rises : {A : Type 0} → (A → A → Type 0) → List A → Type 0
 Rises Before [] = Unit {0}
@@ -42,16 +38,16 @@ pub record IsPosition (p : PositionV) : Type 0 where
   pub octet : p.octet ≤ 7
   pub ends : p.ends ≤ 255
   pub start : p.start ≤ 3
-  pub patterns : Each IsPattern p.patterns
+  pub patterns : AllByRecursion IsPattern p.patterns
   pub rising : Rises ComesBefore p.patterns
 
 -- the octet positions rise
 pub record IsNode (n : NodeV) : Type 0 where
   pub follow : n.follow < 16777216
-  pub positions : Each IsPosition n.positions
+  pub positions : AllByRecursion IsPosition n.positions
   pub rising : Rises (λ p q. p.octet < q.octet) n.positions
 
 -- there are at most 16,384 nodes
 pub record IsCertificate (c : List NodeV) : Type 0 where
   pub few : length c ≤ MOST_NODES
-  pub nodes : Each IsNode c
+  pub nodes : AllByRecursion IsNode c

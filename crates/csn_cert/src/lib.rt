@@ -8,3 +8,6 @@ mod write;
 pub use certificate::Certificate;
 pub use pattern::{MOST_MARKS, Mark, Pattern};
 pub use write::write_certificate;
+
+#[cfg(test)]
+mod tests;
