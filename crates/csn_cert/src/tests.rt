@@ -45,7 +45,7 @@ fn a_certificate_tells_its_claims(rt: HostRuntime) -> Result<(), Fail> {
     assert_eq!(rt; c.ends(0, 0), 0b01000000);
     assert_eq!(rt; c.start(0, 0), 0b11);
     assert_eq!(rt; c.patterns(0, 0), 1);
-    assert_eq!(rt; c.pattern_at(0, 0, 0), any);
+    assert_eq!(rt; c.pattern_at(0, 0, 0).len(), 1);
     Ok(())
 }
 
