@@ -1,0 +1,13 @@
+-- What stands at the end of a text after one thing was added behind another.
+use Rattle.std.proofs.Common.{◌≡◌, ◌+◌, ℕ, suc, List, [], ◌∷◌, ◌++◌, length, ap, sym, ◌∙◌, append_assoc, append-nil, arith}
+use Rattle.csn_cert.specs.CertificateV.{NodeV}
+use Rattle.csn_cert.specs.CertificateText.{node_text, nodes_text}
+
+pub appended : (first second third x y : List ℕ) → second ≡ first ++ x → third ≡ second ++ y → third ≡ first ++ (x ++ y)
+appended first second third x y before after = after ∙ ap (λ l. l ++ y) before ∙ append_assoc first x y
+
+pub nodes_text-push : (number : ℕ) (nodes : List NodeV) (n : NodeV) → nodes_text number (nodes ++ n ∷ []) ≡ nodes_text number nodes ++ node_text (number + length nodes) n
+nodes_text-push number [] n = append-nil (node_text number n) ∙ ap (λ i. node_text i n) (omega arith)
+nodes_text-push number (m ∷ rest) n =
+    ap (λ l. node_text number m ++ l) (nodes_text-push (suc number) rest n ∙ ap (λ i. nodes_text (suc number) rest ++ node_text i n) (omega arith))
+    ∙ sym (append_assoc (node_text number m) (nodes_text (suc number) rest) (node_text (number + length (m ∷ rest)) n))

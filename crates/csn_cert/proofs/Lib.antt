@@ -1,0 +1,5 @@
+mod Patterns
+mod Growth
+mod Finding
+mod Digits
+mod Appending

@@ -1,0 +1,5 @@
+pub mod PatternV
+pub mod PatternText
+pub mod CertificateV
+pub mod CertificateText
+pub mod Growing

@@ -1,0 +1,71 @@
+use crate::{Certificate, Mark, Pattern, write_certificate};
+use std::test::Fail;
+
+// What may follow a node: the end alone, at each octet position.
+const END_ALONE: u32 = 0b001001001001001001001001;
+
+// The certificate of `<M> ::= <A : bit> ;`, of which both nodes are one bit long.
+const OF_ONE_BIT: &str =
+    "csn-cert 2\nnode 0 0 001001001001001001001001\nat 0 01000000 11 x!\nnode 1 0 001001001001001001001001\nat 0 01000000 11 x!\n";
+
+#[test]
+fn a_certificate_is_written(rt: HostRuntime) -> Result<(), Fail> {
+    let mut any = Pattern::new(true);
+    any.push(Mark::Any);
+    let mut c = Certificate::new(rt.alloc());
+    c.node(false, END_ALONE)?;
+    c.at(0, 0b01000000, 0b11)?;
+    c.pattern(any)?;
+    c.node(false, END_ALONE)?;
+    c.at(0, 0b01000000, 0b11)?;
+    c.pattern(any)?;
+    assert_eq!(rt;
+        write_certificate(rt.alloc(), &c)?.as_slice(),
+        OF_ONE_BIT.as_bytes()
+    );
+    Ok(())
+}
+
+#[test]
+fn a_certificate_tells_its_claims(rt: HostRuntime) -> Result<(), Fail> {
+    let mut any = Pattern::new(true);
+    any.push(Mark::Any);
+    assert_eq!(rt; any.len(), 1);
+    assert_eq!(rt; any.get(0), Mark::Any);
+    assert!(rt; any.whole());
+    let mut c = Certificate::new(rt.alloc());
+    c.node(false, END_ALONE)?;
+    c.at(0, 0b01000000, 0b11)?;
+    c.pattern(any)?;
+    assert_eq!(rt; c.len(), 1);
+    assert!(rt; !c.nullable(0));
+    assert_eq!(rt; c.follow(0), END_ALONE);
+    assert!(rt; !c.has(0, 7));
+    assert!(rt; c.has(0, 0));
+    assert_eq!(rt; c.ends(0, 0), 0b01000000);
+    assert_eq!(rt; c.start(0, 0), 0b11);
+    assert_eq!(rt; c.patterns(0, 0), 1);
+    assert_eq!(rt; c.pattern_at(0, 0, 0).len(), 1);
+    Ok(())
+}
+
+#[test]
+fn no_nodes_and_no_patterns_are_written(rt: HostRuntime) -> Result<(), Fail> {
+    let mut c = Certificate::new(rt.alloc());
+    assert_eq!(rt;
+        write_certificate(rt.alloc(), &c)?.as_slice(),
+        b"csn-cert 0\n".as_slice()
+    );
+    c.node(true, 0)?;
+    c.at(3, 0, 0)?;
+    c.at(7, 255, 2)?;
+    c.pattern(Pattern::new(true))?;
+    c.pattern(Pattern::new(false))?;
+    let text =
+        "csn-cert 1\nnode 0 1 000000000000000000000000\nat 3 00000000 00 -\nat 7 11111111 10 e!,e+\n";
+    assert_eq!(rt;
+        write_certificate(rt.alloc(), &c)?.as_slice(),
+        text.as_bytes()
+    );
+    Ok(())
+}

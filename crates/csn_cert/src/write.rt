@@ -1,0 +1,111 @@
+ghost use Rattle.std.specs.Prelude.{◌≡◌, ◌≤◌, ◌<◌, ◌++◌, IfOk, OnOk};
+ghost use Rattle.std.specs.Fmt.{decimal};
+ghost use Rattle.csn_cert.specs.CertificateV.{IsNode, IsPosition};
+ghost use Rattle.csn_cert.specs.PatternText.{patterns_text, more_patterns_text};
+ghost use Rattle.csn_cert.specs.CertificateText.{CertificateText, digits_text, position_text, node_text, nullable_character};
+
+use crate::certificate::{Certificate, NodeClaim, Position};
+use crate::pattern::Pattern;
+use csn_bits::NoMemory;
+use itoa::Buffer;
+use std::alloc::Global;
+
+/// The text of a certificate.
+pub fn write_certificate(alloc: Global, c: &Certificate) -> Result<Vec<u8>, NoMemory>
+    ensures { IfOk result (λ text. CertificateText c.now text.items) }
+{
+    let mut out = Vec::from_slice(alloc, b"csn-cert ")?;
+    push_number(&mut out, c.len())?;
+    out.push(b'\n')?;
+    for (number, node) in c.claims().iter().enumerate() {
+        push_node(&mut out, number as u16, node)?;
+    }
+    Ok(out)
+}
+
+// Adds the lines of a node.
+fn push_node(out: &mut Vec<u8>, number: u16, node: &NodeClaim) -> Result<(), NoMemory>
+    requires { IsNode node.now }
+    ensures { OnOk result (out.new.items ≡ out.old.items ++ node_text number node.now) }
+{
+    out.extend_from_slice(b"node ")?;
+    push_number(out, number)?;
+    out.push(b' ')?;
+    out.push(nullable_character(node.nullable))?;
+    out.push(b' ')?;
+    push_digits(out, 24, node.follow)?;
+    out.push(b'\n')?;
+    for position in &node.positions {
+        push_position(out, position)?;
+    }
+    Ok(())
+}
+
+// The digit that tells whether a node is nullable.
+fn nullable_character(nullable: bool) -> u8
+    ensures { result ≡ nullable_character nullable }
+{
+    if nullable { b'1' } else { b'0' }
+}
+
+// Adds the line of a position.
+fn push_position(out: &mut Vec<u8>, position: &Position) -> Result<(), NoMemory>
+    requires { IsPosition position.now }
+    ensures { OnOk result (out.new.items ≡ out.old.items ++ position_text position.now) }
+{
+    out.extend_from_slice(b"at ")?;
+    out.push(b'0' + position.octet)?;
+    out.push(b' ')?;
+    push_digits(out, 8, position.ends as u32)?;
+    out.push(b' ')?;
+    push_digits(out, 2, position.start as u32)?;
+    out.push(b' ')?;
+    push_patterns(out, &position.patterns)?;
+    out.push(b'\n')?;
+    Ok(())
+}
+
+// Adds the texts of patterns.
+fn push_patterns(out: &mut Vec<u8>, patterns: &[Pattern]) -> Result<(), NoMemory>
+    ensures { OnOk result (out.new.items ≡ out.old.items ++ patterns_text patterns.now) }
+{
+    let Some((first, rest)) = patterns.split_first() else {
+        out.push(b'-')?;
+        return Ok(());
+    };
+    out.extend_from_slice(&first.text())?;
+    push_more_patterns(out, rest)
+}
+
+// Adds the texts of patterns, each behind a comma.
+fn push_more_patterns(out: &mut Vec<u8>, patterns: &[Pattern]) -> Result<(), NoMemory>
+    ensures { OnOk result (out.new.items ≡ out.old.items ++ more_patterns_text patterns.now) }
+{
+    for pattern in patterns {
+        out.push(b',')?;
+        out.extend_from_slice(&pattern.text())?;
+    }
+    Ok(())
+}
+
+// Adds the last so many binary digits of a number.
+fn push_digits(out: &mut Vec<u8>, count: u8, number: u32) -> Result<(), NoMemory>
+    requires { count ≤ 24 }
+    ensures { OnOk result (out.new.items ≡ out.old.items ++ digits_text count number) }
+{
+    let mut left = count;
+    while left > 0 {
+        left -= 1;
+        out.push(b'0' + ((number >> left) % 2) as u8)?;
+    }
+    Ok(())
+}
+
+// Adds a number in decimal.
+fn push_number(out: &mut Vec<u8>, number: u16) -> Result<(), NoMemory>
+    ensures { OnOk result (out.new.items ≡ out.old.items ++ decimal number) }
+{
+    let mut buffer = Buffer::new();
+    out.extend_from_slice(buffer.format(number).as_bytes())?;
+    Ok(())
+}
