@@ -44,7 +44,7 @@ taken_then before taken' taken'' took front job rest =
     rest ∙ ap (option_map (λ taken. taken ++ front)) job ∙ ap Some (append_assoc before took front)
 
 -- what waited of a job that had handed on nothing
-handed_front : (before front : List ℕ) (taken' taken'' : Option (List ℕ)) → taken' ≡ Some before → Appended taken' taken'' front → taken'' ≡ Some (before ++ front)
+pub handed_front : (before front : List ℕ) (taken' taken'' : Option (List ℕ)) → taken' ≡ Some before → Appended taken' taken'' front → taken'' ≡ Some (before ++ front)
 handed_front before front taken' taken'' same handed = handed ∙ ap (option_map (λ taken. taken ++ front)) same
 
 -- ---- the end of a run

@@ -9,5 +9,5 @@ returns-in-Some-clause-row c = (λ _. rule_row _ _ _ (inl c.in-Some.ensures.name
 pub returns-clause-row : goal.returns-clause-row
 returns-clause-row c = (λ _. rule_row _ _ _ (inr (Write, c.in_ok-rule.ensures.names)), λ _. refl)
 
-pub returns-in-Some-2-clause-row : goal.returns-in-Some-2-clause-row
-returns-in-Some-2-clause-row c = (λ _. rule_row _ _ _ (inr (Show, c.in-Some-2.ensures.names)), λ _. refl)
+pub returns-in-Some-rule_words-clause-row : goal.returns-in-Some-rule_words-clause-row
+returns-in-Some-rule_words-clause-row c = (λ _. rule_row _ _ _ (inr (Show, c.in-Some-rule_words.ensures.names)), λ _. refl)

@@ -1,17 +1,35 @@
 use Rattle.std.proofs.Common.{inl, inr}
 use Rattle.csn_run.specs.OutLine.{MigratesLine}
 use Rattle.csn_run.specs.Result.{migrating}
+use Rattle.csn_run.proofs.CommandLemmas.{answer_reads}
 use Rattle.csn_run.proofs.JobLemmas.{asked_migrate, lines_end}
 use Rattle.csn_run.proofs.top.perform.Goals as goal
 
 pub returns-in-Check-clause-ends : goal.returns-in-Check-clause-ends
 returns-in-Check-clause-ends g c = λ words row. c.check.ensures.ends words (rw c.in-Check.is at row) _ _
 
+pub returns-in-Check-clause-read : goal.returns-in-Check-clause-read
+returns-in-Check-clause-read g c = λ e words row. inr (c.in-Check.rule.file.now, (c.in-Check.rule.name.now, c.in-Check.rule.reading, inl (rw c.in-Check.is at row)), c.check.ensures.read e)
+
 pub returns-in-Check-clause-no_file : goal.returns-in-Check-clause-no_file
 returns-in-Check-clause-no_file g c = λ words row none. absurd (none c.in-Check.rule.file.now (c.in-Check.rule.name.now, c.in-Check.rule.reading, inl (rw c.in-Check.is at row)))
 
 pub returns-in-Answer-clause-ends : goal.returns-in-Answer-clause-ends
 returns-in-Answer-clause-ends g c = λ words row. c.answer_by_rule.ensures.ends words (rw c.in-Answer.is at row)
+
+pub returns-in-Answer-clause-read : goal.returns-in-Answer-clause-read
+returns-in-Answer-clause-read g c = λ e words row.
+    elim (c.answer_by_rule.ensures.read e) [
+      | inl rose ↦ inl rose
+      | inr cannot ↦ inr (c.in-Answer.rule.file.now, (c.in-Answer.rule.name.now, c.in-Answer.rule.reading, inr (c.in-Answer.command, rw c.in-Answer.is at row)), cannot)
+    ]
+
+pub returns-in-Answer-clause-touches : goal.returns-in-Answer-clause-touches
+returns-in-Answer-clause-touches g c = λ words row.
+    elim (c.answer_by_rule.ensures.touches words (rw c.in-Answer.is at row)) [
+      | inl same ↦ inl same
+      | inr asked ↦ inr (answer_reads c.in-Answer.command (rw c.in-Answer.is at row), asked.0, asked.1)
+    ]
 
 pub returns-in-Answer-clause-no_file : goal.returns-in-Answer-clause-no_file
 returns-in-Answer-clause-no_file g c = λ words row none. absurd (none c.in-Answer.rule.file.now (c.in-Answer.rule.name.now, c.in-Answer.rule.reading, inr (c.in-Answer.command, rw c.in-Answer.is at row)))
