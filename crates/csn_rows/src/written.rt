@@ -1,10 +1,12 @@
 //! What `write` answers by a rule of the file F.
 
+ghost use Rattle.std.specs.Prelude.{◌≤◌, length};
+
 use crate::run_in_memory;
 use crate::shown::expect_row;
 use crate::tests::{expect, file, words_of};
 use csn_bits::Bits;
-use csn_catalogue::{Entry, entries, root_of, sample_of, text};
+use csn_catalogue::{entries, root_of, sample_of, text};
 use std::alloc::Global;
 use std::process::Abort;
 use std::test::Fail;
@@ -46,10 +48,16 @@ fn rows_of_write_hold(rt: HostRuntime) -> Result<(), Fail> {
     Ok(())
 }
 
-/// The sample block of an entry is shown, and the tree that is shown is written as this block.
-fn expect_back(rt: &impl Abort, alloc: Global, entry: Entry, reading: &str) -> Result<(), Fail> {
-    let name = str::from_utf8(root_of(entry)).map_err(|_| "no text")?;
-    let octets = sample_of(entry).octets;
+/// A block is shown, and the tree that is shown is written as this block.
+fn expect_back<'a>(
+    rt: &impl Abort,
+    alloc: Global,
+    name: &'a str,
+    reading: &'a str,
+    octets: &[u8],
+) -> Result<(), Fail>
+    requires { length octets.now ≤ 22 }
+{
     let bits = Bits::from_octets(alloc, octets, 8 * octets.len() as u32)?;
     let mut block = bits.to_hex_line(alloc)?;
     block.push(b'\n')?;
@@ -70,8 +78,10 @@ fn expect_back(rt: &impl Abort, alloc: Global, entry: Entry, reading: &str) -> R
 #[test]
 fn samples_are_written_back(rt: HostRuntime) -> Result<(), Fail> {
     for entry in entries() {
+        let name = str::from_utf8(root_of(entry)).map_err(|_| "no text")?;
+        let octets = sample_of(entry).octets;
         for reading in ["received", "sent"] {
-            expect_back(&rt, rt.alloc(), entry, reading)?;
+            expect_back(&rt, rt.alloc(), name, reading, octets)?;
         }
     }
     Ok(())
