@@ -215,8 +215,8 @@ pub fn run<B: Shelf, S: Source, K: Sink>(
         → (written : List ℕ) × (K.taken out.new ≡ Some (before ++ written))
         × StopsReading (map string_bytes words.now) files whole (S.left input.new) written }
 
-    // No answer is kept back: those to the lines that had ended before the last piece which the source gave, of at most
-    // 4,096 bytes, are written. So nothing more is read behind a fault of the sink.
+    // No answer is kept back: those to the lines that had ended before the last bytes which the source gave, at most
+    // 4,096 of them, are written. So no more than these are read behind a fault of the sink.
     ensures prompt { result ≢ Ended.Usage → (files : List ℕ → Option (List ℕ)) (whole before : List ℕ)
         → B.files shelf.old ≡ Some files → S.left input.old ≡ Some whole → K.taken out.old ≡ Some before
         → (written : List ℕ) × (K.taken out.new ≡ Some (before ++ written))
