@@ -1,0 +1,13 @@
+//! Certificates of descriptions that are certified, made of what look-ahead knows of them.
+#![tactic(auto)]
+
+mod digits;
+mod joining;
+mod make;
+mod marks;
+mod pattern_table;
+
+pub use make::make_certificate;
+
+#[cfg(test)]
+mod tests;
