@@ -3,6 +3,7 @@ ghost use Rattle.csn_cert.specs.PatternV.{PatternV};
 ghost use Rattle.csn_cert.specs.PatternText.{pattern_text, mark_character, end_character};
 
 use arrayvec::ArrayVec;
+use std::cmp::Ordering;
 use std::marker::Model;
 
 /// The most marks of a pattern: as many as there are bits of look-ahead.
@@ -59,6 +60,63 @@ impl Model for Pattern {
     ghost use Rattle.std.proofs.Common.{ap, ◌∙◌};
 
     ghost inverse_ok = { λ p h. ap (λ m. record { marks = m; len = length (take p.len p.marks); whole = p.whole }) (filled_back p.marks p.len h).0 ∙ ap (λ n. record { marks = p.marks; len = n; whole = p.whole }) (filled_back p.marks p.len h).1 };
+}
+
+/// Patterns are compared by their texts.
+impl PartialEq for Pattern {
+    ghost use Rattle.std.specs.Prelude.{nat_eq};
+    ghost use Rattle.std.specs.Cmp.{on_per, partial_equiv_from_equiv};
+    ghost use Rattle.std.specs.Cmp.Lexicographic.{pointwise, nat_list_eq_equiv};
+
+    ghost eq = { λ p q. pointwise nat_eq (pattern_text p) (pattern_text q) };
+
+    ghost laws = { on_per pattern_text (partial_equiv_from_equiv nat_list_eq_equiv) };
+
+    fn eq(&self, other: &Pattern) -> bool {
+        self.text().as_slice() == other.text().as_slice()
+    }
+}
+
+impl Eq for Pattern {
+    ghost use Rattle.std.specs.Cmp.{on_equiv};
+    ghost use Rattle.std.specs.Cmp.Lexicographic.{nat_list_eq_equiv};
+
+    ghost laws = { on_equiv pattern_text nat_list_eq_equiv };
+}
+
+impl PartialOrd for Pattern {
+    ghost use Rattle.std.specs.Cmp.{on_po};
+    ghost use Rattle.std.specs.Cmp.Lexicographic.{slice_cmp, texts_po};
+    ghost use Rattle.std.specs.Ordering.{nat_cmp};
+
+    ghost partial_cmp = { λ p q. Some (slice_cmp nat_cmp (pattern_text p) (pattern_text q)) };
+
+    ghost laws = { on_po pattern_text texts_po };
+
+    fn partial_cmp(&self, other: &Pattern) -> Option<Ordering> {
+        Some(self.cmp(other))
+    }
+}
+
+impl Ord for Pattern {
+    ghost use Rattle.std.specs.Prelude.{refl};
+    ghost use Rattle.std.specs.Cmp.{on_total};
+    ghost use Rattle.std.specs.Cmp.Lexicographic.{slice_cmp, nat_list_cmp_total, texts_ties};
+    ghost use Rattle.std.specs.Ordering.{nat_cmp};
+
+    ghost cmp = { λ p q. slice_cmp nat_cmp (pattern_text p) (pattern_text q) };
+
+    ghost total = { on_total pattern_text nat_list_cmp_total };
+
+    ghost matches_partial_cmp = { λ p q. refl };
+
+    ghost matches_eq = { λ p q. texts_ties (pattern_text p) (pattern_text q) };
+
+    fn cmp(&self, other: &Pattern) -> Ordering {
+        let first = self.text();
+        let second = other.text();
+        first.as_slice().cmp(&second.as_slice())
+    }
 }
 
 impl Pattern {
