@@ -119,9 +119,12 @@ marks_tell (m ∷ ms) (n ∷ ns) v w a b same =
     let ends = end_tells v w a b words.1 in
     (words.0, ends.0, ends.1)
 
-pub pattern_tells : Tells IsPattern pattern_text
-pattern_tells p q a b is is' same =
+pub patterns_differ : (p q : PatternV) (a b : List ℕ) → pattern_text p ++ a ≡ pattern_text q ++ b → (p ≡ q) × (a ≡ b)
+patterns_differ p q a b same =
     let cut : marks_text p.marks ++ end_character p.whole ∷ a ≡ marks_text q.marks ++ end_character q.whole ∷ b =
     sym (append_assoc (marks_text p.marks) (end_character p.whole ∷ []) a) ∙ same ∙ append_assoc (marks_text q.marks) (end_character q.whole ∷ []) b in
     let found = marks_tell p.marks q.marks p.whole q.whole a b cut in
     (ap (λ (m : List Mark). record { marks = m; whole = p.whole }) found.0 ∙ ap (λ (w : Bool). record { marks = q.marks; whole = w }) found.1, found.2)
+
+pub pattern_tells : Tells IsPattern pattern_text
+pattern_tells p q a b is is' same = patterns_differ p q a b same

@@ -1,5 +1,7 @@
 -- Laws over the texts of certificates.
 use Rattle.std.specs.Prelude.{◌≡◌, ℕ, List}
+use Rattle.csn_cert.specs.PatternV.{PatternV}
+use Rattle.csn_cert.specs.PatternText.{pattern_text}
 use Rattle.csn_cert.specs.CertificateV.{NodeV}
 use Rattle.csn_cert.specs.CertificateText.{CertificateText}
 
@@ -10,3 +12,7 @@ TextsAreOfOneCertificate = (c d : List NodeV) (text : List ℕ) → CertificateT
 -- no certificate has two texts
 abbrev pub CertificatesHaveOneText : Type 0
 CertificatesHaveOneText = (c : List NodeV) (text other : List ℕ) → CertificateText c text → CertificateText c other → text ≡ other
+
+-- no two patterns share a text
+abbrev pub TextsAreOfOnePattern : Type 0
+TextsAreOfOnePattern = (p q : PatternV) → pattern_text p ≡ pattern_text q → p ≡ q

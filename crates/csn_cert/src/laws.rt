@@ -1,9 +1,14 @@
 //! Laws over the texts of certificates, each the contract of a function that does nothing.
 
-ghost use Rattle.csn_cert.specs.Laws.{TextsAreOfOneCertificate, CertificatesHaveOneText};
+ghost use Rattle.csn_cert.specs.Laws.{TextsAreOfOneCertificate, CertificatesHaveOneText, TextsAreOfOnePattern};
 
 /// No two certificates share a text, and no certificate has two.
 pub fn texts_are_of_one_certificate()
     ensures certificate { TextsAreOfOneCertificate }
     ensures text { CertificatesHaveOneText }
+{}
+
+/// No two patterns share a text.
+pub fn texts_are_of_one_pattern()
+    ensures { TextsAreOfOnePattern }
 {}

@@ -6,6 +6,7 @@ mod joining;
 mod make;
 mod marks;
 mod pattern_table;
+mod row;
 
 pub use make::make_certificate;
 

@@ -1,7 +1,8 @@
 //! A certificate, made of the look-ahead sets of a description.
 
 use crate::digits::{digits_of, follow_digits, start_digits};
-use crate::pattern_table::PatternTable;
+use crate::pattern_table::patterns_of;
+use crate::row::Row;
 use csn_bits::NoMemory;
 use csn_cert::Certificate;
 use csn_certify::Plan;
@@ -13,11 +14,11 @@ pub fn make_certificate(alloc: Global, plan: Plan) -> Result<Certificate, NoMemo
     let desc = plan.into_desc();
     let look = Look::new(alloc, &desc)?;
     let reach = Reach::new(alloc, &desc, &look)?;
-    let patterns = PatternTable::new(alloc, &desc, &reach)?;
+    let patterns = patterns_of(alloc, &desc, &reach)?;
     let mut c = Certificate::new(alloc);
     for node in 0..desc.len() {
         c.node(look.nullable(node), follow_digits(&reach, node))?;
-        add_positions(&mut c, &look, &reach, &patterns, node)?;
+        add_positions(&mut c, &look, &reach, &patterns[node as usize], node)?;
     }
     Ok(c)
 }
@@ -27,7 +28,7 @@ fn add_positions(
     c: &mut Certificate,
     look: &Look,
     reach: &Reach,
-    patterns: &PatternTable,
+    patterns: &Row,
     node: u16,
 ) -> Result<(), NoMemory> {
     let reached = reach.reached(node);
@@ -35,7 +36,7 @@ fn add_positions(
         if reached.has(octet) {
             let ends = digits_of(&look.ends(node, octet));
             c.at(octet, ends, start_digits(look, node, octet))?;
-            for pattern in patterns.of(node, octet) {
+            for pattern in patterns.at(octet) {
                 c.pattern(*pattern)?;
             }
         }

@@ -1,150 +1,192 @@
-//! The patterns of all nodes of a description.
+//! The patterns of all nodes of a description, each from those of its parts.
+
+ghost use Rattle.std.specs.Prelude.{◌≡◌, ◌≤◌, [], ◌∷◌, length, flat_map, true, IfOk};
+ghost use Rattle.csn_desc.specs.Nodes.{parts_of};
+ghost use Rattle.csn_certmake.specs.Patterns.{continued, leaf_pattern, patterns_in, IsRow, AreRows, sequence_of, times_of, choice_of, patterns_at, node_patterns};
 
 use crate::joining::{after, in_order};
 use crate::marks::{any_bits, literal, spare, unread};
+use crate::row::Row;
 use csn_bits::NoMemory;
 use csn_cert::Pattern;
-use csn_desc::{Count, Desc, Node, Parts, Symbol};
-use csn_look::Reach;
+use csn_desc::{Count, Desc, Node, Parts, Reading, Symbol};
+use csn_look::{OctetSet, Reach};
 use std::alloc::Global;
 
-/// For each node, and each octet position from 0 to 7 at which it is reached, the patterns of what it may begin with.
-#[derive(Drop)]
-pub(crate) struct PatternTable {
-    rows: Vec<Vec<Vec<Pattern>>>,
-    // the number of the first node that has a row
-    from: u16,
+/// The patterns of what each node may begin with, at each octet position at which it is reached. The nodes are gone
+/// through once, the last one first.
+pub(crate) fn patterns_of(alloc: Global, desc: &Desc, reach: &Reach) -> Result<Vec<Row>, NoMemory> {
+    let mut rows = no_rows(alloc, desc.len())?;
+    for i in (0..desc.len()).rev() {
+        let row = row_of(alloc, desc.reading(), desc.node(i), rows.as_slice())?;
+        rows[i as usize] = reached_part(alloc, &row, &reach.reached(i))?;
+    }
+    Ok(rows)
 }
 
-impl PatternTable {
-    /// The patterns of all nodes. They are gone through once, the last one first.
-    pub fn new(alloc: Global, desc: &Desc, reach: &Reach) -> Result<PatternTable, NoMemory> {
-        let mut table = PatternTable {
-            rows: Vec::new(alloc),
-            from: desc.len(),
-        };
-        for i in (0..desc.len()).rev() {
-            let row = table.row_of(alloc, desc, i, reach)?;
-            table.rows.push(row)?;
-            table.from = i;
-        }
-        Ok(table)
+/// As many rows without patterns as there are nodes.
+fn no_rows(alloc: Global, count: u16) -> Result<Vec<Row>, NoMemory>
+    ensures { IfOk result (λ rows. length rows.items ≡ count) }
+{
+    let mut rows = Vec::new(alloc);
+    for _ in 0..count {
+        rows.push(Row::new(alloc))?;
     }
-
-    /// The patterns of a node at an octet position.
-    pub fn of(&self, node: u16, octet: u8) -> &[Pattern] {
-        let row = &self.rows[self.rows.len() - 1 - (node - self.from) as usize];
-        row[octet as usize].as_slice()
-    }
-
-    /// The patterns of the next node at each octet position, and none where it is not reached.
-    fn row_of(
-        &self,
-        alloc: Global,
-        desc: &Desc,
-        node: u16,
-        reach: &Reach,
-    ) -> Result<Vec<Vec<Pattern>>, NoMemory> {
-        let mut row = self.made(alloc, desc, desc.node(node))?;
-        let reached = reach.reached(node);
-        for octet in 0..8 {
-            if !reached.has(octet) {
-                row[octet as usize].clear();
-            }
-        }
-        Ok(row)
-    }
-
-    /// The patterns of a node at each octet position, from those of its parts.
-    fn made(&self, alloc: Global, desc: &Desc, node: &Node) -> Result<Vec<Vec<Pattern>>, NoMemory> {
-        match node {
-            Node::Lits(run) => one_each(alloc, |octet| literal(run, octet)),
-            Node::Spare(symbol) => {
-                one_each(alloc, |octet| spare(desc.reading(), *symbol, octet, true))
-            }
-            Node::Pad => one_each(alloc, |octet| {
-                spare(desc.reading(), Symbol::Low, octet, false)
-            }),
-            Node::Null => one_each(alloc, |_| Pattern::new(true)),
-            Node::Field {
-                unit,
-                count: Count::Fixed(n),
-            } => one_each(alloc, |_| any_bits(*unit as u64 * *n as u64)),
-            Node::Seq(parts) => self.sequence(alloc, parts),
-            Node::Choice(parts) => self.choice(alloc, parts),
-            Node::Times {
-                count: Count::Fixed(n),
-                part,
-            } => self.times(alloc, *n, *part),
-            Node::Named { label: _, part } => self.copied(alloc, *part),
-            _ => one_each(alloc, |_| unread()),
-        }
-    }
-
-    /// The patterns of a part before others that have these.
-    fn before(
-        &self,
-        alloc: Global,
-        part: u16,
-        rests: &[Vec<Pattern>],
-    ) -> Result<Vec<Vec<Pattern>>, NoMemory> {
-        let mut row = Vec::new(alloc);
-        for octet in 0..8 {
-            row.push(after(alloc, self.of(part, octet), octet, rests)?)?;
-        }
-        Ok(row)
-    }
-
-    /// The patterns of parts one after another.
-    fn sequence(&self, alloc: Global, parts: &Parts) -> Result<Vec<Vec<Pattern>>, NoMemory> {
-        let mut row = one_each(alloc, |_| Pattern::new(true))?;
-        for at in (0..parts.len()).rev() {
-            row = self.before(alloc, parts.get(at), row.as_slice())?;
-        }
-        Ok(row)
-    }
-
-    /// The patterns of a part so many times. Once one time more gives no others, no further time does.
-    fn times(&self, alloc: Global, n: u32, part: u16) -> Result<Vec<Vec<Pattern>>, NoMemory> {
-        let mut row = one_each(alloc, |_| Pattern::new(true))?;
-        for _ in 0..n {
-            let more = self.before(alloc, part, row.as_slice())?;
-            if more == row {
-                return Ok(row);
-            }
-            row = more;
-        }
-        Ok(row)
-    }
-
-    /// The patterns of all alternatives.
-    fn choice(&self, alloc: Global, parts: &Parts) -> Result<Vec<Vec<Pattern>>, NoMemory> {
-        let mut row = Vec::new(alloc);
-        for octet in 0..8 {
-            let mut patterns = Vec::new(alloc);
-            for at in 0..parts.len() {
-                patterns.extend_from_slice(self.of(parts.get(at), octet))?;
-            }
-            row.push(in_order(patterns))?;
-        }
-        Ok(row)
-    }
-
-    /// The patterns of a node once more.
-    fn copied(&self, alloc: Global, node: u16) -> Result<Vec<Vec<Pattern>>, NoMemory> {
-        let mut row = Vec::new(alloc);
-        for octet in 0..8 {
-            row.push(self.of(node, octet).to_vec(alloc)?)?;
-        }
-        Ok(row)
-    }
+    Ok(rows)
 }
 
-/// One pattern at each octet position.
-fn one_each<F: Fn(u8) -> Pattern>(alloc: Global, pattern: F) -> Result<Vec<Vec<Pattern>>, NoMemory> {
-    let mut row = Vec::new(alloc);
+/// The patterns of a row at the octet positions of a set, and none elsewhere.
+fn reached_part(alloc: Global, row: &Row, reached: &OctetSet) -> Result<Row, NoMemory>
+    requires { length row.now ≡ 8 }
+{
+    let mut part = Row::new(alloc);
     for octet in 0..8 {
-        row.push(vec![in alloc; pattern(octet)]?)?;
+        if reached.has(octet) {
+            part.push(row.at(octet).to_vec(alloc)?)?;
+        } else {
+            part.push(Vec::new(alloc))?;
+        }
+    }
+    Ok(part)
+}
+
+/// The patterns of a node at each octet position, from those of its parts.
+fn row_of(alloc: Global, reading: Reading, node: &Node, rows: &[Row]) -> Result<Row, NoMemory>
+    requires { AreRows rows.now (parts_of node.now) }
+    ensures { IfOk result (λ row. IsRow (node_patterns reading rows.now node.now) row) }
+{
+    match node {
+        Node::Seq(parts) => sequence(alloc, rows, parts),
+        Node::Choice(parts) => choice(alloc, rows, parts),
+        Node::Times {
+            count: Count::Fixed(n),
+            part,
+        } => times(alloc, *n, &rows[*part as usize]),
+        Node::Named { label: _, part } => copied(alloc, &rows[*part as usize]),
+        _ => alone(alloc, reading, node),
+    }
+}
+
+/// The patterns of a node that go without its parts.
+fn alone(alloc: Global, reading: Reading, node: &Node) -> Result<Row, NoMemory>
+    ensures { IfOk result (λ row. IsRow (λ octet. leaf_pattern reading node.now octet ∷ []) row) }
+{
+    let mut row = Row::new(alloc);
+    for octet in 0..8 {
+        row.push(vec![in alloc; leaf_pattern(reading, node, octet)]?)?;
+    }
+    Ok(row)
+}
+
+/// The pattern of a node that goes without its parts.
+fn leaf_pattern(reading: Reading, node: &Node, octet: u8) -> Pattern
+    requires { octet ≤ 7 }
+    ensures { result ≡ leaf_pattern reading node.now octet }
+{
+    match node {
+        Node::Lits(run) => literal(run, octet),
+        Node::Spare(symbol) => spare(reading, *symbol, octet, true),
+        Node::Pad => spare(reading, Symbol::Low, octet, false),
+        Node::Null => Pattern::new(true),
+        Node::Field {
+            unit,
+            count: Count::Fixed(n),
+        } => any_bits(*unit as u64 * *n as u64),
+        _ => unread(),
+    }
+}
+
+/// The patterns of no bits.
+fn no_bits(alloc: Global) -> Result<Row, NoMemory>
+    ensures { IfOk result (λ row. IsRow (λ octet. record { marks = []; whole = true } ∷ []) row) }
+{
+    let mut row = Row::new(alloc);
+    for _ in 0..8 {
+        row.push(vec![in alloc; Pattern::new(true)]?)?;
+    }
+    Ok(row)
+}
+
+/// The patterns of a part before others that have these.
+fn before(alloc: Global, part: &Row, rests: &Row) -> Result<Row, NoMemory>
+    requires part { length part.now ≡ 8 }
+    requires rests { length rests.now ≡ 8 }
+    ensures { IfOk result (λ row. IsRow (λ octet. flat_map (continued rests.now octet) (patterns_in part.now octet)) row) }
+{
+    let mut row = Row::new(alloc);
+    for octet in 0..8 {
+        row.push(after(alloc, part.at(octet), octet, rests)?)?;
+    }
+    Ok(row)
+}
+
+/// The patterns of parts one after another.
+fn sequence(alloc: Global, rows: &[Row], parts: &Parts) -> Result<Row, NoMemory>
+    requires { AreRows rows.now parts.now }
+    ensures { IfOk result (λ row. IsRow (sequence_of (patterns_at rows.now) parts.now) row) }
+{
+    let mut row = no_bits(alloc)?;
+    for at in (0..parts.len()).rev() {
+        row = before(alloc, &rows[parts.get(at) as usize], &row)?;
+    }
+    Ok(row)
+}
+
+/// The patterns of a part so many times. Once one time more gives no others, no further time does.
+fn times(alloc: Global, n: u32, part: &Row) -> Result<Row, NoMemory>
+    requires { length part.now ≡ 8 }
+    ensures { IfOk result (λ row. IsRow (times_of (patterns_in part.now) n) row) }
+{
+    let mut row = no_bits(alloc)?;
+    for _ in 0..n {
+        let more = before(alloc, part, &row)?;
+        if more.same(&row) {
+            return Ok(row);
+        }
+        row = more;
+    }
+    Ok(row)
+}
+
+/// The patterns of all alternatives.
+fn choice(alloc: Global, rows: &[Row], parts: &Parts) -> Result<Row, NoMemory>
+    requires { AreRows rows.now parts.now }
+    ensures { IfOk result (λ row. IsRow (choice_of (patterns_at rows.now) parts.now) row) }
+{
+    let mut row = Row::new(alloc);
+    for octet in 0..8 {
+        row.push(in_order(gathered(alloc, rows, parts, octet)?))?;
+    }
+    Ok(row)
+}
+
+/// The patterns of all alternatives at an octet position, one after another.
+fn gathered(
+    alloc: Global,
+    rows: &[Row],
+    parts: &Parts,
+    octet: u8,
+) -> Result<Vec<Pattern>, NoMemory>
+    requires rows { AreRows rows.now parts.now }
+    requires octet { octet ≤ 7 }
+    ensures { IfOk result (λ patterns. patterns.items ≡ choice_of (patterns_at rows.now) parts.now octet) }
+{
+    let mut patterns = Vec::new(alloc);
+    for at in 0..parts.len() {
+        let part = &rows[parts.get(at) as usize];
+        patterns.extend_from_slice(part.at(octet))?;
+    }
+    Ok(patterns)
+}
+
+/// The same patterns once more.
+fn copied(alloc: Global, part: &Row) -> Result<Row, NoMemory>
+    requires { length part.now ≡ 8 }
+    ensures { IfOk result (IsRow (patterns_in part.now)) }
+{
+    let mut row = Row::new(alloc);
+    for octet in 0..8 {
+        row.push(part.at(octet).to_vec(alloc)?)?;
     }
     Ok(row)
 }

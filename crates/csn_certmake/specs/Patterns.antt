@@ -1,0 +1,110 @@
+-- Patterns of single nodes, and of one part after another. (This project's own choice.)
+use Rattle.std.specs.Prelude.{◌≡◌, ℕ, zero, suc, ◌+◌, ◌*◌, ◌%◌, ◌<◌, ◌≤◌, ◌==◌, nat_le, if◌then◌else◌, replicate, flat_map, slice_get, Some, Bool, true, false, List, [], ◌∷◌, ◌++◌, length, take, map, Contains, slice_index_or, ◌↔◌}
+use Rattle.csn_desc.specs.declared.reading.Reading.{Reading}
+use Rattle.csn_desc.specs.declared.reading.Reading.TheVariants.{Received, Sent}
+use Rattle.csn_desc.specs.declared.symbol.Symbol.{Symbol}
+use Rattle.csn_desc.specs.declared.symbol.Symbol.TheVariants.{Low}
+use Rattle.csn_desc.specs.declared.node.Count.TheVariants.{Fixed}
+use Rattle.csn_desc.specs.declared.node.Node.{Node}
+use Rattle.csn_desc.specs.declared.node.Node.TheVariants.{Lits, Spare, Pad, Null, Field, Seq, Choice, Times, Named}
+use Rattle.csn_desc.specs.Spelled.{symbol_bit, spelled}
+use Rattle.csn_cert.specs.declared.pattern.Mark.{Mark}
+use Rattle.csn_cert.specs.declared.pattern.Mark.TheVariants.{Zero, One, Any}
+use Rattle.csn_cert.specs.declared.pattern.TheConstants.{MOST_MARKS}
+use Rattle.csn_cert.specs.PatternV.{PatternV}
+use Rattle.csn_cert.specs.PatternText.{ComesBefore}
+use Rattle.csn_cert.specs.CertificateV.{Rises}
+
+-- the mark that stands for one bit
+abbrev pub mark_of : ℕ → Mark
+mark_of bit = if bit == 0 then Zero else One
+
+-- a pattern of these marks: where they are more than a pattern has, of the first of them, cut
+abbrev pub shortened : List Mark → Bool → PatternV
+shortened marks whole =
+    if nat_le (length marks) MOST_MARKS
+    then record { marks = marks; whole = whole }
+    else record { marks = take MOST_MARKS marks; whole = false }
+
+-- the empty pattern, cut: of what is not looked into
+abbrev pub unread : PatternV
+unread = record { marks = []; whole = false }
+
+-- the mark of a spare bit at an octet position
+abbrev pub spare_mark : Reading → Symbol → ℕ → Mark
+spare_mark Received symbol octet = Any
+spare_mark Sent symbol octet = mark_of (symbol_bit symbol octet)
+
+-- two patterns one after the other
+abbrev pub joined : PatternV → PatternV → PatternV
+joined first rest = shortened (first.marks ++ rest.marks) rest.whole
+
+-- the patterns of an octet position, of those of the eight
+abbrev pub patterns_in : List (List PatternV) → ℕ → List PatternV
+patterns_in row octet = slice_index_or row octet []
+
+-- a pattern at an octet position, as it is where it is cut, and else joined with each pattern of what comes after it
+abbrev pub continued : List (List PatternV) → ℕ → PatternV → List PatternV
+continued rests octet first =
+    if first.whole
+    then map (joined first) (patterns_in rests ((octet + length first.marks) % 8))
+    else first ∷ []
+
+-- the lists have the same patterns
+abbrev pub HasSame : List PatternV → List PatternV → Type 0
+HasSame patterns others = (p : PatternV) → Contains patterns p ↔ Contains others p
+
+-- ---- the equations
+
+-- the pattern of a node that goes without its parts
+abbrev pub leaf_pattern : Reading → Node → ℕ → PatternV
+leaf_pattern reading (Lits run) octet = shortened (map mark_of (spelled run octet)) true
+leaf_pattern reading (Spare symbol) octet = record { marks = spare_mark reading symbol octet ∷ []; whole = true }
+leaf_pattern reading Pad octet = record { marks = spare_mark reading Low octet ∷ []; whole = false }
+leaf_pattern reading Null octet = record { marks = []; whole = true }
+leaf_pattern reading (Field unit (Fixed n)) octet = shortened (replicate (unit * n) Any) true
+leaf_pattern reading _ octet = unread
+
+-- a pattern at an octet position before what has these patterns at each octet position
+abbrev pub before_all : (ℕ → List PatternV) → ℕ → PatternV → List PatternV
+before_all rests octet first =
+    if first.whole
+    then map (joined first) (rests ((octet + length first.marks) % 8))
+    else first ∷ []
+
+-- of parts one after another, by the patterns of each part at each octet position
+abbrev pub sequence_of : (ℕ → ℕ → List PatternV) → List ℕ → ℕ → List PatternV
+sequence_of of_part [] octet = record { marks = []; whole = true } ∷ []
+sequence_of of_part (i ∷ parts) octet = flat_map (before_all (sequence_of of_part parts) octet) (of_part i octet)
+
+-- of a part so many times
+abbrev pub times_of : (ℕ → List PatternV) → ℕ → ℕ → List PatternV
+times_of of_part zero octet = record { marks = []; whole = true } ∷ []
+times_of of_part (suc n) octet = flat_map (before_all (times_of of_part n) octet) (of_part octet)
+
+-- of one of some parts
+abbrev pub choice_of : (ℕ → ℕ → List PatternV) → List ℕ → ℕ → List PatternV
+choice_of of_part parts octet = flat_map (λ i. of_part i octet) parts
+
+-- the patterns of a node at an octet position, in a list for each node
+abbrev pub patterns_at : List (List (List PatternV)) → ℕ → ℕ → List PatternV
+patterns_at rows i octet = patterns_in (slice_index_or rows i []) octet
+
+-- of a node, from those of its parts
+abbrev pub node_patterns : Reading → List (List (List PatternV)) → Node → ℕ → List PatternV
+node_patterns reading rows (Seq parts) octet = sequence_of (patterns_at rows) parts octet
+node_patterns reading rows (Choice parts) octet = choice_of (patterns_at rows) parts octet
+node_patterns reading rows (Times (Fixed n) i) octet = times_of (patterns_at rows i) n octet
+node_patterns reading rows (Named label i) octet = patterns_at rows i octet
+node_patterns reading rows n octet = leaf_pattern reading n octet ∷ []
+
+-- the row has these patterns at each octet position, and at each in the order of their texts
+pub record IsRow (of : ℕ → List PatternV) (row : List (List PatternV)) : Type 0 where
+  pub eight : length row ≡ 8
+  pub same : (octet : ℕ) → octet ≤ 7 → HasSame (patterns_in row octet) (of octet)
+  pub rising : (octet : ℕ) → octet ≤ 7 → Rises ComesBefore (patterns_in row octet)
+
+-- there is a row of eight lists for each of the parts, each in order
+pub record AreRows (table : List (List (List PatternV))) (parts : List ℕ) : Type 0 where
+  pub there : (at i : ℕ) → slice_get parts at ≡ Some i → i < length table
+  pub rows : (at i : ℕ) → slice_get parts at ≡ Some i → IsRow (patterns_at table i) (slice_index_or table i [])
