@@ -1,2 +1,4 @@
 mod Orders
 mod Shortening
+mod Spelling
+mod Rows

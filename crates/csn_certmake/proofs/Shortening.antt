@@ -2,11 +2,13 @@
 use Rattle.std.proofs.Common.{◌≡◌, ℕ, zero, suc, ◌+◌, ◌-◌, ◌%◌, ◌<◌, ◌≤◌, min, Bool, true, false, ◌&&◌, List, [], ◌∷◌, ◌++◌, length, take, map, replicate, Some, slice_get, refl, sym, ap, ◌∙◌, arith, leb}
 use Rattle.std.specs.Prelude.{nat_le}
 use Rattle.std.proofs.lemmas.Bool.Decides.{nat_tests}
-use Rattle.std.proofs.lemmas.List.{take_all, length-append}
+use Rattle.std.proofs.lemmas.List.{take_all, length-append, length-replicate, take-replicate}
+use Rattle.std.proofs.Math.Seq.{take-append-add}
 use Rattle.csn_cert.specs.declared.pattern.Mark.{Mark}
+use Rattle.csn_cert.specs.declared.pattern.Mark.TheVariants.{Any}
 use Rattle.csn_cert.specs.declared.pattern.TheConstants.{MOST_MARKS}
 use Rattle.csn_cert.specs.PatternV.{PatternV}
-use Rattle.csn_certmake.specs.Patterns.{shortened}
+use Rattle.csn_certmake.specs.Patterns.{shortened, joined}
 
 -- the first twelve of some marks, whole only where these are all, are the marks shortened
 pub shortened_by : (marks : List Mark) (whole told : Bool) (count : ℕ) (test : Bool) → nat_le (length marks) MOST_MARKS ≡ test → count ≡ min (length marks) MOST_MARKS → told ≡ (whole && test) → record { marks = take count marks; whole = told } ≡ shortened marks whole
@@ -26,3 +28,29 @@ shortened_by marks whole told count false low is same =
     and_false : (b : Bool) → (b && false) ≡ false
     and_false true = refl
     and_false false = refl
+
+-- tests of facts that go together give the same answer
+same_tests : (a b c d : ℕ) (t u : Bool) → nat_le a b ≡ t → nat_le c d ≡ u → (a ≤ b → c ≤ d) → (c ≤ d → a ≤ b) → t ≡ u
+same_tests a b c d true true first second there back = refl
+same_tests a b c d true false first second there back =
+    (let low : a ≤ b = grind (arith, nat_tests, first) in let high : d < c = grind (arith, nat_tests, second) in absurd (omega (arith, there low)))
+same_tests a b c d false true first second there back =
+    (let high : b < a = grind (arith, nat_tests, first) in let low : c ≤ d = grind (arith, nat_tests, second) in absurd (omega (arith, back low)))
+same_tests a b c d false false first second there back = refl
+
+-- the marks of one pattern and then of another, as many as there is room for
+pub joined_is : (first rest : PatternV) (room count : ℕ) (whole : Bool) → length first.marks ≤ 12 → room ≡ 12 - length first.marks → count ≡ min (length rest.marks) room → whole ≡ (rest.whole && nat_le (length rest.marks) room) → record { marks = first.marks ++ take count rest.marks; whole = whole } ≡ joined first rest
+joined_is first rest room count whole few is_room is same =
+    let all : List Mark = first.marks ++ rest.marks in
+    let long : length all ≡ length first.marks + length rest.marks = length-append first.marks rest.marks in
+    let test : nat_le (length rest.marks) room ≡ nat_le (length all) 12 =
+    same_tests (length rest.marks) room (length all) 12 (nat_le (length rest.marks) room) (nat_le (length all) 12) refl refl (λ low. omega (arith, low, long, is_room, few)) (λ low. omega (arith, low, long, is_room, few)) in
+    ap (λ (m : List Mark). record { marks = m; whole = whole }) (sym (take-append-add first.marks rest.marks count))
+    ∙ shortened_by all rest.whole whole (length first.marks + count) (nat_le (length all) 12) refl (omega (arith, is, long, is_room, few)) (same ∙ ap (λ b. rest.whole && b) test)
+
+-- so many marks that are the same
+pub any_is : (count k : ℕ) (whole : Bool) → k ≡ min count 12 → whole ≡ nat_le count 12 → record { marks = replicate k Any; whole = whole } ≡ shortened (replicate count Any) true
+any_is count k whole is same =
+    let long : length (replicate count Any) ≡ count = length-replicate count Any in
+    ap (λ (m : List Mark). record { marks = m; whole = whole }) (sym (take-replicate k count Any (omega arith)))
+    ∙ shortened_by (replicate count Any) true whole k (nat_le (length (replicate count Any)) 12) refl (omega (arith, is, long)) (same ∙ ap (λ n. nat_le n 12) (sym long))

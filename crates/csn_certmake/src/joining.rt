@@ -28,7 +28,7 @@ fn joined(first: &Pattern, rest: &Pattern) -> Pattern
     ensures { result ≡ joined first.now rest.now }
 {
     let room = MOST_MARKS as u8 - first.len();
-    let mut pattern = Pattern::new(rest.whole() && rest.len() <= room);
+    let mut pattern = Pattern::new(rest.whole() & (rest.len() <= room));
     push_marks(&mut pattern, first, first.len());
     push_marks(&mut pattern, rest, rest.len().min(room));
     pattern
@@ -56,7 +56,8 @@ fn push_continued(
     octet: u8,
     rests: &Row,
 ) -> Result<(), NoMemory>
-    requires { octet ≤ 7 }
+    requires octet { octet ≤ 7 }
+    requires row { length rests.now ≡ 8 }
     ensures { OnOk result (patterns.new.items ≡ patterns.old.items ++ continued rests.now octet first.now) }
 {
     if !first.whole() {
@@ -75,7 +76,8 @@ pub(crate) fn after(
     octet: u8,
     rests: &Row,
 ) -> Result<Vec<Pattern>, NoMemory>
-    requires { octet ≤ 7 }
+    requires octet { octet ≤ 7 }
+    requires row { length rests.now ≡ 8 }
     ensures same { IfOk result (λ patterns. HasSame patterns.items (flat_map (continued rests.now octet) first.now)) }
     ensures rising { IfOk result (λ patterns. Rises ComesBefore patterns.items) }
 {

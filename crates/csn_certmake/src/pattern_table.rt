@@ -96,13 +96,20 @@ fn leaf_pattern(reading: Reading, node: &Node, octet: u8) -> Pattern
     }
 }
 
+/// The pattern of no bits at an octet position.
+fn empty_at(_octet: u8) -> Pattern
+    ensures { result ≡ record { marks = []; whole = true } }
+{
+    Pattern::new(true)
+}
+
 /// The patterns of no bits.
 fn no_bits(alloc: Global) -> Result<Row, NoMemory>
     ensures { IfOk result (λ row. IsRow (λ octet. record { marks = []; whole = true } ∷ []) row) }
 {
     let mut row = Row::new(alloc);
-    for _ in 0..8 {
-        row.push(vec![in alloc; Pattern::new(true)]?)?;
+    for octet in 0..8 {
+        row.push(vec![in alloc; empty_at(octet)]?)?;
     }
     Ok(row)
 }
@@ -138,7 +145,7 @@ fn times(alloc: Global, n: u32, part: &Row) -> Result<Row, NoMemory>
     ensures { IfOk result (λ row. IsRow (times_of (patterns_in part.now) n) row) }
 {
     let mut row = no_bits(alloc)?;
-    for _ in 0..n {
+    for k in 0..n {
         let more = before(alloc, part, &row)?;
         if more.same(&row) {
             return Ok(row);

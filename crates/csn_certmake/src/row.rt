@@ -2,6 +2,7 @@ ghost use Rattle.std.specs.Prelude.{◌≡◌, ◌≤◌, ◌<◌, ◌++◌, ◌
 
 use csn_bits::NoMemory;
 use csn_cert::Pattern;
+use csn_cert::laws::texts_are_of_one_pattern;
 use std::alloc::Global;
 use std::marker::Model;
 
@@ -37,17 +38,12 @@ impl Row {
         Ok(self.lists.push(patterns)?)
     }
 
-    /// Whether the lists are the same as those of another.
+    /// Whether the lists are those of another.
     pub fn same(&self, other: &Row) -> bool
-        requires { length self.now ≡ length other.now }
         ensures { IsTrue result → self.now ≡ other.now }
     {
-        for at in 0..self.lists.len() {
-            if self.lists[at].as_slice() != other.lists[at].as_slice() {
-                return false;
-            }
-        }
-        true
+        texts_are_of_one_pattern();
+        self.lists == other.lists
     }
 
     /// The patterns at an octet position.

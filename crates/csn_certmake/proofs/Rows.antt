@@ -1,0 +1,79 @@
+-- Rows of patterns that are made octet position by octet position.
+use Rattle.std.proofs.Common.{◌≡◌, ℕ, zero, suc, ◌+◌, ◌%◌, ◌<◌, ◌≤◌, ◌⊎◌, inl, inr, ⊎_elim, Bool, true, false, ◌&&◌, List, [], ◌∷◌, ◌++◌, length, map, refl, sym, ap, ◌∙◌, subst, arith, length-append, slice_index_or, get_or}
+use Rattle.std.proofs.lemmas.Bool.{cases_lt}
+use Rattle.std.proofs.lemmas.List.{get_or_append_left, get_or_push}
+use Rattle.csn_cert.specs.PatternV.{PatternV}
+use Rattle.csn_cert.specs.PatternText.{ComesBefore}
+use Rattle.csn_cert.specs.CertificateV.{Rises}
+use Rattle.std.specs.Cmp.Lexicographic.{pointwise}
+use Rattle.csn_certmake.specs.Patterns.{joined, continued, patterns_in, HasSame, IsRow}
+
+-- the first few octet positions of a row
+pub record RowSo (of : ℕ → List PatternV) (row : List (List PatternV)) (n : ℕ) : Type 0 where
+  pub count : length row ≡ n
+  pub same : (octet : ℕ) → octet < n → HasSame (patterns_in row octet) (of octet)
+  pub rising : (octet : ℕ) → octet < n → Rises ComesBefore (patterns_in row octet)
+
+pub row_none : (of : ℕ → List PatternV) → RowSo of [] 0
+row_none of = record { count = refl; same = λ octet low. absurd (omega arith); rising = λ octet low. absurd (omega arith) }
+
+pub row_all : (of : ℕ → List PatternV) (row : List (List PatternV)) (n : ℕ) → n ≡ 8 → RowSo of row n → IsRow of row
+row_all of row n is so =
+    record {
+      eight = so.count ∙ is;
+      same = λ octet low. so.same octet (omega arith);
+      rising = λ octet low. so.rising octet (omega arith);
+    }
+
+-- what holds of each list and of one more
+one_more : (Q : ℕ → List PatternV → Type 0) (row : List (List PatternV)) (patterns : List PatternV) (n : ℕ) → length row ≡ n → ((octet : ℕ) → octet < n → Q octet (patterns_in row octet)) → Q n patterns → (octet : ℕ) → octet < n + 1 → Q octet (patterns_in (row ++ patterns ∷ []) octet)
+one_more Q row patterns n count each here octet low =
+    ⊎_elim
+    (λ (before : octet < n). subst (λ (l : List PatternV). Q octet l) (sym (get_or_append_left row (patterns ∷ []) [] octet (omega arith))) (each octet before))
+    (λ (past : n ≤ octet).
+    let at : octet ≡ n = omega arith in
+    let is : patterns_in (row ++ patterns ∷ []) n ≡ patterns = get_or_push row patterns [] n count in
+    subst (λ (o : ℕ). Q o (patterns_in (row ++ patterns ∷ []) o)) (sym at) (subst (λ (l : List PatternV). Q n l) (sym is) here))
+    (cases_lt octet n)
+
+pub row_more : (of : ℕ → List PatternV) (row new : List (List PatternV)) (n : ℕ) (patterns : List PatternV) → RowSo of row n → HasSame patterns (of n) → Rises ComesBefore patterns → new ≡ row ++ patterns ∷ [] → RowSo of new (n + 1)
+row_more of row new n patterns so same rising pushed =
+    subst (λ (r : List (List PatternV)). RowSo of r (n + 1)) (sym pushed) (record {
+      count = length-append row (patterns ∷ []) ∙ ap (λ k. k + 1) so.count;
+      same = one_more (λ o l. HasSame l (of o)) row patterns n so.count so.same same;
+      rising = one_more (λ o l. Rises ComesBefore l) row patterns n so.count so.rising rising;
+    })
+
+pub has_same : (patterns others : List PatternV) → patterns ≡ others → HasSame patterns others
+has_same patterns others same = subst (λ (l : List PatternV). HasSame patterns l) same (λ p. (λ h. h, λ h. h))
+
+pub rises_alone : (p : PatternV) → Rises ComesBefore (p ∷ [])
+rises_alone p = tt
+
+-- ---- lists that are tested to be the same
+
+both : (b c : Bool) → (b && c) ≡ true → (b ≡ true) × (c ≡ true)
+both true true is = (refl, refl)
+both true false is = absurd (cc)
+both false c is = absurd (cc)
+
+list_same : {A : Type 0} (E : A → A → Bool) → ((x y : A) → E x y ≡ true → x ≡ y) → (xs ys : List A) → pointwise E xs ys ≡ true → xs ≡ ys
+list_same E tells [] [] is = refl
+list_same E tells [] (y ∷ ys) is = absurd (cc)
+list_same E tells (x ∷ xs) [] is = absurd (cc)
+list_same E tells (x ∷ xs) (y ∷ ys) is =
+    let parts = both (E x y) (pointwise E xs ys) is in
+    ap (λ z. z ∷ xs) (tells x y parts.0) ∙ ap (λ l. y ∷ l) (list_same E tells xs ys parts.1)
+
+pub lists_same : {A X : Type 0} (E : A → A → Bool) (f : X → List A) → ((x y : A) → E x y ≡ true → x ≡ y) → (xs ys : List X) → pointwise (λ v w. pointwise E (f v) (f w)) xs ys ≡ true → map f xs ≡ map f ys
+lists_same E f tells [] [] is = refl
+lists_same E f tells [] (y ∷ ys) is = absurd (cc)
+lists_same E f tells (x ∷ xs) [] is = absurd (cc)
+lists_same E f tells (x ∷ xs) (y ∷ ys) is =
+    let parts = both (pointwise E (f x) (f y)) (pointwise (λ v w. pointwise E (f v) (f w)) xs ys) is in
+    ap (λ z. z ∷ map f xs) (list_same E tells (f x) (f y) parts.0) ∙ ap (λ l. f y ∷ l) (lists_same E f tells xs ys parts.1)
+
+-- ---- before other patterns
+
+pub continued_whole : (rests : List (List PatternV)) (octet : ℕ) (first : PatternV) (patterns : List PatternV) → first.whole ≡ true → patterns_in rests ((octet + length first.marks) % 8) ≡ patterns → continued rests octet first ≡ map (joined first) patterns
+continued_whole rests octet first patterns whole is = rw whole (ap (map (joined first)) is)
