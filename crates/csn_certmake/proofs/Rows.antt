@@ -1,12 +1,12 @@
 -- Rows of patterns that are made octet position by octet position.
-use Rattle.std.proofs.Common.{◌≡◌, ℕ, zero, suc, ◌+◌, ◌%◌, ◌<◌, ◌≤◌, ◌⊎◌, inl, inr, ⊎_elim, Bool, true, false, ◌&&◌, List, [], ◌∷◌, ◌++◌, length, map, refl, sym, ap, ◌∙◌, subst, arith, length-append, slice_index_or, get_or}
+use Rattle.std.proofs.Common.{◌≡◌, ℕ, zero, suc, ◌+◌, ◌%◌, ◌<◌, ◌≤◌, ◌⊎◌, inl, inr, ⊎_elim, Bool, true, false, ◌&&◌, List, [], ◌∷◌, ◌++◌, length, map, refl, sym, ap, ◌∙◌, subst, arith, length-append, slice_index_or, get_or, slice_get, Some, take, append_assoc, append-nil}
 use Rattle.std.proofs.lemmas.Bool.{cases_lt}
 use Rattle.std.proofs.lemmas.List.{get_or_append_left, get_or_push}
 use Rattle.csn_cert.specs.PatternV.{PatternV}
 use Rattle.csn_cert.specs.PatternText.{ComesBefore}
 use Rattle.csn_cert.specs.CertificateV.{Rises}
 use Rattle.std.specs.Cmp.Lexicographic.{pointwise}
-use Rattle.csn_certmake.specs.Patterns.{joined, continued, patterns_in, HasSame, IsRow}
+use Rattle.csn_certmake.specs.Patterns.{joined, continued, choice_of, patterns_in, HasSame, IsRow}
 
 -- the first few octet positions of a row
 pub record RowSo (of : ℕ → List PatternV) (row : List (List PatternV)) (n : ℕ) : Type 0 where
@@ -77,3 +77,21 @@ lists_same E f tells (x ∷ xs) (y ∷ ys) is =
 
 pub continued_whole : (rests : List (List PatternV)) (octet : ℕ) (first : PatternV) (patterns : List PatternV) → first.whole ≡ true → patterns_in rests ((octet + length first.marks) % 8) ≡ patterns → continued rests octet first ≡ map (joined first) patterns
 continued_whole rests octet first patterns whole is = rw whole (ap (map (joined first)) is)
+
+-- one list more, of one pattern
+pub row_one : (of : ℕ → List PatternV) (row new : List (List PatternV)) (n : ℕ) (patterns : List PatternV) (p : PatternV) → RowSo of row n → patterns ≡ p ∷ [] → of n ≡ p ∷ [] → new ≡ row ++ patterns ∷ [] → RowSo of new (n + 1)
+row_one of row new n patterns p so made is pushed =
+    row_more of row new n patterns so (has_same patterns (of n) (made ∙ sym is)) (subst (λ (l : List PatternV). Rises ComesBefore l) (sym made) tt) pushed
+
+-- a row that was read is the one at its place
+pub row_read : (table : List (List (List PatternV))) (i : ℕ) (row : List (List PatternV)) → i < length table → row ≡ get_or table i row → slice_index_or table i [] ≡ row
+row_read [] i row low is = absurd (omega arith)
+row_read (r ∷ table) zero row low is = sym is
+row_read (r ∷ table) (suc i) row low is = row_read table i row (omega arith) is
+
+pub choice_next : (of_part : ℕ → ℕ → List PatternV) (parts : List ℕ) (at i octet : ℕ) → slice_get parts at ≡ Some i → choice_of of_part (take at parts) octet ++ of_part i octet ≡ choice_of of_part (take (at + 1) parts) octet
+choice_next of_part [] at i octet is = absurd (cc)
+choice_next of_part (j ∷ parts) zero i octet is = (let same : j ≡ i = cc in sym (append-nil (of_part j octet) ∙ ap (λ k. of_part k octet) same))
+choice_next of_part (j ∷ parts) (suc at) i octet is =
+    let next : suc (at + 1) ≡ suc at + 1 = omega arith in
+    append_assoc (of_part j octet) (choice_of of_part (take at parts) octet) (of_part i octet) ∙ ap (λ l. of_part j octet ++ l) (choice_next of_part parts at i octet is) ∙ ap (λ n. choice_of of_part (take n (j ∷ parts)) octet) next

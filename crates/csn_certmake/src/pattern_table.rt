@@ -29,7 +29,7 @@ fn no_rows(alloc: Global, count: u16) -> Result<Vec<Row>, NoMemory>
     ensures { IfOk result (λ rows. length rows.items ≡ count) }
 {
     let mut rows = Vec::new(alloc);
-    for _ in 0..count {
+    for k in 0..count {
         rows.push(Row::new(alloc))?;
     }
     Ok(rows)
@@ -188,12 +188,14 @@ fn gathered(
 
 /// The same patterns once more.
 fn copied(alloc: Global, part: &Row) -> Result<Row, NoMemory>
-    requires { length part.now ≡ 8 }
+    requires { IsRow (patterns_in part.now) part.now }
     ensures { IfOk result (IsRow (patterns_in part.now)) }
 {
     let mut row = Row::new(alloc);
     for octet in 0..8 {
-        row.push(part.at(octet).to_vec(alloc)?)?;
+        let mut patterns = Vec::new(alloc);
+        patterns.extend_from_slice(part.at(octet))?;
+        row.push(patterns)?;
     }
     Ok(row)
 }
