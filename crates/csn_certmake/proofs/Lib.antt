@@ -2,3 +2,4 @@ mod Orders
 mod Shortening
 mod Spelling
 mod Rows
+mod Members
