@@ -3,3 +3,4 @@ mod Shortening
 mod Spelling
 mod Rows
 mod Members
+mod Nodes

@@ -4,7 +4,8 @@ use Rattle.csn_desc.specs.declared.reading.Reading.{Reading}
 use Rattle.csn_desc.specs.declared.reading.Reading.TheVariants.{Received, Sent}
 use Rattle.csn_desc.specs.declared.symbol.Symbol.{Symbol}
 use Rattle.csn_desc.specs.declared.symbol.Symbol.TheVariants.{Low}
-use Rattle.csn_desc.specs.declared.node.Count.TheVariants.{Fixed}
+use Rattle.csn_desc.specs.declared.node.Count.TheVariants.{Fixed, Counted}
+use Rattle.csn_desc.specs.declared.node.Count.{Count}
 use Rattle.csn_desc.specs.declared.node.Node.{Node}
 use Rattle.csn_desc.specs.declared.node.Node.TheVariants.{Lits, Spare, Pad, Null, Field, Seq, Choice, Times, Named}
 use Rattle.csn_desc.specs.Spelled.{symbol_bit, spelled}
@@ -82,6 +83,11 @@ abbrev pub times_of : (ℕ → List PatternV) → ℕ → ℕ → List PatternV
 times_of of_part zero octet = record { marks = []; whole = true } ∷ []
 times_of of_part (suc n) octet = flat_map (before_all (times_of of_part n) octet) (of_part octet)
 
+-- of a part as many times as counted
+abbrev pub turns_of : (ℕ → List PatternV) → Count → ℕ → List PatternV
+turns_of of_part (Fixed n) octet = times_of of_part n octet
+turns_of of_part (Counted m field c) octet = unread ∷ []
+
 -- of one of some parts
 abbrev pub choice_of : (ℕ → ℕ → List PatternV) → List ℕ → ℕ → List PatternV
 choice_of of_part parts octet = flat_map (λ i. of_part i octet) parts
@@ -94,7 +100,7 @@ patterns_at rows i octet = patterns_in (slice_index_or rows i []) octet
 abbrev pub node_patterns : Reading → List (List (List PatternV)) → Node → ℕ → List PatternV
 node_patterns reading rows (Seq parts) octet = sequence_of (patterns_at rows) parts octet
 node_patterns reading rows (Choice parts) octet = choice_of (patterns_at rows) parts octet
-node_patterns reading rows (Times (Fixed n) i) octet = times_of (patterns_at rows i) n octet
+node_patterns reading rows (Times count i) octet = turns_of (patterns_at rows i) count octet
 node_patterns reading rows (Named label i) octet = patterns_at rows i octet
 node_patterns reading rows n octet = leaf_pattern reading n octet ∷ []
 

@@ -2,7 +2,7 @@
 
 ghost use Rattle.std.specs.Prelude.{◌≡◌, ◌≤◌, [], ◌∷◌, length, flat_map, true, IfOk};
 ghost use Rattle.csn_desc.specs.Nodes.{parts_of};
-ghost use Rattle.csn_certmake.specs.Patterns.{continued, leaf_pattern, patterns_in, IsRow, AreRows, sequence_of, times_of, choice_of, patterns_at, node_patterns};
+ghost use Rattle.csn_certmake.specs.Patterns.{continued, leaf_pattern, patterns_in, IsRow, AreRows, sequence_of, times_of, turns_of, choice_of, patterns_at, node_patterns};
 
 use crate::joining::{after, in_order};
 use crate::marks::{any_bits, literal, spare, unread};
@@ -58,12 +58,36 @@ fn row_of(alloc: Global, reading: Reading, node: &Node, rows: &[Row]) -> Result<
     match node {
         Node::Seq(parts) => sequence(alloc, rows, parts),
         Node::Choice(parts) => choice(alloc, rows, parts),
-        Node::Times {
-            count: Count::Fixed(n),
-            part,
-        } => times(alloc, *n, &rows[*part as usize]),
+        Node::Times { count, part } => turns(alloc, *count, &rows[*part as usize]),
         Node::Named { label: _, part } => copied(alloc, &rows[*part as usize]),
-        _ => alone(alloc, reading, node),
+        Node::Lits(_) => alone(alloc, reading, node),
+        Node::Spare(_) => alone(alloc, reading, node),
+        Node::Pad => alone(alloc, reading, node),
+        Node::Null => alone(alloc, reading, node),
+        Node::Field { unit: _, count: _ } => alone(alloc, reading, node),
+        Node::Rest => alone(alloc, reading, node),
+        Node::Many(_) => alone(alloc, reading, node),
+        Node::Trunc(_) => alone(alloc, reading, node),
+        Node::Window {
+            unit: _,
+            count: _,
+            part: _,
+        } => alone(alloc, reading, node),
+    }
+}
+
+/// The patterns of a part as many times as counted.
+fn turns(alloc: Global, count: Count, part: &Row) -> Result<Row, NoMemory>
+    requires { length part.now ≡ 8 }
+    ensures { IfOk result (λ row. IsRow (turns_of (patterns_in part.now) count) row) }
+{
+    match count {
+        Count::Fixed(n) => times(alloc, n, part),
+        Count::Counted {
+            m: _,
+            field: _,
+            c: _,
+        } => each(alloc, unread()),
     }
 }
 
@@ -96,22 +120,24 @@ fn leaf_pattern(reading: Reading, node: &Node, octet: u8) -> Pattern
     }
 }
 
-/// The pattern of no bits at an octet position.
-fn empty_at(_octet: u8) -> Pattern
-    ensures { result ≡ record { marks = []; whole = true } }
+/// One pattern at each octet position.
+fn each(alloc: Global, pattern: Pattern) -> Result<Row, NoMemory>
+    ensures { IfOk result (λ row. IsRow (λ octet. pattern ∷ []) row) }
 {
-    Pattern::new(true)
+    let mut row = Row::new(alloc);
+    for octet in 0..8u8 {
+        let mut patterns = Vec::new(alloc);
+        patterns.push(pattern)?;
+        row.push(patterns)?;
+    }
+    Ok(row)
 }
 
 /// The patterns of no bits.
 fn no_bits(alloc: Global) -> Result<Row, NoMemory>
     ensures { IfOk result (λ row. IsRow (λ octet. record { marks = []; whole = true } ∷ []) row) }
 {
-    let mut row = Row::new(alloc);
-    for octet in 0..8 {
-        row.push(vec![in alloc; empty_at(octet)]?)?;
-    }
-    Ok(row)
+    each(alloc, Pattern::new(true))
 }
 
 /// The patterns of a part before others that have these.
@@ -168,12 +194,7 @@ fn choice(alloc: Global, rows: &[Row], parts: &Parts) -> Result<Row, NoMemory>
 }
 
 /// The patterns of all alternatives at an octet position, one after another.
-fn gathered(
-    alloc: Global,
-    rows: &[Row],
-    parts: &Parts,
-    octet: u8,
-) -> Result<Vec<Pattern>, NoMemory>
+fn gathered(alloc: Global, rows: &[Row], parts: &Parts, octet: u8) -> Result<Vec<Pattern>, NoMemory>
     requires rows { AreRows rows.now parts.now }
     requires octet { octet ≤ 7 }
     ensures { IfOk result (λ patterns. patterns.items ≡ choice_of (patterns_at rows.now) parts.now octet) }

@@ -5,10 +5,12 @@ use csn_desc::{Count, DescBuilder, Head, Label, Reading, Run, Symbol};
 use std::test::Fail;
 
 // The certificate of `<M> ::= <A : bit> ;`, of which both nodes are one bit long.
-const OF_ONE_BIT: &str = "csn-cert 2\nnode 0 0 001001001001001001001001\nat 0 01000000 11 x!\nnode 1 0 001001001001001001001001\nat 0 01000000 11 x!\n";
+const OF_ONE_BIT: &str =
+    "csn-cert 2\nnode 0 0 001001001001001001001001\nat 0 01000000 11 x!\nnode 1 0 001001001001001001001001\nat 0 01000000 11 x!\n";
 
 // The certificate of `<M> ::= { 0 | 1 bit (2) } ;`.
-const OF_A_CHOICE: &str = "csn-cert 5\nnode 0 0 001001001001001001001001\nat 0 01010000 11 0!,1xx!\nnode 1 0 001001001001001001001001\nat 0 01000000 10 0!\nnode 2 0 001001001001001001001001\nat 0 00010000 01 1xx!\nnode 3 0 110110110110110110110110\nat 0 01000000 01 1!\nnode 4 0 001001001001001001001001\nat 1 00010000 11 xx!\n";
+const OF_A_CHOICE: &str =
+    "csn-cert 5\nnode 0 0 001001001001001001001001\nat 0 01010000 11 0!,1xx!\nnode 1 0 001001001001001001001001\nat 0 01000000 10 0!\nnode 2 0 001001001001001001001001\nat 0 00010000 01 1xx!\nnode 3 0 110110110110110110110110\nat 0 01000000 01 1!\nnode 4 0 001001001001001001001001\nat 1 00010000 11 xx!\n";
 
 #[test]
 fn one_bit_has_its_certificate(rt: HostRuntime) -> Result<(), Fail> {
@@ -22,7 +24,10 @@ fn one_bit_has_its_certificate(rt: HostRuntime) -> Result<(), Fail> {
     builder.leave();
     let plan = certify(rt.alloc(), builder.finish()?)?;
     let c = make_certificate(rt.alloc(), plan)?;
-    assert_eq!(rt; write_certificate(rt.alloc(), &c)?.as_slice(), OF_ONE_BIT.as_bytes());
+    assert_eq!(rt;
+        write_certificate(rt.alloc(), &c)?.as_slice(),
+        OF_ONE_BIT.as_bytes()
+    );
     Ok(())
 }
 
@@ -50,6 +55,9 @@ fn a_choice_has_its_certificate(rt: HostRuntime) -> Result<(), Fail> {
     builder.leave();
     let plan = certify(rt.alloc(), builder.finish()?)?;
     let c = make_certificate(rt.alloc(), plan)?;
-    assert_eq!(rt; write_certificate(rt.alloc(), &c)?.as_slice(), OF_A_CHOICE.as_bytes());
+    assert_eq!(rt;
+        write_certificate(rt.alloc(), &c)?.as_slice(),
+        OF_A_CHOICE.as_bytes()
+    );
     Ok(())
 }

@@ -1,10 +1,7 @@
-use Rattle.std.proofs.Common.{◌≡◌, ◌∷◌, [], true, ap, ◌∙◌, refl, arith}
-use Rattle.csn_certmake.proofs.Rows.{row_one, row_all}
+use Rattle.std.proofs.Common.{ℕ, [], ◌∷◌, subst, IfOk}
+use Rattle.csn_cert.specs.PatternV.{PatternV}
+use Rattle.csn_certmake.specs.Patterns.{IsRow}
 use Rattle.csn_certmake.proofs.pattern_table.no_bits.Goals as goal
 
-pub loop-octet-preserved : goal.loop-octet-preserved
-loop-octet-preserved c =
-    row_one (λ octet. record { marks = []; whole = true } ∷ []) c.loop-octet.row c.push.new.self c.loop-octet.octet c.in_ok-vec.field-0.items (record { marks = []; whole = true }) c.loop-octet.invariant (c.in_ok-vec.ensures.items ∙ ap (λ p. p ∷ []) c.empty_at.ensures) refl c.in_ok-push.ensures
-
 pub returns : goal.returns
-returns c = row_all (λ octet. record { marks = []; whole = true } ∷ []) c.loop-octet.row c.loop-octet.octet (omega (arith, c.loop-octet-test.false, c.loop-octet.auto.octet-end)) c.loop-octet.invariant
+returns c = subst (λ (p : PatternV). IfOk c.each.result (λ row. IsRow (λ (octet : ℕ). p ∷ []) row)) c.new.ensures c.each.ensures
