@@ -6,3 +6,4 @@ pub mod Refusals
 pub mod Rows
 pub mod Counts
 pub mod Texts
+pub mod Decided
