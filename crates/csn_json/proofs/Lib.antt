@@ -7,3 +7,4 @@ pub mod Rows
 pub mod Counts
 pub mod Texts
 pub mod Decided
+pub mod WrittenShown

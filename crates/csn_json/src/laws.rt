@@ -1,6 +1,6 @@
 //! Laws over trees as JSON, each the contract of a function that does nothing.
 
-ghost use Rattle.csn_json.specs.Laws.{TreesHaveOneValue, ValuesHaveOneTree, TextsAreDecided, TextsHaveOneTree, TextsAreNotRefused, TreeTextsShareTrees};
+ghost use Rattle.csn_json.specs.Laws.{TreesHaveOneValue, ValuesHaveOneTree, TextsAreDecided, TextsHaveOneTree, TextsAreNotRefused, TreeTextsShareTrees, WrittenIsShown};
 
 /// A tree has one value, a value shows one tree, and so does a text.
 pub fn texts_have_one_tree()
@@ -24,6 +24,11 @@ pub fn texts_are_decided()
     csn_bits::laws::written_is_read();
     csn_bits::laws::fault_or_block();
 }
+
+/// What is written for a tree shows it.
+pub fn written_is_shown()
+    ensures { WrittenIsShown }
+{}
 
 /// A tree can be shown as JSON exactly where it has a text of the plain form.
 pub fn plain_texts_share_trees()
