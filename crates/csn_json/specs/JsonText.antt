@@ -21,12 +21,15 @@ pub record IsJson (text : List ℕ) (value : Data) : Type 0 where
 abbrev pub JsonText : TreeV → List ℕ → Type 0
 JsonText t text = (value : Data) × IsJson text value × JsonTree t value
 
--- the one text that is written for the tree: its value with no space, and the members of each object in the order of
--- their keys
+-- the value of the tree with no space, and the members of each object in the order of their keys
+abbrev pub json_text : TreeV → List ℕ
+json_text t = compact_text (json_of t)
+
+-- the bytes are the one text that is written for the tree
 pub record WrittenJson (t : TreeV) (text : List ℕ) : Type 0 where
   pub fits : Fits t
   pub parts : HasTreeParts t
-  pub spelled : text ≡ compact_text (json_of t)
+  pub spelled : text ≡ json_text t
 
 -- what a fault says of the bytes: they are no JSON, or a value that shows no tree; want of memory says
 -- nothing of them

@@ -14,6 +14,8 @@ use std::alloc::{AllocError, Global};
 use std::collections::BTreeMap;
 
 #[cfg(test)]
+mod as_json;
+#[cfg(test)]
 mod descriptions;
 #[cfg(test)]
 mod judged;

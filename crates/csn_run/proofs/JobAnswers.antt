@@ -1,5 +1,5 @@
 -- Each line has one answer, in each job over lines that words ask for.
-use Rattle.std.proofs.Common.{◌≡◌, ℕ, ◌≤◌, inl, inr, List, ◌++◌, codes, Option, refl, sym, ◌∙◌, ap, subst}
+use Rattle.std.proofs.Common.{◌≡◌, ℕ, inl, inr, List, ◌++◌, codes, refl, sym, ◌∙◌, ap, subst}
 use Rattle.std.specs.Fmt.{decimal}
 use Rattle.csn_desc.specs.declared.reading.Reading.{Reading}
 use Rattle.csn_desc.specs.Nodes.{DescV}
@@ -11,7 +11,7 @@ use Rattle.csn_run.specs.declared.command.RuleCommand.TheVariants.{Show, Write}
 use Rattle.csn_run.specs.Known.{KnownOfTrees, Known}
 use Rattle.csn_run.specs.Compiled.{IsCompiled}
 use Rattle.csn_run.specs.OutLine.{AnswersByRule, MigratesLine, migrates_tree, migrates_place}
-use Rattle.csn_run.specs.Result.{LineJob, AnswersLine, AsksFor, asks_by_rule, asks_migrate}
+use Rattle.csn_run.specs.Result.{LineJob, AnswersLine, asks_by_rule, asks_migrate}
 use Rattle.csn_run.specs.Laws.{LinesHaveAnswers, LinesHaveOneAnswer}
 use Rattle.csn_run.proofs.ShownLines.{each_shown, one_shown}
 use Rattle.csn_run.proofs.WrittenLines.{each_written, one_written}
@@ -35,12 +35,12 @@ one_migrated known line answer other (migrates_place place at e) (migrates_place
 
 module _ (known : Known) (text : List ℕ) (rules : RulesV) (name : List ℕ) (reading : Reading) (d : DescV) (is : IsCompiled text name reading rules d) where
   each_by_rule : (command : RuleCommand) (line : List ℕ) → (answer : List ℕ) × AnswersByRule command rules name reading line answer
-  each_by_rule Show line = each_shown known text rules name reading d is line
-  each_by_rule Write line = each_written known text rules name reading d is line
+  each_by_rule (Show form) line = each_shown known text rules name reading d is form line
+  each_by_rule (Write form) line = each_written known text rules name reading d is form line
 
   one_by_rule : (command : RuleCommand) (line answer other : List ℕ) → AnswersByRule command rules name reading line answer → AnswersByRule command rules name reading line other → answer ≡ other
-  one_by_rule Show = one_shown known text rules name reading d is
-  one_by_rule Write = one_written known text rules name reading d is
+  one_by_rule (Show form) = one_shown known text rules name reading d is form
+  one_by_rule (Write form) = one_written known text rules name reading d is form
 
 pub each_in_job : Known → LinesHaveAnswers
 each_in_job known words files job (asks_by_rule command file name text reading rules d row held fits compiled is) line =

@@ -1,5 +1,7 @@
 pub mod AnswerLemmas
 pub mod CommandLemmas
+pub mod FormLemmas
+pub mod FormsAgree
 pub mod JobLemmas
 pub mod LinesLemmas
 pub mod OutsideLemmas

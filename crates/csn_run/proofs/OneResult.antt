@@ -16,6 +16,7 @@ use Rattle.csn_certify.specs.declared.conflict.Conflict.{Conflict}
 use Rattle.csn_certify.specs.Conflicts.{IsFirstConflict}
 use Rattle.csn_run.specs.declared.command.RuleCommand.{RuleCommand}
 use Rattle.csn_run.specs.declared.command.RuleCommand.TheVariants.{Show, Write}
+use Rattle.csn_run.specs.declared.command.TreeForm.TheVariants.{Text, Json}
 use Rattle.csn_run.specs.declared.ended.Ended.{Ended}
 use Rattle.csn_run.specs.declared.lines.TheConstants.{MOST_INPUT}
 use Rattle.csn_run.specs.declared.compile.TheConstants.{MOST_DESCRIPTION}
@@ -115,14 +116,28 @@ pub answers : {words : List (List ℕ)} {file name : List ℕ} {reading : Readin
 answers command row = record { command = command_word command; row = row }
 
 one_command : (command other : RuleCommand) → command_word command ≡ command_word other → command ≡ other
-one_command Show Show e = refl
-one_command Show Write e = cc
-one_command Write Show e = cc
-one_command Write Write e = refl
+one_command (Show Text) (Show Text) e = refl
+one_command (Show Text) (Show Json) e = absurd (let first : 115 ≡ 106 = ap (λ w. slice_index w 0) e in omega (arith, first))
+one_command (Show Text) (Write Text) e = absurd (let first : 115 ≡ 119 = ap (λ w. slice_index w 0) e in omega (arith, first))
+one_command (Show Text) (Write Json) e = absurd (let first : 115 ≡ 117 = ap (λ w. slice_index w 0) e in omega (arith, first))
+one_command (Show Json) (Show Text) e = absurd (let first : 106 ≡ 115 = ap (λ w. slice_index w 0) e in omega (arith, first))
+one_command (Show Json) (Show Json) e = refl
+one_command (Show Json) (Write Text) e = absurd (let first : 106 ≡ 119 = ap (λ w. slice_index w 0) e in omega (arith, first))
+one_command (Show Json) (Write Json) e = absurd (let first : 106 ≡ 117 = ap (λ w. slice_index w 0) e in omega (arith, first))
+one_command (Write Text) (Show Text) e = absurd (let first : 119 ≡ 115 = ap (λ w. slice_index w 0) e in omega (arith, first))
+one_command (Write Text) (Show Json) e = absurd (let first : 119 ≡ 106 = ap (λ w. slice_index w 0) e in omega (arith, first))
+one_command (Write Text) (Write Text) e = refl
+one_command (Write Text) (Write Json) e = absurd (let first : 119 ≡ 117 = ap (λ w. slice_index w 0) e in omega (arith, first))
+one_command (Write Json) (Show Text) e = absurd (let first : 117 ≡ 115 = ap (λ w. slice_index w 0) e in omega (arith, first))
+one_command (Write Json) (Show Json) e = absurd (let first : 117 ≡ 106 = ap (λ w. slice_index w 0) e in omega (arith, first))
+one_command (Write Json) (Write Text) e = absurd (let first : 117 ≡ 119 = ap (λ w. slice_index w 0) e in omega (arith, first))
+one_command (Write Json) (Write Json) e = refl
 
 not_check : (command : RuleCommand) → codes "check" ≡ command_word command → ⊥
-not_check Show e = cc
-not_check Write e = let first : 99 ≡ 119 = ap (λ w. slice_index w 0) e in omega (arith, first)
+not_check (Show Text) e = let first : 99 ≡ 115 = ap (λ w. slice_index w 0) e in omega (arith, first)
+not_check (Show Json) e = let first : 99 ≡ 106 = ap (λ w. slice_index w 0) e in omega (arith, first)
+not_check (Write Text) e = let first : 99 ≡ 119 = ap (λ w. slice_index w 0) e in omega (arith, first)
+not_check (Write Json) e = let first : 99 ≡ 117 = ap (λ w. slice_index w 0) e in omega (arith, first)
 
 pub not_both : {words : List (List ℕ)} {file name file' name' : List ℕ} {reading reading' : Reading} (command : RuleCommand) → IsCheck words file name reading → IsAnswer command words file' name' reading' → ⊥
 not_both command row row' = not_check command (one_rule row row').command_is

@@ -3,6 +3,7 @@ use Rattle.std.specs.Prelude.{◌≡◌, ◌≢◌, ◌⊎◌, ℕ, List, [], �
 use Rattle.csn_desc.specs.declared.reading.Reading.{Reading}
 use Rattle.csn_desc.specs.declared.reading.Reading.TheVariants.{Received, Sent}
 use Rattle.csn_run.specs.declared.command.RuleWords.{RuleWords}
+use Rattle.csn_run.specs.declared.command.TreeForm.TheVariants.{Text, Json}
 use Rattle.csn_run.specs.declared.command.RuleCommand.{RuleCommand}
 use Rattle.csn_run.specs.declared.command.RuleCommand.TheVariants.{Show, Write}
 use Rattle.csn_run.specs.declared.command.Command.{Command}
@@ -30,10 +31,12 @@ IsCheck = NamesRule (codes "check")
 
 -- the word of a command that answers lines by a rule
 abbrev pub command_word : RuleCommand → List ℕ
-command_word Show = codes "show"
-command_word Write = codes "write"
+command_word (Show Text) = codes "show"
+command_word (Show Json) = codes "json"
+command_word (Write Text) = codes "write"
+command_word (Write Json) = codes "unjson"
 
--- `show FILE NAME READING` and `write FILE NAME READING`
+-- `show FILE NAME READING`, and `json`, `write` and `unjson` with the same words behind them
 abbrev pub IsAnswer : RuleCommand → List (List ℕ) → List ℕ → List ℕ → Reading → Type 0
 IsAnswer command = NamesRule (command_word command)
 

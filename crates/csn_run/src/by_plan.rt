@@ -22,8 +22,8 @@ impl LineCommand for ByPlan<'_> {
 
     fn answer(&self, alloc: Global, line: &[u8], out: &mut Vec<u8>) -> Result<bool, AllocError> {
         match self.command {
-            RuleCommand::Show => show_line(alloc, self.plan, line, out),
-            RuleCommand::Write => write_line(alloc, self.plan, line, out),
+            RuleCommand::Show(form) => show_line(alloc, self.plan, form, line, out),
+            RuleCommand::Write(form) => write_line(alloc, self.plan, form, line, out),
         }
     }
 }

@@ -15,13 +15,20 @@ pub struct RuleWords<'a> {
     pub reading: Reading,
 }
 
+/// The form in which trees stand in lines.
+#[derive(Clone, Copy)]
+pub enum TreeForm {
+    Text,
+    Json,
+}
+
 /// A command that answers each line of the input by a rule.
 #[derive(Clone, Copy)]
 pub enum RuleCommand {
     /// Shows blocks as the trees that they have.
-    Show,
+    Show(TreeForm),
     /// Writes trees as the blocks that have them.
-    Write,
+    Write(TreeForm),
 }
 
 /// A row of the command table, with what its words name.
@@ -97,8 +104,14 @@ pub fn command_of(words: &[String]) -> Option<Command<'_>>
         return Some(Command::Check(rule));
     }
     if let Some(rule) = rule_words("show", words) {
-        return Some(Command::Answer(RuleCommand::Show, rule));
+        return Some(Command::Answer(RuleCommand::Show(TreeForm::Text), rule));
     }
-    let rule = rule_words("write", words)?;
-    Some(Command::Answer(RuleCommand::Write, rule))
+    if let Some(rule) = rule_words("write", words) {
+        return Some(Command::Answer(RuleCommand::Write(TreeForm::Text), rule));
+    }
+    if let Some(rule) = rule_words("json", words) {
+        return Some(Command::Answer(RuleCommand::Show(TreeForm::Json), rule));
+    }
+    let rule = rule_words("unjson", words)?;
+    Some(Command::Answer(RuleCommand::Write(TreeForm::Json), rule))
 }

@@ -3,6 +3,7 @@
 ghost use Rattle.csn_run.specs.OutLine.{MigratesLine};
 
 use crate::answers::{answer_text_fault, answer_tree};
+use crate::command::TreeForm;
 use crate::lines::LineCommand;
 use csn_treetext::read_old_tree;
 use std::alloc::{AllocError, Global};
@@ -17,7 +18,7 @@ impl LineCommand for Migrate {
     fn answer(&self, alloc: Global, line: &[u8], out: &mut Vec<u8>) -> Result<bool, AllocError> {
         match read_old_tree(alloc, line) {
             Ok(tree) => {
-                answer_tree(alloc, &tree, out)?;
+                answer_tree(alloc, TreeForm::Text, &tree, out)?;
                 Ok(false)
             }
             Err(fault) => {

@@ -1,4 +1,4 @@
-//! One line of `show`: a block line in, its tree or its refusal out.
+//! One line of `show` or `json`: a block line in, its tree or its refusal out.
 
 ghost use Rattle.std.specs.Prelude.{◌≡◌, ◌<◌, ◌≤◌, ◌++◌, [], List, ℕ, length, IfOk, IfErr, IsErr, OnOk, OnErr};
 ghost use Rattle.csn_desc.specs.Means.{NMeans};
@@ -9,6 +9,7 @@ ghost use Rattle.csn_run.specs.Lines.{is_refusal};
 ghost use Rattle.csn_run.specs.OutLine.{AnswersBy, IsRefusalOf, fault_text, refusal_text};
 
 use crate::answers::{answer_tree, push_number};
+use crate::command::TreeForm;
 use crate::laws::known;
 use csn_bits::{Bits, BitsFault};
 use csn_certify::{Plan, Steps};
@@ -88,16 +89,17 @@ fn decode<L: Ledger>(
     }
 }
 
-/// Answers a line by the tree of its block.
+/// Answers a line by the tree of its block, in a form.
 pub fn show_line(
     alloc: Global,
     plan: &Plan,
+    form: TreeForm,
     line: &[u8],
     out: &mut Vec<u8>,
 ) -> Result<bool, AllocError>
     requires fits { length line.now ≤ MOST_INPUT }
     ensures ok { IfOk result (λ refused. (answer : List ℕ) × (out.new.items ≡ out.old.items ++ answer)
-        × AnswersBy RuleCommand.Show plan.now line.now answer × (refused ≡ is_refusal answer)) }
+        × AnswersBy (RuleCommand.Show form) plan.now line.now answer × (refused ≡ is_refusal answer)) }
     ensures err { OnErr result ((tail : List ℕ) × (out.new.items ≡ out.old.items ++ tail)) }
 {
     known();
@@ -110,7 +112,7 @@ pub fn show_line(
     };
     match decode::<Brand>(alloc, plan, &bits, Blank::new(1)) {
         Ok(tree) => {
-            answer_tree(alloc, &tree, out)?;
+            answer_tree(alloc, form, &tree, out)?;
             Ok(false)
         }
         Err(fault) => {
