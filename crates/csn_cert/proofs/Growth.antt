@@ -9,7 +9,7 @@ use Rattle.csn_cert.specs.Growing.{last_of, at_last, node_with, position_with, n
 
 -- ---- the last of a list
 
-last_at : {A : Type 0} (xs : List A) (k : ℕ) (x : A) → k + 1 ≡ length xs → slice_get xs k ≡ Some x → last_of xs ≡ Some x
+pub last_at : {A : Type 0} (xs : List A) (k : ℕ) (x : A) → k + 1 ≡ length xs → slice_get xs k ≡ Some x → last_of xs ≡ Some x
 last_at [] k x end is = absurd (omega arith)
 last_at (y ∷ []) zero x end is = is
 last_at (y ∷ []) (suc k) x end is = absurd (omega arith)

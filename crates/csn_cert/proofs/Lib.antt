@@ -3,3 +3,10 @@ mod Growth
 mod Finding
 mod Digits
 mod Appending
+mod Fronts
+mod Refusals
+mod Words
+mod Numbers
+mod Lines
+mod Nodes
+mod Certificates

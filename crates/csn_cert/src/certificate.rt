@@ -88,6 +88,14 @@ impl Certificate {
         }
     }
 
+    // The certificate with these claims.
+    pub(crate) fn of(nodes: Vec<NodeClaim>) -> Certificate
+        requires { IsCertificate nodes.items }
+        ensures { result ≡ nodes.items }
+    {
+        Certificate { nodes }
+    }
+
     /// Adds the next node, without positions. `follow` holds 24 digits, three for each octet position: whether
     /// 0, 1 and the end may follow there. The first digit is the most significant.
     pub fn node(&mut self, nullable: bool, follow: u32) -> Result<(), NoMemory>

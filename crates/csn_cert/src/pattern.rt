@@ -82,6 +82,14 @@ impl Pattern {
         self.len += 1;
     }
 
+    /// The same marks, with another end.
+    pub(crate) fn with_end(mut self, whole: bool) -> Pattern
+        ensures { result ≡ record { marks = self.marks; whole = whole } }
+    {
+        self.whole = whole;
+        self
+    }
+
     /// How many marks there are.
     pub fn len(&self) -> u8
         ensures count { result ≡ length self.now.marks }

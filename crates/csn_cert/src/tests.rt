@@ -1,4 +1,4 @@
-use crate::{Certificate, Mark, Pattern, write_certificate};
+use crate::{CertFault, Certificate, Mark, Pattern, read_certificate, write_certificate};
 use std::test::Fail;
 
 // What may follow a node: the end alone, at each octet position.
@@ -67,5 +67,54 @@ fn no_nodes_and_no_patterns_are_written(rt: HostRuntime) -> Result<(), Fail> {
         write_certificate(rt.alloc(), &c)?.as_slice(),
         text.as_bytes()
     );
+    Ok(())
+}
+
+#[test]
+fn a_text_is_read(rt: HostRuntime) -> Result<(), Fail> {
+    for text in [
+        OF_ONE_BIT,
+        "csn-cert 0\n",
+        "csn-cert 1\nnode 0 1 000000000000000000000000\nat 3 00000000 00 -\nat 7 11111111 10 e!,e+\n",
+        "csn-cert 1\nnode 0 1 100000000000000000000000\nat 0 10000001 00 0!,00+,xxxxxxxxxxxx!\n",
+    ] {
+        let c = read_certificate(rt.alloc(), text.as_bytes())?;
+        assert_eq!(rt;
+            write_certificate(rt.alloc(), &c)?.as_slice(),
+            text.as_bytes()
+        );
+    }
+    Ok(())
+}
+
+#[test]
+fn other_bytes_are_refused(rt: HostRuntime) -> Result<(), Fail> {
+    for text in [
+        "",
+        "csn-cert 0",
+        "csn-cert 00\n",
+        "csn-cert 1\n",
+        "csn-cert 0\n\n",
+        "csn-cert  0\n",
+        "csn-cert 01\nnode 0 0 000000000000000000000000\n",
+        "csn-cert 1\nnode 1 0 000000000000000000000000\n",
+        "csn-cert 1\nnode 00 0 000000000000000000000000\n",
+        "csn-cert 1\nnode 0 2 000000000000000000000000\n",
+        "csn-cert 1\nnode 0 0 00000000000000000000000\n",
+        "csn-cert 1\nnode 0 0 000000000000000000000000",
+        "csn-cert 2\nnode 0 0 000000000000000000000000\n",
+        "csn-cert 0\nat 0 00000000 00 -\n",
+        "csn-cert 1\nnode 0 0 000000000000000000000000\nat 0 00000000 00 -\nat 0 00000000 00 -\n",
+        "csn-cert 1\nnode 0 0 000000000000000000000000\nat 8 00000000 00 -\n",
+        "csn-cert 1\nnode 0 0 000000000000000000000000\nat 0 00000000 00 \n",
+        "csn-cert 1\nnode 0 0 000000000000000000000000\nat 0 00000000 00 1!,0!\n",
+        "csn-cert 1\nnode 0 0 000000000000000000000000\nat 0 00000000 00 0!,0!\n",
+        "csn-cert 1\nnode 0 0 000000000000000000000000\nat 0 00000000 00 e0!\n",
+        "csn-cert 1\nnode 0 0 000000000000000000000000\nat 0 00000000 00 0!,\n",
+        "csn-cert 1\nnode 0 0 000000000000000000000000\nat 0 00000000 00 xxxxxxxxxxxxx!\n",
+    ] {
+        let refused = read_certificate(rt.alloc(), text.as_bytes());
+        assert!(rt; matches!(&refused, Err(CertFault::Text)), "{text}");
+    }
     Ok(())
 }
