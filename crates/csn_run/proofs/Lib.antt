@@ -1,5 +1,7 @@
 pub mod AnswerLemmas
 pub mod CommandLemmas
+pub mod Following
+pub mod OneInput
 pub mod JobLemmas
 pub mod LinesLemmas
 pub mod OutsideLemmas

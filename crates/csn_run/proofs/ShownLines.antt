@@ -17,7 +17,7 @@ use Rattle.csn_treetext.specs.declared.version.Version.TheVariants.{Second}
 use Rattle.csn_treetext.specs.Text.{text_of}
 use Rattle.csn_treetext.specs.Place.{TreeText}
 use Rattle.csn_look.specs.declared.word.TheConstants.{MOST_WORD}
-use Rattle.csn_run.specs.Known.{KnownOfLines, KnownOfTexts, KnownOfBlocks, Known}
+use Rattle.csn_run.specs.Known.{Known}
 use Rattle.csn_run.specs.Compiled.{IsCompiled}
 use Rattle.csn_run.specs.OutLine.{ShowsLine, shows_tree, shows_place, shows_fault, fault_text, refusal_text}
 use Rattle.csn_run.proofs.MeantParts.{string_parts}
