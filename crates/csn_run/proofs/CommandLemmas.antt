@@ -1,5 +1,5 @@
 -- Words, and the rows of the command table.
-use Rattle.std.proofs.Common.{◌≡◌, ◌↔◌, ◌⊎◌, inl, inr, ℕ, List, Option, None, IsSome, subst, sym}
+use Rattle.std.proofs.Common.{◌≡◌, ◌↔◌, inl, ℕ, List, Option, None, IsSome, subst}
 use Rattle.csn_desc.specs.declared.reading.Reading.{Reading}
 use Rattle.csn_run.specs.declared.command.RuleCommand.{RuleCommand}
 use Rattle.csn_run.specs.Command.{IsCommand, IsOverRule, IsAnswer, IsMigrate, NamesFile, ReadsLines}

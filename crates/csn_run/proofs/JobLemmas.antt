@@ -1,6 +1,5 @@
 -- How jobs are over.
-use Rattle.std.proofs.Common.{◌≡◌, ℕ, ◌+◌, ◌<◌, ◌≤◌, ◌⊎◌, Bool, inl, inr, List, [], ◌∷◌, ◌++◌, length, Option, Some, None, Result, Ok, Err, IfOk, IfErr, codes, refl, sym, ◌∙◌, ap, subst, take, arith}
-use Rattle.std.specs.List.{AllZip}
+use Rattle.std.proofs.Common.{◌≡◌, ℕ, ◌+◌, ◌<◌, ◌≤◌, ◌⊎◌, Bool, inl, inr, List, [], ◌∷◌, ◌++◌, length, Option, Some, None, Result, Ok, Err, IfOk, IfErr, refl, sym, ◌∙◌, ap, subst, take, arith}
 use Rattle.std.specs.Option.{option_map}
 use Rattle.std.proofs.lemmas.List.{length-take, take_all}
 use Rattle.csn_desc.specs.declared.reading.Reading.{Reading}
@@ -19,52 +18,20 @@ use Rattle.csn_run.specs.declared.compile.NoPlan.{NoPlan}
 use Rattle.csn_run.specs.declared.compile.NoPlan.TheVariants.{Rules, Description, Plan}
 use Rattle.csn_run.specs.declared.compile.TheConstants.{MOST_DESCRIPTION}
 use Rattle.csn_run.specs.declared.ended.Ended.{Ended}
-use Rattle.csn_run.specs.declared.ended.Ended.TheVariants.{Done, SomeRefused, BadDescription, NotCertified, TooLong as Long}
+use Rattle.csn_run.specs.declared.ended.Ended.TheVariants.{Done, TooLong as Long}
 use Rattle.csn_run.specs.declared.fault.Fault.{Fault}
 use Rattle.csn_run.specs.declared.fault.Fault.TheVariants.{Read, Write, Memory, TooLong}
 use Rattle.csn_run.specs.declared.planned.Unplanned.{Unplanned}
 use Rattle.csn_run.specs.declared.planned.Unplanned.TheVariants.{File, Text}
-use Rattle.csn_run.specs.Lines.{answered}
-use Rattle.csn_run.specs.Progress.{Answers, AnswersAll, KeepsUp, StopsAfter, StopsWithin, StopsBy, Stops}
+use Rattle.csn_run.specs.LineState.{LineState, Kept, closing, closing_of}
+use Rattle.csn_run.specs.Progress.{AnswersAll, Stops}
 use Rattle.csn_run.specs.declared.command.RuleCommand.{RuleCommand}
 use Rattle.csn_run.specs.Command.{IsCheck, IsAnswer, IsMigrate, IsOverRule}
 use Rattle.csn_run.specs.Compiled.{HasNoPlan, no_rules, rules_refused, not_certified, IsReason, Tells, certified_line}
 use Rattle.csn_run.specs.Planned.{IsPlanned, IsWhy, Refuses}
 use Rattle.csn_run.specs.Job.{IsDescription, IsBeforeLines, Asked, EndedBefore, JobEnds, unread, before_lines, all_lines, some_lines}
-use Rattle.csn_run.specs.Result.{LineJob, by_rule, migrating, AnswersLine, asks_by_rule, asks_migrate, HasNoJob, long_text, no_plan, EndsBefore, no_job, checked, end_of}
-
--- ---- answers that hold of more
-
-AllZip-weaker : {X Y : Type 0} (A B : X → Y → Type 0) → ((x : X) (y : Y) → A x y → B x y) → (xs : List X) (ys : List Y) → AllZip A xs ys → AllZip B xs ys
-AllZip-weaker A B w [] [] h = tt
-AllZip-weaker A B w [] (y ∷ ys) h = absurd h
-AllZip-weaker A B w (x ∷ xs) [] h = absurd h
-AllZip-weaker A B w (x ∷ xs) (y ∷ ys) h = (w x y h.0, AllZip-weaker A B w xs ys h.1)
-
-module _ (A B : List ℕ → List ℕ → Type 0) (w : (line answer : List ℕ) → A line answer → B line answer) where
-  answers_weaker : {pieces : List (List ℕ)} {text : List ℕ} {refused : Bool} → Answers A pieces text refused → Answers B pieces text refused
-  answers_weaker {pieces} a = record { answers = a.answers; each = AllZip-weaker A B w (answered pieces) a.answers a.each; text_is = a.text_is; refused_is = a.refused_is }
-
-  after_weaker : {input text : List ℕ} → StopsAfter A input text → StopsAfter B input text
-  after_weaker a = record { ended = a.ended; line = a.line; refused = a.refused; ends = a.ends; answers = answers_weaker a.answers }
-
-  keeps_up_weaker : {given text : List ℕ} → KeepsUp A given text → KeepsUp B given text
-  keeps_up_weaker a = record { before = a.before; piece = a.piece; front = a.front; rest = a.rest; given_is = a.given_is; short = a.short; stopped = after_weaker a.stopped; text_is = a.text_is }
-
-  pub all_weaker : {left left' taken taken' : Option (List ℕ)} {waits : List ℕ} {refused : Bool} → AnswersAll A left left' taken taken' waits refused → AnswersAll B left left' taken taken' waits refused
-  all_weaker a = record { given = a.given; took = a.took; source = a.source; nothing_left = a.nothing_left; fits = a.fits; sink = a.sink; keeps_up = keeps_up_weaker a.keeps_up; answers = answers_weaker a.answers }
-
-  within_weaker : {input text : List ℕ} → StopsWithin A input text → StopsWithin B input text
-  within_weaker a = record { ended = a.ended; whole_text = a.whole_text; rest = a.rest; refused = a.refused; begins = a.begins; answers = answers_weaker a.answers; text_begins = a.text_begins }
-
-  by_weaker : (fault : Fault) (given text : List ℕ) → StopsBy A fault given text → StopsBy B fault given text
-  by_weaker Read given text h = (h.0, after_weaker h.1)
-  by_weaker Write given text h = within_weaker h
-  by_weaker Memory given text h = within_weaker h
-  by_weaker TooLong given text h = (h.0, after_weaker h.1)
-
-  pub stops_weaker : {left left' taken taken' : Option (List ℕ)} {waits : List ℕ} (fault : Fault) → Stops A fault left left' taken taken' waits → Stops B fault left left' taken taken' waits
-  stops_weaker fault s = record { given = s.given; took = s.took; source = s.source; few = s.few; sink = s.sink; keeps_up = keeps_up_weaker s.keeps_up; by = by_weaker fault s.given _ s.by }
+use Rattle.csn_run.proofs.Following.{Follows, all_follow, stops_follow}
+use Rattle.csn_run.specs.Result.{LineJob, by_rule, migrating, Steps, beginning, asks_by_rule, asks_migrate, long_text, no_plan, no_job, checked, end_of}
 
 -- ---- what the words ask for over told files
 
@@ -172,12 +139,12 @@ module _ (words : List (List ℕ)) (rule : RuleWords) (row : IsOverRule words ru
 
 -- the job is over with its lines
 pub lines_end :
-    (A : List ℕ → List ℕ → Type 0) (words : List (List ℕ)) (files : Option (List ℕ → Option (List ℕ))) (job : LineJob) (left left' taken taken' : Option (List ℕ)) (waits : List ℕ) (refused : Bool) (end : Result Ended Fault)
-    → Asked words files job → ((line answer : List ℕ) → A line answer → AnswersLine job line answer)
-    → IfOk end (λ ended. AnswersAll A left left' taken taken' waits refused × (ended ≡ end_of refused))
-    → IfErr end (λ fault. Stops A fault left left' taken taken' waits) → JobEnds words files left left' taken taken' waits end
-lines_end A words files job left left' taken taken' waits refused (Ok ended) asked weaker ok err = all_lines job refused asked (all_weaker A (AnswersLine job) weaker ok.0) (ap Ok ok.1)
-lines_end A words files job left left' taken taken' waits refused (Err fault) asked weaker ok err = some_lines job fault asked (stops_weaker A (AnswersLine job) weaker fault err) refl
+    (Stands : Kept → LineState → Type 0) (A : Kept → List ℕ → List ℕ → Kept → Type 0) (kept : Kept) (words : List (List ℕ)) (files : Option (List ℕ → Option (List ℕ))) (job : LineJob) (left left' taken taken' : Option (List ℕ)) (waits : List ℕ) (refused : Bool) (end : Result Ended Fault)
+    → Asked words files job → Follows Stands A (Steps job) → ((kept : Kept) (state : LineState) → Stands kept state → closing_of kept ≡ closing state) → Stands kept (beginning job)
+    → IfOk end (λ ended. AnswersAll A closing_of kept left left' taken taken' waits refused × (ended ≡ end_of refused))
+    → IfErr end (λ fault. Stops A kept fault left left' taken taken' waits) → JobEnds words files left left' taken taken' waits end
+lines_end Stands A kept words files job left left' taken taken' waits refused (Ok ended) asked follows closes is ok err = all_lines job refused asked (all_follow Stands A (Steps job) follows kept (beginning job) is closes ok.0) (ap Ok ok.1)
+lines_end Stands A kept words files job left left' taken taken' waits refused (Err fault) asked follows closes is ok err = some_lines job fault asked (stops_follow Stands A (Steps job) follows kept (beginning job) is fault err) refl
 
 -- the job of `check` is over by a plan
 pub check_ends :

@@ -2,6 +2,8 @@ pub mod AnswerLemmas
 pub mod CommandLemmas
 pub mod FormLemmas
 pub mod FormsAgree
+pub mod Following
+pub mod OneInput
 pub mod JobLemmas
 pub mod LinesLemmas
 pub mod OutsideLemmas

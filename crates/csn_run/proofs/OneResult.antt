@@ -1,14 +1,11 @@
 -- A run has one result.
-use Rattle.std.proofs.Common.{◌≡◌, ℕ, ◌≤◌, ◌⊎◌, inl, inr, Bool, List, [], ◌∷◌, ◌++◌, length, take, codes, Option, Some, refl, sym, ◌∙◌, ap, subst, arith}
-use Rattle.std.proofs.lemmas.List.{append-nil}
+use Rattle.std.proofs.Common.{◌≡◌, ℕ, ◌≤◌, inl, inr, List, [], ◌∷◌, ◌++◌, length, codes, Option, Some, refl, sym, ◌∙◌, ap, subst, arith}
 use Rattle.std.specs.Prelude.{slice_index}
-use Rattle.std.specs.List.{AllZip, list_any}
 use Rattle.csn_desc.specs.declared.reading.Reading.{Reading}
 use Rattle.csn_desc.specs.declared.reading.Reading.TheVariants.{Received, Sent}
 use Rattle.csn_desc.specs.Nodes.{DescV}
 use Rattle.csn_grammar.specs.RulesV.{RulesV}
 use Rattle.csn_grammar.specs.Place.{HasRules}
-use Rattle.csn_resolve.specs.declared.why.Why.{Why}
 use Rattle.csn_resolve.specs.Why.{number_of}
 use Rattle.csn_resolve.specs.Resolved.{IsResolved, IsRefused}
 use Rattle.csn_look.specs.declared.word.TheConstants.{MOST_WORD}
@@ -18,65 +15,13 @@ use Rattle.csn_run.specs.declared.command.RuleCommand.{RuleCommand}
 use Rattle.csn_run.specs.declared.command.RuleCommand.TheVariants.{Show, Write}
 use Rattle.csn_run.specs.declared.command.TreeForm.TheVariants.{Text, Json}
 use Rattle.csn_run.specs.declared.ended.Ended.{Ended}
-use Rattle.csn_run.specs.declared.lines.TheConstants.{MOST_INPUT}
 use Rattle.csn_run.specs.declared.compile.TheConstants.{MOST_DESCRIPTION}
-use Rattle.csn_run.specs.Known.{KnownOfTexts, Known}
+use Rattle.csn_run.specs.Known.{KnownOfTexts}
 use Rattle.csn_run.specs.Command.{word_of, command_word, NamesRule, IsCheck, IsAnswer, IsMigrate, IsOverRule}
 use Rattle.csn_run.specs.Compiled.{line_of, conflict_line, certified_line, IsCompiled, HasNoPlan, no_rules, rules_refused, not_certified}
-use Rattle.csn_run.specs.Lines.{between_feeds, answered, text_of, is_refusal}
-use Rattle.csn_run.specs.Progress.{Answers, EndsIn}
-use Rattle.csn_run.specs.Result.{LineJob, by_rule, AnswersLine, AsksFor, asks_by_rule, asks_migrate, end_of, AnswersInput, answers_all, answers_front, HasNoJob, long_text, no_plan, EndsBefore, no_job, checked, Result, no_line, lines}
+use Rattle.csn_run.specs.Result.{LineJob, by_rule, AsksFor, asks_by_rule, asks_migrate, AnswersInput, HasNoJob, long_text, no_plan, EndsBefore, no_job, checked, no_line, lines}
 use Rattle.csn_run.specs.Laws.{LinesHaveOneAnswer, RunsHaveOneResult}
-use Rattle.csn_run.proofs.LinesLemmas.{between_feeds-one}
-
--- ---- answers to lines
-
-last_apart : (xs ys : List (List ℕ)) (x y : List ℕ) → xs ++ x ∷ [] ≡ ys ++ y ∷ [] → xs ≡ ys
-last_apart [] [] x y e = refl
-last_apart [] (v ∷ []) x y e = cc
-last_apart [] (v ∷ w ∷ ys) x y e = cc
-last_apart (u ∷ []) [] x y e = cc
-last_apart (u ∷ w ∷ xs) [] x y e = cc
-last_apart (u ∷ xs) (v ∷ ys) x y e =
-    let first : u ≡ v = cc in
-    let behind : xs ++ x ∷ [] ≡ ys ++ y ∷ [] = cc in
-    ap (λ w. w ∷ xs) first ∙ ap (λ l. v ∷ l) (last_apart xs ys x y behind)
-
--- bytes have one list of lines that have ended in them
-one_end : (bytes line other : List ℕ) (ended others : List (List ℕ)) → EndsIn bytes ended line → EndsIn bytes others other → ended ≡ others
-one_end bytes line other ended others a b = last_apart ended others line other (sym (pieces ended line a) ∙ pieces others other b)
-  where
-    pieces : (ended : List (List ℕ)) (line : List ℕ) → EndsIn bytes ended line → between_feeds (bytes ++ []) ≡ ended ++ line ∷ []
-    pieces ended line is = is.whole [] ∙ ap (λ l. ended ++ between_feeds l) (append-nil line) ∙ ap (λ l. ended ++ l) (between_feeds-one line is.unended)
-
-abbrev Written : List ℕ → Ended → List ℕ → Ended → Type 0
-Written w e v f = (w ≡ v) × (e ≡ f)
-
-module _ (Answer : List ℕ → List ℕ → Type 0) (one : (line a b : List ℕ) → Answer line a → Answer line b → a ≡ b) where
-  one_each : (found answers others : List (List ℕ)) → AllZip Answer found answers → AllZip Answer found others → answers ≡ others
-  one_each [] [] [] h k = refl
-  one_each [] [] (b ∷ others) h k = absurd k
-  one_each [] (a ∷ answers) others h k = absurd h
-  one_each (line ∷ found) [] others h k = absurd h
-  one_each (line ∷ found) (a ∷ answers) [] h k = absurd k
-  one_each (line ∷ found) (a ∷ answers) (b ∷ others) h k =
-      ap (λ x. x ∷ answers) (one line a b h.0 k.0) ∙ ap (λ l. b ∷ l) (one_each found answers others h.1 k.1)
-
-  one_text : (pieces : List (List ℕ)) (text other : List ℕ) (refused refused' : Bool) → Answers Answer pieces text refused → Answers Answer pieces other refused' → (text ≡ other) × (refused ≡ refused')
-  one_text pieces text other refused refused' a b =
-      let same = one_each (answered pieces) a.answers b.answers a.each b.each in
-      (a.text_is ∙ ap text_of same ∙ sym b.text_is, a.refused_is ∙ ap (list_any is_refusal) same ∙ sym b.refused_is)
-
-  one_input : (input w v : List ℕ) (e f : Ended) → AnswersInput Answer input w e → AnswersInput Answer input v f → Written w e v f
-  one_input input w v e f (answers_all refused fits a is) (answers_all refused' fits' b is') =
-      let same = one_text (between_feeds input) w v refused refused' a b in
-      (same.0, is ∙ ap end_of same.1 ∙ sym is')
-  one_input input w v e f (answers_all refused fits a is) (answers_front found line refused' long ends b is') = absurd (omega arith)
-  one_input input w v e f (answers_front found line refused long ends a is) (answers_all refused' fits' b is') = absurd (omega arith)
-  one_input input w v e f (answers_front found line refused long ends a is) (answers_front found' line' refused' long' ends' b is') =
-      let pieces : found ≡ found' = one_end (take MOST_INPUT input) line line' found found' ends ends' in
-      let same = one_text found' w v refused refused' (subst (λ (p : List (List ℕ)). Answers Answer p w refused) pieces a) b in
-      (same.0, is ∙ sym is')
+use Rattle.csn_run.proofs.OneInput.{Written, one_input}
 
 -- ---- what the words name
 
@@ -289,4 +234,4 @@ one_result known one_in_job words files input w v e f (no_line before) (lines jo
 one_result known one_in_job words files input w v e f (lines job asked a) (no_line before) = absurd (before_or_job known words files job before asked)
 one_result known one_in_job words files input w v e f (lines job asked a) (lines job' asked' b) =
     let same : job ≡ job' = one_job known words files job job' asked asked' in
-    one_input (AnswersLine job') (one_in_job words files job' asked') input w v e f (subst (λ (j : LineJob). AnswersInput (AnswersLine j) input w e) same a) b
+    one_input job' (one_in_job words files job' asked') input w v e f (subst (λ (j : LineJob). AnswersInput j input w e) same a) b

@@ -1,19 +1,16 @@
 -- After a command over a rule is done, the rule gives no bits two trees.
-use Rattle.std.proofs.Common.{◌≡◌, ℕ, ◌⊎◌, inl, inr, Bool, List, [], Option, Some, sym, ◌∙◌, ap, subst, Result, Ok, Err}
+use Rattle.std.proofs.Common.{◌≡◌, ℕ, inl, inr, List, Option, Some, subst, Result}
 use Rattle.csn_desc.specs.declared.reading.Reading.{Reading}
 use Rattle.csn_desc.specs.Nodes.{DescV}
 use Rattle.csn_desc.specs.TreeV.{TreeV}
 use Rattle.csn_grammar.specs.RulesV.{RulesV}
-use Rattle.csn_grammar.specs.Place.{HasRules}
 use Rattle.csn_grammar.specs.Strings.{Strings}
 use Rattle.csn_run.specs.declared.ended.Ended.{Ended}
-use Rattle.csn_run.specs.declared.ended.Ended.TheVariants.{Done, SomeRefused}
 use Rattle.csn_run.specs.declared.fault.Fault.TheVariants.{Read, Memory}
 use Rattle.csn_run.specs.declared.fault.Fault.{Fault}
 use Rattle.csn_run.specs.Known.{Known}
-use Rattle.csn_run.specs.Command.{IsOverRule}
 use Rattle.csn_run.specs.Compiled.{IsCompiled, no_rules, rules_refused, not_certified}
-use Rattle.csn_run.specs.Job.{JobEnds, unread, before_lines, all_lines, some_lines, end_with, end_by}
+use Rattle.csn_run.specs.Job.{JobEnds, unread, before_lines, all_lines, some_lines, end_with}
 use Rattle.csn_run.specs.Result.{LineJob, AsksFor, asks_by_rule, asks_migrate, EndsBefore, no_job, checked, long_text, no_plan, RulesHaveOneTree}
 use Rattle.csn_run.proofs.OneResult.{OverRule, over, answers, moved, not_migrate}
 use Rattle.csn_run.proofs.ResultLemmas.{IsAnswered, fault_answered, ended_apart}

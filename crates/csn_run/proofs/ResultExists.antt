@@ -1,5 +1,5 @@
 -- Where the file that the words name is there, a whole run writes something.
-use Rattle.std.proofs.Common.{◌≡◌, ℕ, ◌≤◌, ◌⊎◌, inl, inr, List, [], ◌∷◌, ◌++◌, length, codes, Option, Some, None, IsSome, refl}
+use Rattle.std.proofs.Common.{◌≡◌, ℕ, ◌≤◌, inl, inr, List, [], ◌∷◌, ◌++◌, length, codes, Option, Some, None, IsSome, refl}
 use Rattle.std.proofs.lemmas.Bool.{cases_lt}
 use Rattle.csn_desc.specs.declared.reading.Reading.{Reading}
 use Rattle.csn_desc.specs.Nodes.{DescV}
@@ -11,10 +11,10 @@ use Rattle.csn_run.specs.declared.ended.Ended.{Ended}
 use Rattle.csn_run.specs.declared.ended.Ended.TheVariants.{Done, BadDescription, NotCertified, TooLong}
 use Rattle.csn_run.specs.declared.compile.TheConstants.{MOST_DESCRIPTION}
 use Rattle.csn_run.specs.Known.{KnownOfTexts}
-use Rattle.csn_run.specs.Command.{IsOverRule, IsCommand, rule_row, migrate_row, NamesFile}
+use Rattle.csn_run.specs.Command.{IsOverRule, rule_row, migrate_row}
 use Rattle.csn_run.specs.Compiled.{line_of, conflict_line, certified_line, IsCompiled, HasNoPlan, no_rules, rules_refused, not_certified}
 use Rattle.csn_run.specs.Laws.{IsDecided, LinesHaveAnswers, RunsHaveResults}
-use Rattle.csn_run.specs.Result.{LineJob, by_rule, migrating, AnswersLine, AsksFor, asks_by_rule, asks_migrate, HasNoJob, long_text, no_plan, EndsBefore, no_job, checked, Result, no_line, lines}
+use Rattle.csn_run.specs.Result.{LineJob, by_rule, migrating, AsksFor, asks_by_rule, asks_migrate, HasNoJob, long_text, no_plan, no_job, checked, Result, no_line, lines}
 use Rattle.csn_run.proofs.Extends.{some_answers}
 
 held_text : (o : Option (List ℕ)) → IsSome o → (text : List ℕ) × (o ≡ Some text)
@@ -27,7 +27,7 @@ module _ (known : KnownOfTexts) (each_in_job : LinesHaveAnswers) (words : List (
 
   job_result : (job : LineJob) → AsksFor words files job → HasResult
   job_result job asked =
-      let all = some_answers (AnswersLine job) (λ line some. each_in_job words files job asked line) input in
+      let all = some_answers job (each_in_job words files job asked) input in
       (all.0, all.1, lines job asked all.2)
 
   module _ (decided : IsDecided words files) (file name text : List ℕ) (reading : Reading) (row : IsOverRule words file name reading) (held : files file ≡ Some text) where

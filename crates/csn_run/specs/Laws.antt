@@ -14,22 +14,24 @@ use Rattle.csn_json.specs.JsonText.{JsonText}
 use Rattle.csn_run.specs.declared.command.TreeForm.{TreeForm}
 use Rattle.csn_run.specs.declared.command.TreeForm.TheVariants.{Text, Json}
 use Rattle.csn_run.specs.declared.ended.Ended.{Ended}
+use Rattle.csn_run.specs.LineState.{LineState}
 use Rattle.csn_run.specs.Command.{IsCommand, IsOverRule, NamesFile}
 use Rattle.csn_run.specs.Compiled.{IsCompiled}
 use Rattle.csn_run.specs.OutLine.{ShowsLine}
-use Rattle.csn_run.specs.Result.{LineJob, AnswersLine, AsksFor, Result}
+use Rattle.csn_run.specs.Result.{LineJob, Steps, AsksFor, Result}
 
--- each line has an answer, in each job over lines that words ask for
+-- each line has an answer, in each job over lines that words ask for and each state
 abbrev pub LinesHaveAnswers : Type 0
 LinesHaveAnswers =
     (words : List (List ℕ)) (files : List ℕ → Option (List ℕ)) (job : LineJob) → AsksFor words files job
-    → (line : List ℕ) → (answer : List ℕ) × AnswersLine job line answer
+    → (before : LineState) (line : List ℕ) → (text : List ℕ) × (after : LineState) × Steps job before line text after
 
--- it has one
+-- it has one, and takes the state further in one way
 abbrev pub LinesHaveOneAnswer : Type 0
 LinesHaveOneAnswer =
     (words : List (List ℕ)) (files : List ℕ → Option (List ℕ)) (job : LineJob) → AsksFor words files job
-    → (line answer other : List ℕ) → AnswersLine job line answer → AnswersLine job line other → answer ≡ other
+    → (before : LineState) (line text other : List ℕ) (after end : LineState)
+    → Steps job before line text after → Steps job before line other end → (text ≡ other) × (after ≡ end)
 
 -- the line is answered by this text of a tree in a form
 abbrev pub Tells : TreeForm → RulesV → List ℕ → Reading → List ℕ → List ℕ → Type 0

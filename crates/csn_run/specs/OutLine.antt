@@ -30,6 +30,7 @@ use Rattle.csn_run.specs.declared.command.TreeForm.TheVariants.{Text, Json}
 use Rattle.csn_run.specs.declared.command.RuleCommand.{RuleCommand}
 use Rattle.csn_run.specs.declared.command.RuleCommand.TheVariants.{Show, Write}
 use Rattle.csn_run.specs.Compiled.{IsCompiled, line_of}
+use Rattle.csn_run.specs.LineState.{Kept, AnswersAlone}
 
 -- the answer to a line that is no block line: the number of its fault, and the column of a bad digit
 abbrev pub fault_text : BitsFault → List ℕ
@@ -144,3 +145,13 @@ pub data MigratesLine (line answer : List ℕ) : Type 0 where
       → MigratesLine line answer
   migrates_place : (place : ℕ) → IsFaultPlace First line place → answer ≡ codes "bad " ++ decimal place
       → MigratesLine line answer
+
+-- what the command of a line does: it goes by the plan of a description, or writes old texts anew
+pub data LineWork : Type 0 where
+  by_plan : RuleCommand → DescV → LineWork
+  renewing : LineWork
+
+-- what a line gives in this work, and what is kept behind it
+abbrev pub Works : LineWork → Kept → List ℕ → List ℕ → Kept → Type 0
+Works (by_plan command d) = AnswersAlone (AnswersBy command d)
+Works renewing = AnswersAlone MigratesLine

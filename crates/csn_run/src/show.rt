@@ -5,12 +5,13 @@ ghost use Rattle.csn_desc.specs.Means.{NMeans};
 ghost use Rattle.csn_treetext.specs.Fits.{Fits};
 ghost use Rattle.csn_run.specs.declared.command.RuleCommand.{RuleCommand};
 ghost use Rattle.csn_run.specs.declared.lines.TheConstants.{MOST_INPUT};
-ghost use Rattle.csn_run.specs.Lines.{is_refusal};
+ghost use Rattle.csn_run.specs.Lines.{is_refusal, is_refused};
 ghost use Rattle.csn_run.specs.OutLine.{AnswersBy, IsRefusalOf, fault_text, refusal_text};
 
 use crate::answers::{answer_tree, push_number};
 use crate::command::TreeForm;
 use crate::laws::known;
+use crate::lines::Answered;
 use csn_bits::{Bits, BitsFault};
 use csn_certify::{Plan, Steps};
 use csn_decode::{DecodeFault, Decoder, Fed};
@@ -96,10 +97,10 @@ pub fn show_line(
     form: TreeForm,
     line: &[u8],
     out: &mut Vec<u8>,
-) -> Result<bool, AllocError>
+) -> Result<Answered, AllocError>
     requires fits { length line.now ≤ MOST_INPUT }
-    ensures ok { IfOk result (λ refused. (answer : List ℕ) × (out.new.items ≡ out.old.items ++ answer)
-        × AnswersBy (RuleCommand.Show form) plan.now line.now answer × (refused ≡ is_refusal answer)) }
+    ensures ok { IfOk result (λ answered. (answer : List ℕ) × (out.new.items ≡ out.old.items ++ answer)
+        × AnswersBy (RuleCommand.Show form) plan.now line.now answer × (is_refused answered ≡ is_refusal answer)) }
     ensures err { OnErr result ((tail : List ℕ) × (out.new.items ≡ out.old.items ++ tail)) }
 {
     known();
@@ -107,17 +108,17 @@ pub fn show_line(
         Ok(bits) => bits,
         Err(fault) => {
             answer_fault(fault, out)?;
-            return Ok(true);
+            return Ok(Answered::Refused);
         }
     };
     match decode::<Brand>(alloc, plan, &bits, Blank::new(1)) {
         Ok(tree) => {
             answer_tree(alloc, form, &tree, out)?;
-            Ok(false)
+            Ok(Answered::Given)
         }
         Err(fault) => {
             answer_no_tree(fault, &bits, out)?;
-            Ok(true)
+            Ok(Answered::Refused)
         }
     }
 }

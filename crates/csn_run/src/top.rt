@@ -7,6 +7,8 @@ ghost use Rattle.csn_io.specs.ShelfFault.{LacksFile};
 ghost use Rattle.csn_run.specs.declared.lines.TheConstants.{LINE_FEED, MOST_INPUT};
 ghost use Rattle.csn_run.specs.Command.{IsCheck, IsCommand, IsRowOf, NamesFile, ReadsLines};
 ghost use Rattle.csn_run.specs.Progress.{AnswersAll, Stops};
+ghost use Rattle.csn_run.specs.LineState.{closing_of};
+ghost use Rattle.csn_run.specs.OutLine.{Works};
 ghost use Rattle.csn_run.specs.Outside.{CannotRead, Keeps, LeftByFetch};
 ghost use Rattle.csn_run.specs.Job.{Asked, JobEnds, end_with};
 ghost use Rattle.csn_run.specs.Result.{AnswersPromptly, BeginsResult, EndsBefore, IsFinished, IsStopped, LineJob, Result, RulesHaveOneTree, StopsReading, end_of};
@@ -26,7 +28,7 @@ use std::alloc::Global;
 /// Answers each line of the input.
 fn answer_lines<C: LineCommand, S: Source, K: Sink>(
     alloc: Global,
-    command: &C,
+    command: &mut C,
     input: &mut S,
     out: &mut K,
     lines: &mut Lines,
@@ -34,10 +36,10 @@ fn answer_lines<C: LineCommand, S: Source, K: Sink>(
     requires line { lines.old.line.items ≡ [] }
     requires pending { lines.old.pending.items ≡ [] }
     requires refused { lines.old.refused ≡ false }
-    ensures ok { IfOk result (λ ended. AnswersAll (C.answers command.now) (S.left input.old) (S.left input.new)
-        (K.taken out.old) (K.taken out.new) lines.new.pending.items lines.new.refused × (ended ≡ end_of lines.new.refused)) }
-    ensures err { IfErr result (λ fault. Stops (C.answers command.now) fault (S.left input.old) (S.left input.new)
-        (K.taken out.old) (K.taken out.new) lines.new.pending.items) }
+    ensures ok { IfOk result (λ ended. AnswersAll (Works (C.work command.old)) closing_of (C.kept command.old)
+        (S.left input.old) (S.left input.new) (K.taken out.old) (K.taken out.new) lines.new.pending.items lines.new.refused × (ended ≡ end_of lines.new.refused)) }
+    ensures err { IfErr result (λ fault. Stops (Works (C.work command.old)) (C.kept command.old) fault
+        (S.left input.old) (S.left input.new) (K.taken out.old) (K.taken out.new) lines.new.pending.items) }
     ensures read { result ≡ Err Fault.Read → Rose (S.faults input.old) (S.faults input.new) }
     ensures write { result ≡ Err Fault.Write → Rose (K.faults out.old) (K.faults out.new) }
     ensures input { Keeps (S.steady input.old) (S.steady input.new) (S.faults input.old) (S.faults input.new) (result ≡ Err Fault.Read) }
@@ -109,11 +111,11 @@ fn answer_by_rule<B: Shelf, S: Source, K: Sink>(
         Ok(plan) => plan,
         Err(why) => return refuse(why, &mut lines.pending),
     };
-    let command = ByPlan {
+    let mut command = ByPlan {
         command,
         plan: &plan,
     };
-    answer_lines(alloc, &command, input, out, lines)
+    answer_lines(alloc, &mut command, input, out, lines)
 }
 
 /// Does the job of a command, up to the answers that wait.
@@ -154,7 +156,7 @@ fn perform<B: Shelf, S: Source, K: Sink>(
         Command::Answer(command, rule) => {
             answer_by_rule(alloc, command, rule, shelf, input, out, lines)
         }
-        Command::Migrate => answer_lines(alloc, &Migrate, input, out, lines),
+        Command::Migrate => answer_lines(alloc, &mut Migrate, input, out, lines),
     }
 }
 

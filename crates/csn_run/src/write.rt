@@ -7,12 +7,13 @@ ghost use Rattle.csn_encode.specs.Encoding.{IsBlockOf, IsFaultOf};
 ghost use Rattle.csn_run.specs.declared.command.RuleCommand.{RuleCommand};
 ghost use Rattle.csn_run.specs.declared.lines.TheConstants.{MOST_INPUT};
 ghost use Rattle.csn_run.specs.Compiled.{line_of};
-ghost use Rattle.csn_run.specs.Lines.{is_refusal};
+ghost use Rattle.csn_run.specs.Lines.{is_refusal, is_refused};
 ghost use Rattle.csn_run.specs.OutLine.{AnswersBy, Reads, TellsJsonFault, misfit_text, path_text, why_text};
 
 use crate::answers::{answer_text_fault, push_number, push_numbers};
 use crate::command::TreeForm;
 use crate::laws::known;
+use crate::lines::Answered;
 use csn_bits::Bits;
 use csn_certify::{Plan, Steps};
 use csn_desc::Tree;
@@ -161,24 +162,24 @@ pub fn write_line(
     form: TreeForm,
     line: &[u8],
     out: &mut Vec<u8>,
-) -> Result<bool, AllocError>
+) -> Result<Answered, AllocError>
     requires fits { length line.now ≤ MOST_INPUT }
-    ensures ok { IfOk result (λ refused. (answer : List ℕ) × (out.new.items ≡ out.old.items ++ answer)
-        × AnswersBy (RuleCommand.Write form) plan.now line.now answer × (refused ≡ is_refusal answer)) }
+    ensures ok { IfOk result (λ answered. (answer : List ℕ) × (out.new.items ≡ out.old.items ++ answer)
+        × AnswersBy (RuleCommand.Write form) plan.now line.now answer × (is_refused answered ≡ is_refusal answer)) }
     ensures err { OnErr result ((tail : List ℕ) × (out.new.items ≡ out.old.items ++ tail)) }
 {
     known();
     let Some(tree) = tree_of_line(alloc, form, line, out)? else {
-        return Ok(true);
+        return Ok(Answered::Refused);
     };
     match block_of::<Brand>(alloc, plan, &tree, Blank::new(1)) {
         Ok(bits) => {
             answer_block(alloc, &bits, out)?;
-            Ok(false)
+            Ok(Answered::Given)
         }
         Err(fault) => {
             answer_no_block(fault, out)?;
-            Ok(true)
+            Ok(Answered::Refused)
         }
     }
 }
