@@ -19,5 +19,6 @@ pub mod OneResult
 pub mod MeantParts
 pub mod TreesFit
 pub mod ShownLines
+pub mod JoinedLines
 pub mod WrittenLines
 pub mod OneTree

@@ -1,6 +1,5 @@
 -- Laws over the definitions.
-use Rattle.std.specs.Prelude.{◌≡◌, ◌⊎◌, ℕ, List, Option, Some, IsSome}
-use Rattle.csn_desc.specs.declared.reading.Reading.{Reading}
+use Rattle.std.specs.Prelude.{◌≡◌, ◌⊎◌, ℕ, List, ◌∷◌, ◌++◌, Option, IsSome}
 use Rattle.csn_desc.specs.Nodes.{DescV}
 use Rattle.csn_grammar.specs.RulesV.{RulesV}
 use Rattle.csn_grammar.specs.Place.{HasRules}
@@ -10,8 +9,9 @@ use Rattle.csn_certify.specs.declared.conflict.Conflict.{Conflict}
 use Rattle.csn_certify.specs.Conflicts.{Certified, IsFirstConflict}
 use Rattle.csn_run.specs.declared.ended.Ended.{Ended}
 use Rattle.csn_run.specs.LineState.{LineState}
-use Rattle.csn_run.specs.Command.{IsCommand, IsOverRule, NamesFile}
-use Rattle.csn_run.specs.Result.{LineJob, Steps, AsksFor, Result}
+use Rattle.csn_run.specs.Command.{IsCommand, NamesFile}
+use Rattle.csn_run.specs.Compiled.{RuleOf}
+use Rattle.csn_run.specs.Result.{LineJob, Steps, AsksFor, Compiles, Result}
 
 -- each line has an answer, in each job over lines that words ask for and each state
 abbrev pub LinesHaveAnswers : Type 0
@@ -26,11 +26,11 @@ LinesHaveOneAnswer =
     → (before : LineState) (line text other : List ℕ) (after end : LineState)
     → Steps job before line text after → Steps job before line other end → (text ≡ other) × (after ≡ end)
 
--- it is decided whether the rule that the words name is certified, where it has a description
+-- it is decided whether each rule that a run of the words compiles is certified, where it has a description
 abbrev pub IsDecided : List (List ℕ) → (List ℕ → Option (List ℕ)) → Type 0
 IsDecided words files =
-    (file name text : List ℕ) (reading : Reading) (rules : RulesV) (d : DescV) → IsOverRule words file name reading
-    → files file ≡ Some text → HasRules text rules → IsResolved rules name reading d
+    (front behind : List RuleOf) (rule : RuleOf) (rules : RulesV) (d : DescV) → Compiles words files (front ++ rule ∷ behind)
+    → HasRules rule.text rules → IsResolved rules rule.name rule.reading d
     → Certified d MOST_WORD ⊎ ((conflict : Conflict) × IsFirstConflict d MOST_WORD conflict)
 
 -- the words of a command whose files are there have a result, where that is decided
