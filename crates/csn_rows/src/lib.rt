@@ -20,6 +20,8 @@ mod descriptions;
 #[cfg(test)]
 mod judged;
 #[cfg(test)]
+mod segmented;
+#[cfg(test)]
 mod shown;
 #[cfg(test)]
 mod tests;

@@ -12,7 +12,7 @@ use Rattle.csn_run.specs.declared.command.TreeForm.{TreeForm}
 use Rattle.csn_run.specs.declared.command.TreeForm.TheVariants.{Text, Json}
 use Rattle.csn_run.specs.Known.{Known}
 use Rattle.csn_run.specs.Laws.{Tells, FormsAreShownTogether, FormsShowOneTree}
-use Rattle.csn_run.specs.OutLine.{IsShown, shows_tree, shows_place, shows_fault, fault_text}
+use Rattle.csn_run.specs.OutLine.{IsShown, shows_block, shows_tree, shows_place, shows_fault, fault_text}
 use Rattle.csn_run.proofs.FormLemmas.{shown_text, shown_fits, shown_parts}
 use Rattle.csn_run.proofs.ShownLines.{one_tree}
 
@@ -32,10 +32,10 @@ not_a_fault BadFill text e = let first : 111 ≡ 98 = ap (λ w. slice_index w 0)
 not_a_fault TooManyBits text e = let first : 111 ≡ 98 = ap (λ w. slice_index w 0) e in omega (arith, first)
 
 told : (form : TreeForm) (rules : RulesV) (name : List ℕ) (reading : Reading) (line text : List ℕ) → Tells form rules name reading line text → Told form rules name reading line text
-told form rules name reading line text (shows_tree block t written spells string shown e) =
+told form rules name reading line text (shows_block block spells (shows_tree t written string shown e)) =
     let same : written ≡ text = cc in
     record { block = block; tree = t; spells = spells; string = string; shown = subst (λ w. IsShown form t w) same shown }
-told form rules name reading line text (shows_place block place spells none at e) =
+told form rules name reading line text (shows_block block spells (shows_place place none at e)) =
     let first : 111 ≡ 110 = ap (λ w. slice_index w 0) e in absurd (omega (arith, first))
 told form rules name reading line text (shows_fault fault is e) =
     absurd (not_a_fault is.0 text (e ∙ ap fault_text is.2))
@@ -44,7 +44,7 @@ in_other : (form other : TreeForm) (rules : RulesV) (name : List ℕ) (reading :
 in_other form other rules name reading line (text, is) =
     let t = told form rules name reading line text is in
     let written = shown_text other t.tree (shown_fits form t.tree text t.shown) (shown_parts form t.tree text t.shown) in
-    (written.0, shows_tree t.block t.tree written.0 t.spells t.string written.1 refl)
+    (written.0, shows_block t.block t.spells (shows_tree t.tree written.0 t.string written.1 refl))
 
 pub shown_together : FormsAreShownTogether
 shown_together rules name reading line = (in_other Json Text rules name reading line, in_other Text Json rules name reading line)

@@ -1,7 +1,14 @@
 -- How jobs are over.
 use Rattle.std.proofs.Common.{◌≡◌, ℕ, ◌+◌, ◌<◌, ◌≤◌, ◌⊎◌, Bool, inl, inr, List, [], ◌∷◌, ◌++◌, length, Option, Some, None, Result, Ok, Err, IfOk, IfErr, refl, sym, ◌∙◌, ap, subst, take, arith}
+use Rattle.std.specs.List.{AllByRecursion}
 use Rattle.std.specs.Option.{option_map}
 use Rattle.std.proofs.lemmas.List.{length-take, take_all}
+use Rattle.csn_catalogue.specs.declared.entry.Entry.TheVariants.{Downlink}
+use Rattle.csn_catalogue.specs.Entries.{entry_root}
+use Rattle.csn_catalogue.specs.Text.{catalogue_text}
+use Rattle.csn_replay.specs.Watched.{reports}
+use Rattle.csn_segment.specs.Joining.{JoinsFor}
+use Rattle.csn_run.specs.OutLine.{Segments, Joins}
 use Rattle.csn_desc.specs.declared.reading.Reading.{Reading}
 use Rattle.csn_desc.specs.Nodes.{DescV}
 use Rattle.csn_grammar.specs.declared.fault.GrammarFault.TheVariants.{Syntax, NoMemory as no_memory_for_rules}
@@ -26,12 +33,12 @@ use Rattle.csn_run.specs.declared.planned.Unplanned.TheVariants.{File, Text}
 use Rattle.csn_run.specs.LineState.{LineState, Kept, closing, closing_of}
 use Rattle.csn_run.specs.Progress.{AnswersAll, Stops}
 use Rattle.csn_run.specs.declared.command.RuleCommand.{RuleCommand}
-use Rattle.csn_run.specs.Command.{IsCheck, IsAnswer, IsMigrate, IsOverRule}
-use Rattle.csn_run.specs.Compiled.{HasNoPlan, no_rules, rules_refused, not_certified, IsReason, Tells, certified_line}
+use Rattle.csn_run.specs.Command.{IsCheck, IsAnswer, IsMigrate, IsSegments, IsOverRule}
+use Rattle.csn_run.specs.Compiled.{RuleOf, rule_of_entry, IsCompiled, HasNoPlan, no_rules, rules_refused, not_certified, IsReason, Tells, certified_line}
 use Rattle.csn_run.specs.Planned.{IsPlanned, IsWhy, Refuses}
 use Rattle.csn_run.specs.Job.{IsDescription, IsBeforeLines, Asked, EndedBefore, JobEnds, unread, before_lines, all_lines, some_lines}
 use Rattle.csn_run.proofs.Following.{Follows, all_follow, stops_follow}
-use Rattle.csn_run.specs.Result.{LineJob, by_rule, migrating, Steps, beginning, asks_by_rule, asks_migrate, long_text, no_plan, no_job, checked, end_of}
+use Rattle.csn_run.specs.Result.{LineJob, by_rule, migrating, Steps, beginning, segmenting, asks_by_rule, asks_migrate, asks_segments, HasJob, Compiles, of_file, of_catalogue, long_text, no_plan, no_job, checked, end_of}
 
 -- ---- what the words ask for over told files
 
@@ -98,22 +105,40 @@ tells_before (Description no_memory_for_nodes) line ended tells = absurd tells
 tells_before (Plan (Conflict conflict)) line ended tells = inr (inl tells.1)
 tells_before (Plan no_memory_for_plan) line ended tells = absurd tells
 
-module _ (words : List (List ℕ)) (rule : RuleWords) (row : IsOverRule words rule.file.now rule.name.now rule.reading) where
-  ended_by_text :
-      (files : Option (List ℕ → Option (List ℕ))) (text written : List ℕ) (reason : NoPlan) (line : List ℕ) (ended : Ended)
-      → IsDescription files rule.file.now text → IsReason text rule.name.now rule.reading reason → Tells reason line ended
-      → written ≡ line ++ 10 ∷ [] → EndedBefore words files written ended
-  ended_by_text None text written reason line ended is reasons tells e = inl (tells_before reason line ended tells)
-  ended_by_text (Some files) text written reason line ended is reasons tells e =
-      no_job rule.file.now rule.name.now text rule.reading row (whole_file files rule.file.now text is) (no_plan line is.fits (no_plan_of text rule.name.now rule.reading reason line ended reasons tells) e)
+-- what is compiled of a file that is there
+file_compiles :
+    (words : List (List ℕ)) (files : List ℕ → Option (List ℕ)) (file name text : List ℕ) (reading : Reading) → IsOverRule words file name reading → files file ≡ Some text
+    → Compiles words files (record { text = text; name = name; reading = reading } ∷ [])
+file_compiles words files file name text reading row held = of_file file name text reading row held refl
 
+-- a text that gives its rule no plan, behind others that give one
+ended_by_text :
+    (words : List (List ℕ)) (files : Option (List ℕ → Option (List ℕ))) (front : List RuleOf) (rule : RuleOf) (behind : List RuleOf) (written : List ℕ) (reason : NoPlan) (line : List ℕ) (ended : Ended)
+    → ((told : List ℕ → Option (List ℕ)) → files ≡ Some told → Compiles words told (front ++ rule ∷ behind)) → AllByRecursion HasJob front
+    → length rule.text ≤ MOST_DESCRIPTION → IsReason rule.text rule.name rule.reading reason → Tells reason line ended
+    → written ≡ line ++ 10 ∷ [] → EndedBefore words files written ended
+ended_by_text words None front rule behind written reason line ended compiles before fits reasons tells e = inl (tells_before reason line ended tells)
+ended_by_text words (Some files) front rule behind written reason line ended compiles before fits reasons tells e =
+    no_job front rule behind (compiles files refl) before (no_plan line fits (no_plan_of rule.text rule.name rule.reading reason line ended reasons tells) e)
+
+-- the job is over before it has a plan, by the text of a rule
+pub reason_ends :
+    (words : List (List ℕ)) (files : Option (List ℕ → Option (List ℕ))) (front : List RuleOf) (rule : RuleOf) (behind : List RuleOf) (left taken : Option (List ℕ)) (waits : List ℕ) (reason : NoPlan) (end : Result Ended Fault)
+    → ((told : List ℕ → Option (List ℕ)) → files ≡ Some told → Compiles words told (front ++ rule ∷ behind)) → AllByRecursion HasJob front
+    → length rule.text ≤ MOST_DESCRIPTION → IsReason rule.text rule.name rule.reading reason → Refuses (Text reason) waits end
+    → JobEnds words files left left taken taken waits end
+reason_ends words files front rule behind left taken waits reason (Ok ended) compiles before fits is refuses =
+    before_lines (ended_by_text words files front rule behind waits reason refuses.0 ended compiles before fits is refuses.2 refuses.1) refl refl
+reason_ends words files front rule behind left taken waits reason (Err fault) compiles before fits is refuses = unread refl refl refuses.1 (inr (ap Err refuses.0))
+
+module _ (words : List (List ℕ)) (rule : RuleWords) (row : IsOverRule words rule.file.now rule.name.now rule.reading) where
   ended_by_length :
       (files : Option (List ℕ → Option (List ℕ))) (front written : List ℕ) → written ≡ []
       → BeginsFile files rule.file.now (MOST_DESCRIPTION + 1) front → MOST_DESCRIPTION < length front → EndedBefore words files written Long
   ended_by_length None front written none begins long = inl (inr (inr refl))
   ended_by_length (Some files) front written none begins long =
       let text = long_file files rule.file.now front begins long in
-      no_job rule.file.now rule.name.now text.0 rule.reading row text.1 (long_text text.2 none refl)
+      no_job [] (record { text = text.0; name = rule.name.now; reading = rule.reading }) [] (file_compiles words files rule.file.now rule.name.now text.0 rule.reading row text.1) tt (long_text text.2 none refl)
 
   -- the job is over before it has a plan
   pub refused_ends :
@@ -131,9 +156,39 @@ module _ (words : List (List ℕ)) (rule : RuleWords) (row : IsOverRule words ru
           let long = is.1 refl in
           let P : Result Ended Fault → Type 0 = λ e. JobEnds words files left left taken taken waits e in
           subst P (sym refuses.0) (before_lines (ended_by_length files long.0 waits refuses.1 long.1 long.2) refl refl)
-  refused_ends files left taken waits (Text reason) (Ok ended) is refuses =
-      before_lines (ended_by_text files is.0 waits reason refuses.0 ended is.1 is.2 refuses.2 refuses.1) refl refl
-  refused_ends files left taken waits (Text reason) (Err fault) is refuses = unread refl refl refuses.1 (inr (ap Err refuses.0))
+  refused_ends files left taken waits (Text reason) end is refuses =
+      reason_ends words files [] (record { text = is.0; name = rule.name.now; reading = rule.reading }) [] left taken waits reason end
+      (λ told e. file_compiles words told rule.file.now rule.name.now is.0 rule.reading row (whole_file told rule.file.now is.0 (subst (λ (f : Option (List ℕ → Option (List ℕ))). IsDescription f rule.file.now is.0) e is.1)))
+      tt is.1.fits is.2 refuses
+
+-- what `segments` compiles
+pub segments_compile : (words : List (List ℕ)) (files : List ℕ → Option (List ℕ)) (reading : Reading) → IsSegments words reading → Compiles words files (rule_of_entry reading Downlink ∷ [])
+segments_compile words files reading row = of_catalogue (Downlink ∷ []) reading (row, refl) refl
+
+pub asked_segments :
+    (words : List (List ℕ)) (files : Option (List ℕ → Option (List ℕ))) (reading : Reading) (rules : RulesV) (d : DescV) → IsSegments words reading
+    → length catalogue_text ≤ MOST_DESCRIPTION → IsCompiled catalogue_text (entry_root Downlink) reading rules d
+    → Asked words files (segmenting rules reading)
+asked_segments words None reading rules d row fits is = tt
+asked_segments words (Some files) reading rules d row fits is = asks_segments reading rules d row fits is refl
+
+-- the bodies that a command keeps are those that wait behind the blocks before
+pub record KeepsBodies (kept : Kept) (state : LineState) : Type 0 where
+  pub joins : JoinsFor kept.bodies state.blocks
+  pub watches : kept.watchers ≡ state.watchers
+
+pub keeps_close : (kept : Kept) (state : LineState) → KeepsBodies kept state → closing_of kept ≡ closing state
+keeps_close kept state is = ap reports is.watches
+
+pub joins_follow :
+    (d : DescV) (text : List ℕ) (rules : RulesV) (reading : Reading) → IsCompiled text (entry_root Downlink) reading rules d
+    → Follows KeepsBodies (Joins d) (Segments rules reading)
+joins_follow d source rules reading compiled kept line text kept' h before is =
+    let next = h.1 before.blocks is.joins in (
+      record { blocks = next.0; watchers = before.watchers },
+      (h.0, next.2 source rules reading compiled, h.2, refl),
+      record { joins = next.1; watches = h.3 ∙ is.watches },
+    )
 
 -- ---- ends of jobs
 

@@ -21,5 +21,6 @@ pub mod OneResult
 pub mod MeantParts
 pub mod TreesFit
 pub mod ShownLines
+pub mod JoinedLines
 pub mod WrittenLines
 pub mod OneTree

@@ -137,10 +137,10 @@ module _ (words : List (List ℕ)) (files : List ℕ → Option (List ℕ)) (inp
       absurd (no_read waits (subst (λ (d : Ended). whole.EndsBefore words files waits d) (sym fault) gives))
     where
       no_read : (written : List ℕ) → whole.EndsBefore words files written ReadFault → ⊥
-      no_read written (whole.no_job file name text reading row held (whole.long_text long is e)) = cc
-      no_read written (whole.no_job file name text reading row held (whole.no_plan line fits (no_rules place at is e) ends)) = cc
-      no_read written (whole.no_job file name text reading row held (whole.no_plan line fits (rules_refused rules why place has why_not is e) ends)) = cc
-      no_read written (whole.no_job file name text reading row held (whole.no_plan line fits (not_certified rules d c has resolved first is e) ends)) = cc
+      no_read written (whole.no_job front rule behind compiles earlier (whole.long_text long is e)) = cc
+      no_read written (whole.no_job front rule behind compiles earlier (whole.no_plan line fits (no_rules place at is e) ends)) = cc
+      no_read written (whole.no_job front rule behind compiles earlier (whole.no_plan line fits (rules_refused rules why place has why_not is e) ends)) = cc
+      no_read written (whole.no_job front rule behind compiles earlier (whole.no_plan line fits (not_certified rules d c has resolved first is e) ends)) = cc
       no_read written (whole.checked file name text reading rules d row held fits compiled is e) = cc
   read_of left' taken' taken'' waits end (all_lines job refused asked a e) handed fault = absurd (no_read refused (fault ∙ ap end_with e))
     where
@@ -188,10 +188,10 @@ before_answered words None written ended (inr done) answered reads = done.1 read
 before_answered words (Some files) written ended gives answered reads = by_end gives answered
   where
     by_end : whole.EndsBefore words files written ended → IsAnswered ended → ⊥
-    by_end (whole.no_job file name text reading row held (whole.long_text long is e)) answered = ended_apart ended Long e (λ h. cc) (λ h. cc) answered
-    by_end (whole.no_job file name text reading row held (whole.no_plan line fits (no_rules place at is e) ends)) answered = ended_apart ended BadDescription e (λ h. cc) (λ h. cc) answered
-    by_end (whole.no_job file name text reading row held (whole.no_plan line fits (rules_refused rules why place has why_not is e) ends)) answered = ended_apart ended BadDescription e (λ h. cc) (λ h. cc) answered
-    by_end (whole.no_job file name text reading row held (whole.no_plan line fits (not_certified rules d c has resolved first is e) ends)) answered = ended_apart ended NotCertified e (λ h. cc) (λ h. cc) answered
+    by_end (whole.no_job front rule behind compiles earlier (whole.long_text long is e)) answered = ended_apart ended Long e (λ h. cc) (λ h. cc) answered
+    by_end (whole.no_job front rule behind compiles earlier (whole.no_plan line fits (no_rules place at is e) ends)) answered = ended_apart ended BadDescription e (λ h. cc) (λ h. cc) answered
+    by_end (whole.no_job front rule behind compiles earlier (whole.no_plan line fits (rules_refused rules why place has why_not is e) ends)) answered = ended_apart ended BadDescription e (λ h. cc) (λ h. cc) answered
+    by_end (whole.no_job front rule behind compiles earlier (whole.no_plan line fits (not_certified rules d c has resolved first is e) ends)) answered = ended_apart ended NotCertified e (λ h. cc) (λ h. cc) answered
     by_end (whole.checked file name text reading rules d row held fits compiled is e) answered = reads file name reading row
 
 pub fault_answered : (fault : Fault) → IsAnswered (end_by fault) → ⊥
@@ -308,10 +308,10 @@ before_apart words None written ended (inr done) only = only.0 done.0
 before_apart words (Some files) written ended gives only = by_end gives
   where
     by_end : whole.EndsBefore words files written ended → ⊥
-    by_end (whole.no_job file name text reading row held (whole.long_text long is e)) = only.4 e
-    by_end (whole.no_job file name text reading row held (whole.no_plan line fits (no_rules place at is e) ends)) = only.2 e
-    by_end (whole.no_job file name text reading row held (whole.no_plan line fits (rules_refused rules why place has why_not is e) ends)) = only.2 e
-    by_end (whole.no_job file name text reading row held (whole.no_plan line fits (not_certified rules d c has resolved first is e) ends)) = only.3 e
+    by_end (whole.no_job front rule behind compiles earlier (whole.long_text long is e)) = only.4 e
+    by_end (whole.no_job front rule behind compiles earlier (whole.no_plan line fits (no_rules place at is e) ends)) = only.2 e
+    by_end (whole.no_job front rule behind compiles earlier (whole.no_plan line fits (rules_refused rules why place has why_not is e) ends)) = only.2 e
+    by_end (whole.no_job front rule behind compiles earlier (whole.no_plan line fits (not_certified rules d c has resolved first is e) ends)) = only.3 e
     by_end (whole.checked file name text reading rules d row held fits compiled is e) = only.0 e
 
 -- a job that ends so met a fault

@@ -5,6 +5,7 @@ use Rattle.csn_grammar.specs.Laws.{BlocksHaveOnePlace, LabelsOfTextsAreLabels, M
 use Rattle.csn_resolve.specs.Laws.{NamesAreAnswered, PlacesAreKept, RefusedOnce, RefusedOrResolved, ResolvedAreDescriptions, ResolvedOnce, StringsAreKept}
 use Rattle.csn_certify.specs.Laws.{BlocksHaveOneTree, CertifiedHasNoConflict, FirstConflictIsOne}
 use Rattle.csn_encode.specs.Laws.{FirstMisfitIsOne, MisfitsHaveNoBits, OneBlock, TreesFitOrMiss}
+use Rattle.csn_segment.specs.Laws.{MessagesAreShort}
 use Rattle.csn_treetext.specs.Laws as texts
 use Rattle.csn_json.specs.Laws as json
 
@@ -68,3 +69,4 @@ pub record Known : Type 0 where
   pub of_trees : KnownOfTrees
   pub of_json : KnownOfJson
   pub of_misfits : KnownOfMisfits
+  pub of_messages : MessagesAreShort

@@ -1,5 +1,5 @@
 -- Laws over the definitions.
-use Rattle.std.specs.Prelude.{◌≡◌, ◌⊎◌, ◌↔◌, ℕ, List, ◌++◌, Option, Some, IsSome, codes}
+use Rattle.std.specs.Prelude.{◌≡◌, ◌⊎◌, ◌↔◌, ℕ, List, ◌∷◌, ◌++◌, Option, IsSome, codes}
 use Rattle.csn_desc.specs.declared.reading.Reading.{Reading}
 use Rattle.csn_desc.specs.Nodes.{DescV}
 use Rattle.csn_desc.specs.TreeV.{TreeV}
@@ -15,10 +15,10 @@ use Rattle.csn_run.specs.declared.command.TreeForm.{TreeForm}
 use Rattle.csn_run.specs.declared.command.TreeForm.TheVariants.{Text, Json}
 use Rattle.csn_run.specs.declared.ended.Ended.{Ended}
 use Rattle.csn_run.specs.LineState.{LineState}
-use Rattle.csn_run.specs.Command.{IsCommand, IsOverRule, NamesFile}
-use Rattle.csn_run.specs.Compiled.{IsCompiled}
+use Rattle.csn_run.specs.Command.{IsCommand, NamesFile}
+use Rattle.csn_run.specs.Compiled.{IsCompiled, RuleOf}
 use Rattle.csn_run.specs.OutLine.{ShowsLine}
-use Rattle.csn_run.specs.Result.{LineJob, Steps, AsksFor, Result}
+use Rattle.csn_run.specs.Result.{LineJob, Steps, AsksFor, Compiles, Result}
 
 -- each line has an answer, in each job over lines that words ask for and each state
 abbrev pub LinesHaveAnswers : Type 0
@@ -50,11 +50,11 @@ FormsShowOneTree =
     → IsCompiled file name reading rules d → Tells Text rules name reading line text → Tells Json rules name reading line json
     → (t : TreeV) × TreeText t text × JsonText t json
 
--- it is decided whether the rule that the words name is certified, where it has a description
+-- it is decided whether each rule that a run of the words compiles is certified, where it has a description
 abbrev pub IsDecided : List (List ℕ) → (List ℕ → Option (List ℕ)) → Type 0
 IsDecided words files =
-    (file name text : List ℕ) (reading : Reading) (rules : RulesV) (d : DescV) → IsOverRule words file name reading
-    → files file ≡ Some text → HasRules text rules → IsResolved rules name reading d
+    (front behind : List RuleOf) (rule : RuleOf) (rules : RulesV) (d : DescV) → Compiles words files (front ++ rule ∷ behind)
+    → HasRules rule.text rules → IsResolved rules rule.name rule.reading d
     → Certified d MOST_WORD ⊎ ((conflict : Conflict) × IsFirstConflict d MOST_WORD conflict)
 
 -- the words of a command whose files are there have a result, where that is decided

@@ -1,7 +1,12 @@
 -- What a run writes, and how it ends: for the words, the files that they name and the whole input. The
 -- order of the ends is this project's own choice: first the length of the description, then what it is,
 -- then the lines.
-use Rattle.std.specs.Prelude.{◌≡◌, ℕ, ◌<◌, ◌≤◌, ◌⊎◌, Bool, if◌then◌else◌, List, [], ◌∷◌, ◌++◌, length, take, Option, Some}
+use Rattle.std.specs.Prelude.{◌≡◌, ℕ, ◌<◌, ◌≤◌, ◌⊎◌, Bool, if◌then◌else◌, List, [], ◌∷◌, ◌++◌, length, take, map, Option, Some}
+use Rattle.std.specs.List.{AllByRecursion}
+use Rattle.csn_catalogue.specs.declared.entry.Entry.{Entry}
+use Rattle.csn_catalogue.specs.declared.entry.Entry.TheVariants.{Downlink}
+use Rattle.csn_catalogue.specs.Entries.{entry_root}
+use Rattle.csn_catalogue.specs.Text.{catalogue_text}
 use Rattle.csn_desc.specs.declared.reading.Reading.{Reading}
 use Rattle.csn_desc.specs.Nodes.{DescV}
 use Rattle.csn_desc.specs.TreeV.{TreeV}
@@ -13,35 +18,42 @@ use Rattle.csn_run.specs.declared.ended.Ended.TheVariants.{Done, SomeRefused, Us
 use Rattle.csn_run.specs.declared.lines.TheConstants.{LINE_FEED, MOST_INPUT}
 use Rattle.csn_run.specs.declared.compile.TheConstants.{MOST_DESCRIPTION}
 use Rattle.csn_run.specs.declared.command.RuleCommand.{RuleCommand}
-use Rattle.csn_run.specs.Command.{IsCheck, IsAnswer, IsMigrate, IsOverRule}
-use Rattle.csn_run.specs.Compiled.{IsCompiled, HasNoPlan, certified_line}
+use Rattle.csn_run.specs.Command.{IsCheck, IsAnswer, IsMigrate, IsSegments, IsOverRule, IsOverEntries}
+use Rattle.csn_run.specs.Compiled.{RuleOf, rule_of_entry, IsCompiled, HasNoPlan, certified_line}
 use Rattle.csn_run.specs.Lines.{between_feeds}
 use Rattle.csn_run.specs.LineState.{LineState, nothing_yet, closing, AnswersAlone}
-use Rattle.csn_run.specs.OutLine.{AnswersByRule, MigratesLine}
+use Rattle.csn_run.specs.OutLine.{AnswersByRule, MigratesLine, Segments}
 use Rattle.csn_run.specs.Progress.{Answers, EndsIn, KeepsUp, StopsAfter}
 
--- the jobs that answer the lines of the input: a command by a rule of some rules, and `migrate`
+-- the jobs that answer the lines of the input: a command by a rule of some rules, `migrate`, and `segments` by the rule
+-- of some rules that describes downlink blocks
 pub data LineJob : Type 0 where
   by_rule : RuleCommand → RulesV → List ℕ → Reading → LineJob
   migrating : LineJob
+  segmenting : RulesV → Reading → LineJob
 
 -- what a line gives in such a job, and how it takes the state further
 abbrev pub Steps : LineJob → LineState → List ℕ → List ℕ → LineState → Type 0
 Steps (by_rule command rules name reading) = AnswersAlone (AnswersByRule command rules name reading)
 Steps migrating = AnswersAlone MigratesLine
+Steps (segmenting rules reading) = Segments rules reading
 
 -- the state in front of the first line
 abbrev pub beginning : LineJob → LineState
 beginning (by_rule command rules name reading) = nothing_yet
 beginning migrating = nothing_yet
+beginning (segmenting rules reading) = nothing_yet
 
 -- the words ask for this job. By a rule the file that they name is there, is no longer than a description
--- may be, and the rule that they name has a certified description
+-- may be, and the rule that they name has a certified description; for `segments` the rule of the catalogue has one
 pub data AsksFor (words : List (List ℕ)) (files : List ℕ → Option (List ℕ)) (job : LineJob) : Type 0 where
   asks_by_rule : (command : RuleCommand) (file name text : List ℕ) (reading : Reading) (rules : RulesV) (d : DescV)
       → IsAnswer command words file name reading → files file ≡ Some text → length text ≤ MOST_DESCRIPTION
       → IsCompiled text name reading rules d → job ≡ by_rule command rules name reading → AsksFor words files job
   asks_migrate : IsMigrate words → job ≡ migrating → AsksFor words files job
+  asks_segments : (reading : Reading) (rules : RulesV) (d : DescV) → IsSegments words reading
+      → length catalogue_text ≤ MOST_DESCRIPTION → IsCompiled catalogue_text (entry_root Downlink) reading rules d
+      → job ≡ segmenting rules reading → AsksFor words files job
 
 -- the end of a command that answered all lines, by whether it refused one
 abbrev pub end_of : Bool → Ended
@@ -64,11 +76,26 @@ pub data HasNoJob (text name : List ℕ) (reading : Reading) (written : List ℕ
   no_plan : (line : List ℕ) → length text ≤ MOST_DESCRIPTION → HasNoPlan text name reading line ended
       → written ≡ line ++ LINE_FEED ∷ [] → HasNoJob text name reading written ended
 
+-- what a run compiles before it comes to a line, in this order: the rule that the words name, of the file that is
+-- there, or rules of the catalogue
+pub data Compiles (words : List (List ℕ)) (files : List ℕ → Option (List ℕ)) (all : List RuleOf) : Type 0 where
+  of_file : (file name text : List ℕ) (reading : Reading) → IsOverRule words file name reading → files file ≡ Some text
+      → all ≡ record { text = text; name = name; reading = reading } ∷ [] → Compiles words files all
+  of_catalogue : (entries : List Entry) (reading : Reading) → IsOverEntries words entries reading
+      → all ≡ map (rule_of_entry reading) entries → Compiles words files all
+
+-- the text is no longer than a description may be, and its rule has a certified description
+abbrev pub HasJob : RuleOf → Type 0
+HasJob rule =
+    (length rule.text ≤ MOST_DESCRIPTION) × (rules : RulesV) × (d : DescV)
+    × IsCompiled rule.text rule.name rule.reading rules d
+
 -- what a run writes, and how it ends, where it comes to no line of the input and the files that its words name are
--- there
+-- there: by the first of what it compiles that is not certified, or for `check` where all is well
 pub data EndsBefore (words : List (List ℕ)) (files : List ℕ → Option (List ℕ)) (written : List ℕ) (ended : Ended) : Type 0 where
-  no_job : (file name text : List ℕ) (reading : Reading) → IsOverRule words file name reading
-      → files file ≡ Some text → HasNoJob text name reading written ended → EndsBefore words files written ended
+  no_job : (front : List RuleOf) (rule : RuleOf) (behind : List RuleOf) → Compiles words files (front ++ rule ∷ behind)
+      → AllByRecursion HasJob front → HasNoJob rule.text rule.name rule.reading written ended
+      → EndsBefore words files written ended
   checked : (file name text : List ℕ) (reading : Reading) (rules : RulesV) (d : DescV) → IsCheck words file name reading
       → files file ≡ Some text → length text ≤ MOST_DESCRIPTION → IsCompiled text name reading rules d
       → written ≡ certified_line d ++ LINE_FEED ∷ [] → ended ≡ Done → EndsBefore words files written ended
@@ -123,9 +150,9 @@ pub data AnswersPromptly (words : List (List ℕ)) (files : List ℕ → Option 
   some_read : (given rest : List ℕ) (job : LineJob) → input ≡ given ++ rest → left ≡ Some rest
       → AsksFor words files job → KeepsUp (Steps job) (beginning job) given written → AnswersPromptly words files input left written
 
--- by the rule that the words name, in the text of the file that is there, bits of any length have at most one tree
+-- by each rule that a run of the words compiles, bits of any length have at most one tree
 abbrev pub RulesHaveOneTree : List (List ℕ) → (List ℕ → Option (List ℕ)) → Type 0
 RulesHaveOneTree words files =
-    (file name text : List ℕ) (reading : Reading) (rules : RulesV) → IsOverRule words file name reading
-    → files file ≡ Some text → HasRules text rules
-    → (b : List ℕ) (t u : TreeV) → Strings rules name reading b t → Strings rules name reading b u → t ≡ u
+    (front behind : List RuleOf) (rule : RuleOf) (rules : RulesV) → Compiles words files (front ++ rule ∷ behind)
+    → HasRules rule.text rules
+    → (b : List ℕ) (t u : TreeV) → Strings rules rule.name rule.reading b t → Strings rules rule.name rule.reading b u → t ≡ u

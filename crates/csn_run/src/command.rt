@@ -1,7 +1,7 @@
 ghost use Rattle.std.specs.Prelude.{◌≡◌, ◌↔◌, IsTrue, IsSome, IfSome, List, ℕ, codes, map};
 ghost use Rattle.std.specs.String.{string_bytes};
 ghost use Rattle.csn_desc.specs.declared.reading.Reading.{Reading};
-ghost use Rattle.csn_run.specs.Command.{AreRuleWords, IsArgument, IsCommand, IsMigrate, IsRowOf, NamesRule, word_of};
+ghost use Rattle.csn_run.specs.Command.{AreRuleWords, IsArgument, IsCommand, IsMigrate, IsRowOf, NamesReading, NamesRule, word_of};
 
 use csn_desc::Reading;
 
@@ -40,6 +40,8 @@ pub enum Command<'a> {
     Answer(RuleCommand, RuleWords<'a>),
     /// Writes the old texts of trees in the input as they are written today.
     Migrate,
+    /// Joins the blocks in the input to control messages of the downlink, and shows these.
+    Segments(Reading),
 }
 
 fn is_argument(word: &str) -> bool
@@ -83,6 +85,22 @@ fn rule_words<'a>(command: &str, words: &'a [String]) -> Option<RuleWords<'a>>
     }
 }
 
+/// The reading that the words `COMMAND READING` name, where these are such words.
+fn reading_words(command: &str, words: &[String]) -> Option<Reading>
+    ensures names { IfSome result (λ reading. NamesReading command.now (map string_bytes words.now) reading) }
+    ensures none { (reading : Reading) → NamesReading command.now (map string_bytes words.now) reading → IsSome result }
+{
+    let [first, reading] = words else {
+        return None;
+    };
+    let reading = reading_of(reading.as_str())?;
+    if first.as_str() == command {
+        Some(reading)
+    } else {
+        None
+    }
+}
+
 fn is_migrate(words: &[String]) -> bool
     ensures { IsTrue result ↔ IsMigrate (map string_bytes words.now) }
 {
@@ -99,6 +117,9 @@ pub fn command_of(words: &[String]) -> Option<Command<'_>>
 {
     if is_migrate(words) {
         return Some(Command::Migrate);
+    }
+    if let Some(reading) = reading_words("segments", words) {
+        return Some(Command::Segments(reading));
     }
     if let Some(rule) = rule_words("check", words) {
         return Some(Command::Check(rule));

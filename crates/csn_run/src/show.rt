@@ -6,7 +6,7 @@ ghost use Rattle.csn_treetext.specs.Fits.{Fits};
 ghost use Rattle.csn_run.specs.declared.command.RuleCommand.{RuleCommand};
 ghost use Rattle.csn_run.specs.declared.lines.TheConstants.{MOST_INPUT};
 ghost use Rattle.csn_run.specs.Lines.{is_refusal, is_refused};
-ghost use Rattle.csn_run.specs.OutLine.{AnswersBy, IsRefusalOf, fault_text, refusal_text};
+ghost use Rattle.csn_run.specs.OutLine.{AnswersBy, IsRefusalOf, ShowsBlockBy, fault_text, refusal_text};
 
 use crate::answers::{answer_tree, push_number};
 use crate::command::TreeForm;
@@ -47,7 +47,7 @@ fn answer_no_tree(fault: DecodeFault, bits: &Bits, out: &mut Vec<u8>) -> Result<
 
 /// Writes the answer to a line that is no block line: the number of its fault, and what the fault
 /// tells.
-fn answer_fault(fault: BitsFault, out: &mut Vec<u8>) -> Result<(), AllocError>
+pub(crate) fn answer_fault(fault: BitsFault, out: &mut Vec<u8>) -> Result<(), AllocError>
     ensures ok { OnOk result (out.new.items ≡ out.old.items ++ fault_text fault) }
     ensures memory { fault ≡ BitsFault.NoMemory → IsErr result }
     ensures err { OnErr result ((tail : List ℕ) × (out.new.items ≡ out.old.items ++ tail)) }
@@ -90,6 +90,31 @@ fn decode<L: Ledger>(
     }
 }
 
+/// Answers a block by its tree, in a form.
+pub fn show_block(
+    alloc: Global,
+    plan: &Plan,
+    form: TreeForm,
+    bits: &Bits,
+    out: &mut Vec<u8>,
+) -> Result<Answered, AllocError>
+    ensures ok { IfOk result (λ answered. (answer : List ℕ) × (out.new.items ≡ out.old.items ++ answer)
+        × ShowsBlockBy form plan.now bits.now answer × (is_refused answered ≡ is_refusal answer)) }
+    ensures err { OnErr result ((tail : List ℕ) × (out.new.items ≡ out.old.items ++ tail)) }
+{
+    known();
+    match decode::<Brand>(alloc, plan, bits, Blank::new(1)) {
+        Ok(tree) => {
+            answer_tree(alloc, form, &tree, out)?;
+            Ok(Answered::Given)
+        }
+        Err(fault) => {
+            answer_no_tree(fault, bits, out)?;
+            Ok(Answered::Refused)
+        }
+    }
+}
+
 /// Answers a line by the tree of its block, in a form.
 pub fn show_line(
     alloc: Global,
@@ -103,7 +128,6 @@ pub fn show_line(
         × AnswersBy (RuleCommand.Show form) plan.now line.now answer × (is_refused answered ≡ is_refusal answer)) }
     ensures err { OnErr result ((tail : List ℕ) × (out.new.items ≡ out.old.items ++ tail)) }
 {
-    known();
     let bits = match Bits::from_hex_line(alloc, line) {
         Ok(bits) => bits,
         Err(fault) => {
@@ -111,14 +135,5 @@ pub fn show_line(
             return Ok(Answered::Refused);
         }
     };
-    match decode::<Brand>(alloc, plan, &bits, Blank::new(1)) {
-        Ok(tree) => {
-            answer_tree(alloc, form, &tree, out)?;
-            Ok(Answered::Given)
-        }
-        Err(fault) => {
-            answer_no_tree(fault, &bits, out)?;
-            Ok(Answered::Refused)
-        }
-    }
+    show_block(alloc, plan, form, &bits, out)
 }

@@ -47,4 +47,5 @@ returns c =
         one_misfit = c.first_misfit_is_one.ensures;
         fit_or_miss = c.trees_fit_or_miss.ensures.some;
       };
+      of_messages = c.messages_are_short.ensures;
     }
