@@ -1,4 +1,4 @@
-use Rattle.std.proofs.Common.{◌≡◌, ◌+◌, ◌*◌, ap, sym, ◌∙◌, arith, length, slice_index}
+use Rattle.std.proofs.Common.{ap, ◌∙◌, arith, length, slice_index}
 use Rattle.csn_bits.specs.Numbers.{low_bits}
 use Rattle.csn_encode.proofs.PackedFacts.{packed_length, bit_of_whole, bit_of_last}
 use Rattle.csn_encode.proofs.packed.PackedBits.get.Goals as goal
