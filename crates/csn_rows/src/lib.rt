@@ -14,15 +14,9 @@ use std::alloc::{AllocError, Global};
 use std::collections::BTreeMap;
 
 #[cfg(test)]
-mod descriptions;
-#[cfg(test)]
-mod judged;
-#[cfg(test)]
 mod shown;
 #[cfg(test)]
 mod tests;
-#[cfg(test)]
-mod texts;
 #[cfg(test)]
 mod written;
 
