@@ -16,17 +16,11 @@ use std::collections::BTreeMap;
 #[cfg(test)]
 mod as_json;
 #[cfg(test)]
-mod descriptions;
-#[cfg(test)]
-mod judged;
-#[cfg(test)]
 mod segmented;
 #[cfg(test)]
 mod shown;
 #[cfg(test)]
 mod tests;
-#[cfg(test)]
-mod texts;
 #[cfg(test)]
 mod written;
 

@@ -1,4 +1,4 @@
-use Rattle.csn_rows.proofs.judged.line_of.Given as goal
+use Rattle.csn_blocks.proofs.judged.line_of.Given as goal
 
 -- the steps are counted on a ledger of their own
 abbrev pub ghosts-line_with : goal.ghosts-line_with

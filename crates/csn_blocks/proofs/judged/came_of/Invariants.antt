@@ -1,4 +1,4 @@
-use Rattle.csn_rows.proofs.judged.came_of.Given as goal
+use Rattle.csn_blocks.proofs.judged.came_of.Given as goal
 
 -- the steps are counted on a ledger of their own
 abbrev pub ghosts-came_with : goal.ghosts-came_with

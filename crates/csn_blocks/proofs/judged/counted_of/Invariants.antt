@@ -1,4 +1,4 @@
-use Rattle.csn_rows.proofs.judged.counted_of.Given as goal
+use Rattle.csn_blocks.proofs.judged.counted_of.Given as goal
 
 -- the steps are counted on a ledger of their own
 abbrev pub ghosts-counted_with : goal.ghosts-counted_with

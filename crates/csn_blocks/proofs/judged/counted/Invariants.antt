@@ -1,6 +1,6 @@
 use Rattle.std.proofs.Common.{◌≡◌, ◌≤◌, ◌+◌, ◌*◌, None}
 use Rattle.csn_judge.specs.Judging.{credit}
-use Rattle.csn_rows.proofs.judged.counted.Given as goal
+use Rattle.csn_blocks.proofs.judged.counted.Given as goal
 
 abbrev pub invariant-loop-octet : goal.invariant-loop-octet
 invariant-loop-octet g l = record {
