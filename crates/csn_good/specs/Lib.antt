@@ -1,0 +1,4 @@
+pub mod ClaimedSets
+pub mod Patterns
+pub mod Good
+pub mod Laws
