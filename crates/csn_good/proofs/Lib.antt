@@ -1,3 +1,6 @@
+pub mod Digits
+pub mod EndsTold
+pub mod Powers
 pub mod Denoting
 pub mod Denoted
 pub mod Holding

@@ -1,4 +1,9 @@
 //! Whether a certificate is good for a description, and so leaves at most one tree to any bits.
 #![tactic(auto)]
 
+mod claims;
+mod ending;
 pub mod laws;
+mod octets;
+mod sets;
+mod tail;
