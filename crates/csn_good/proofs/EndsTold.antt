@@ -33,12 +33,12 @@ unset [] = 0
 unset (true ∷ has) = unset has
 unset (false ∷ has) = suc (unset has)
 
-pub unset-set : (has : List Bool) (k : ℕ) → k < length has → has_octet has k ≡ false → unset (slice_set has k true) < unset has
-unset-set [] k less is = absurd (omega arith)
-unset-set (true ∷ has) zero less is = absurd (cc)
-unset-set (false ∷ has) zero less is = omega arith
-unset-set (true ∷ has) (suc k) less is = unset-set has k (omega arith) is
-unset-set (false ∷ has) (suc k) less is = let later = unset-set has k (omega arith) is in omega arith
+pub unset-set : (has : List Bool) (k : ℕ) → has_octet has k ≡ false → IsTrue (has_octet (slice_set has k true) k) → unset (slice_set has k true) < unset has
+unset-set [] k is there = absurd (cc)
+unset-set (true ∷ has) zero is there = absurd (cc)
+unset-set (false ∷ has) zero is there = omega arith
+unset-set (true ∷ has) (suc k) is there = unset-set has k is there
+unset-set (false ∷ has) (suc k) is there = let later = unset-set has k is there in omega arith
 
 -- ---- claims of a certificate
 

@@ -43,7 +43,7 @@ fn width(desc: &Desc, i: u16) -> Option<u64>
 /// Where so many units of bits end that begin at an octet position.
 fn end_of_units(octet: u8, unit: u8, n: u64) -> u8
     requires octet { octet ≤ 7 }
-    requires few { n ≤ 4294967296 }
+    requires few { n ≤ 8589934592 }
     ensures { result ≡ (octet + unit * n) % 8 }
 {
     ((octet as u64 + unit as u64 * n) % 8) as u8

@@ -1,7 +1,7 @@
 //! The rules of the first three sets: a node has what its equation makes of the sets of its parts.
 
 ghost use Rattle.std.specs.Prelude.{◌≡◌, ◌∷◌, ◌<◌, ◌≤◌, ◌↔◌, ℕ, [], length, slice_get, IsTrue, Some};
-ghost use Rattle.csn_desc.specs.Nodes.{parts_of};
+ghost use Rattle.csn_desc.specs.Nodes.{DescV, parts_of};
 ghost use Rattle.csn_desc.specs.Spelled.{symbol_bit, IsSpare};
 ghost use Rattle.csn_cert.specs.CertificateV.{IsCertificate};
 ghost use Rattle.csn_claims.specs.Nullable.{NodeNullable, AllNullable};
@@ -85,7 +85,7 @@ fn is_nullable(c: &Certificate, node: &Node) -> bool
 pub(crate) fn keeps_nullable(c: &Certificate, i: u16, node: &Node) -> bool
     requires node { i < length c.now }
     requires parts { PartsWithin (parts_of node.now) (length c.now) }
-    ensures { IsTrue result ↔ KeepsNullable c.now i node.now }
+    ensures { (d : DescV) → IsTrue result ↔ KeepsNullable d c.now i node.now }
 {
     nullable(c, i) || !is_nullable(c, node)
 }
