@@ -1,6 +1,7 @@
 -- Where parts may end, one after another, as sets of octet positions tell it.
 use Rattle.std.proofs.Common.{◌≡◌, ℕ, zero, suc, ◌+◌, ◌-◌, ◌<◌, ◌≤◌, ◌⊎◌, ◌↔◌, inl, inr, Bool, true, false, List, [], ◌∷◌, length, drop, refl, sym, ◌∙◌, ap, subst, arith, Option, Some, None, slice_get}
 use Rattle.std.specs.Prelude.{IsTrue, slice_set}
+use Rattle.std.proofs.lemmas.Bool.Decides.{eqb_tells}
 use Rattle.csn_cert.specs.CertificateV.{NodeV, PositionV}
 use Rattle.csn_cert.specs.Growing.{claimed}
 use Rattle.csn_claims.specs.Claims.{Claims}
@@ -51,6 +52,25 @@ ends_small c i o end holds = ends_small_at (claimed c i o) end holds
 
 abbrev pub AreSmall : Claims → Type 0
 AreSmall claims = (i o end : ℕ) → IsTrue (claims.ends i o end) → end ≤ 7
+
+-- octet positions that are collected one by one
+pub collected : (s t : List Bool) (P : ℕ → Type 0) (k : ℕ) → OctetsAre s (λ o. P o × (o < k)) → OctetsAre t (λ o. IsTrue (has_octet s o) ⊎ (o ≡ k)) → P k → OctetsAre t (λ o. P o × (o < k + 1))
+collected s t P k are more here o low = (
+  (λ h. elim ((more o low).0 h) [
+    | inl old ↦ let f = (are o low).0 old in let less = f.1 in (f.0, omega arith)
+    | inr same ↦ (subst P (sym same) here, omega arith)
+  ]),
+  (λ (h, less). (more o low).1 (elim (eqb_tells o k) [ inl same ↦ inr same.1 | inr apart ↦ let differ = apart.1 in inl ((are o low).1 (h, omega arith)) ])),
+)
+
+pub passed : (s : List Bool) (P : ℕ → Type 0) (k : ℕ) → OctetsAre s (λ o. P o × (o < k)) → (P k → ⊥) → OctetsAre s (λ o. P o × (o < k + 1))
+passed s P k are not_here o low = (
+  (λ h. let f = (are o low).0 h in let less = f.1 in (f.0, omega arith)),
+  (λ (h, less). elim (eqb_tells o k) [ inl same ↦ absurd (not_here (subst P same.1 h)) | inr apart ↦ let differ = apart.1 in (are o low).1 (h, omega arith) ]),
+)
+
+pub all_collected : (s : List Bool) (P : ℕ → Type 0) (k : ℕ) → 8 ≤ k → OctetsAre s (λ o. P o × (o < k)) → OctetsAre s P
+all_collected s P k long are o low = ((λ h. ((are o low).0 h).0), (λ h. (are o low).1 (h, omega arith)))
 
 module _ (claims : Claims) where
   -- the octet positions to which node i leads from these

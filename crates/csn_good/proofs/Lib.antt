@@ -3,5 +3,8 @@ pub mod EndsTold
 pub mod Arms
 pub mod Powers
 pub mod Denoting
+pub mod Tailing
+pub mod SetArms
+pub mod ReachArms
 pub mod Denoted
 pub mod Holding

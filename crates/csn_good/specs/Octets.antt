@@ -45,3 +45,8 @@ pub record SomeEnds (claims : Claims) (parts : List ℕ) (o p : ℕ) : Type 0 wh
 abbrev pub TurnsEnd : Claims → Count → ℕ → ℕ → ℕ → Type 0
 TurnsEnd claims (Fixed n) i o p = TimesEnd claims n i o p
 TurnsEnd claims (Counted m field c) i o p = ManyEnd claims i o p
+
+-- a turn of a repetition by number may begin there
+abbrev pub TurnBegins : Claims → Count → ℕ → ℕ → ℕ → Type 0
+TurnBegins claims (Fixed n) i o p = EndsFewer claims n i o p
+TurnBegins claims (Counted m field c) i o p = ManyEnd claims i o p

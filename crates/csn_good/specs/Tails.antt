@@ -17,7 +17,8 @@ pub record TailIs (claims : Claims) (tail : Tail) (parts : List ℕ) : Type 0 wh
   pub starts : (o bit : ℕ) → o ≤ 7 → bit ≤ 1 → IsTrue (tail_has tail o bit) ↔ PartsStart claims parts o bit
 
 -- part i, or they where it has no bits, may begin with the bit
-abbrev pub StartsBehind : Claims → Tail → ℕ → ℕ → ℕ → Type 0
-StartsBehind claims tail i o bit =
-    IsTrue (claims.starts i o bit)
-    ⊎ (IsTrue (claims.nullable i) × ((end : ℕ) × (end ≤ 7) × IsTrue (claims.ends i o end) × IsTrue (tail_has tail end bit)))
+pub data StartsBehind (claims : Claims) (tail : Tail) (i o bit : ℕ) : Type 0 where
+  behind_own : IsTrue (claims.starts i o bit) → StartsBehind claims tail i o bit
+  behind_later :
+      IsTrue (claims.nullable i) → (end : ℕ) → end ≤ 7 → IsTrue (claims.ends i o end) → IsTrue (tail_has tail end bit)
+      → StartsBehind claims tail i o bit

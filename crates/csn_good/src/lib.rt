@@ -5,5 +5,6 @@ mod claims;
 mod ending;
 pub mod laws;
 mod octets;
+mod reaching;
 mod sets;
 mod tail;

@@ -68,7 +68,10 @@ impl Tail {
         requires bit { bit ≤ 1 }
         ensures { IsTrue result ↔ StartsBehind (claims_of c.now) self.now i octet bit }
     {
-        starts_with(c, i, octet, bit) || nullable(c, i) && self.starts_later(c, i, octet, bit)
+        if starts_with(c, i, octet, bit) {
+            return true;
+        }
+        nullable(c, i) && self.starts_later(c, i, octet, bit)
     }
 
     /// The octet positions at which they do.
