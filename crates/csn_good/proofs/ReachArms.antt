@@ -13,6 +13,7 @@ use Rattle.csn_claims.specs.Reached.{PartReached, reached_seq, reached_trunc, re
 use Rattle.csn_claims.proofs.Reaching.{cuts}
 use Rattle.csn_good.specs.Octets.{has_octet, OctetsAre, OfSome, EndsFewer, TurnBegins}
 use Rattle.csn_good.specs.Told.{PartsReach, EachReached, OrderReached}
+use Rattle.csn_good.proofs.SetArms.{many_small, times_small}
 use Rattle.csn_good.proofs.EndsTold.{AreSmall, LeadsOn, drop_part, drop_over}
 
 -- the place of a part that stands between others
@@ -29,9 +30,9 @@ one_part [] after is = cc
 one_part (x ∷ []) after is = absurd (cc)
 one_part (x ∷ (y ∷ before)) after is = absurd (cc)
 
-no_part : {i : ℕ} (before after : List ℕ) → [] ≡ before ++ i ∷ after → ⊥
-no_part [] after is = cc
-no_part (x ∷ before) after is = cc
+no_part : (i : ℕ) (before after : List ℕ) → [] ≡ before ++ i ∷ after → ⊥
+no_part i [] after is = cc
+no_part i (x ∷ before) after is = cc
 
 module _ (claims : Claims) where
   pub record OrderCarried (parts : List ℕ) (at : ℕ) (from here : List Bool) : Type 0 where
@@ -42,24 +43,24 @@ module _ (claims : Claims) where
   abbrev pub HasAll : ℕ → List Bool → Type 0
   HasAll i here = (o : ℕ) → o ≤ 7 → IsTrue (has_octet here o) → IsTrue (claims.reached i o)
 
-  order_first : {i : ℕ} {rest : List ℕ} {here : List Bool} → OrderReached claims here (i ∷ rest) → HasAll i here
-  order_first {i} {rest} h o low there = h i o o [] rest refl low there (parts_end refl)
+  order_first : (i : ℕ) (rest : List ℕ) (here : List Bool) → OrderReached claims here (i ∷ rest) → HasAll i here
+  order_first i rest here h o low there = h i o o [] rest refl low there (parts_end refl)
 
   module _ (small : AreSmall claims) where
-    order_rest : {i : ℕ} {rest : List ℕ} {here next : List Bool} → LeadsOn claims i here next → OrderReached claims here (i ∷ rest) → OrderReached claims next rest
-    order_rest {i} leads h j from o before after is low there e =
+    order_rest : (i : ℕ) (rest : List ℕ) (here next : List Bool) → LeadsOn claims i here next → OrderReached claims here (i ∷ rest) → OrderReached claims next rest
+    order_rest i rest here next leads h j from o before after is low there e =
         let old = (leads from low).0 there in
         h j old.octet o (i ∷ before) after (ap (λ l. i ∷ l) is) old.small old.there (parts_next from old.fact e)
 
-    order_both : {i : ℕ} {rest : List ℕ} {here next : List Bool} → LeadsOn claims i here next → HasAll i here → OrderReached claims next rest → OrderReached claims here (i ∷ rest)
-    order_both {i} leads all h j from o [] after is low there e =
+    order_both : (i : ℕ) (rest : List ℕ) (here next : List Bool) → LeadsOn claims i here next → HasAll i here → OrderReached claims next rest → OrderReached claims here (i ∷ rest)
+    order_both i rest here next leads all h j from o [] after is low there e =
         let part : j ≡ i = cc in
         let begin = only_none e in
         subst (λ p. IsTrue (claims.reached p o)) (sym part) (subst (λ q. IsTrue (claims.reached i q)) (sym begin) (all from low there))
       where
         only_none : {a b : ℕ} → PartsEnd claims [] a b → b ≡ a
         only_none (parts_end same) = same
-    order_both {i} leads all h j from o (x ∷ before) after is low there (parts_next m ends others) =
+    order_both i rest here next leads all h j from o (x ∷ before) after is low there (parts_next m ends others) =
         let part : x ≡ i = cc in
         let later = ap (drop 1) is in
         let short = small x from m ends in
@@ -70,19 +71,19 @@ module _ (claims : Claims) where
     order_on parts at i from here next is leads all inv =
         let same = drop_part parts at i is in
         record {
-          to = λ h. order_rest leads (subst (OrderReached claims here) same (inv.to h));
-          back = λ h. inv.back (subst (OrderReached claims here) (sym same) (order_both leads all h));
+          to = λ h. order_rest i (drop (at + 1) parts) here next leads (subst (OrderReached claims here) same (inv.to h));
+          back = λ h. inv.back (subst (OrderReached claims here) (sym same) (order_both i (drop (at + 1) parts) here next leads all h));
         }
 
   pub order_begin : (parts : List ℕ) (from : List Bool) → OrderCarried parts 0 from from
   order_begin parts from = record { to = λ h. h; back = λ h. h }
 
   pub order_not : (parts : List ℕ) (at i : ℕ) (from here : List Bool) → slice_get parts at ≡ Some i → OrderCarried parts at from here → OrderReached claims from parts → HasAll i here
-  order_not parts at i from here is inv h = order_first (subst (OrderReached claims here) (drop_part parts at i is) (inv.to h))
+  order_not parts at i from here is inv h = order_first i (drop (at + 1) parts) here (subst (OrderReached claims here) (drop_part parts at i is) (inv.to h))
 
   pub order_done : (parts : List ℕ) (at : ℕ) (from here : List Bool) → length parts ≤ at → OrderCarried parts at from here → OrderReached claims from parts
   order_done parts at from here long inv =
-      inv.back (subst (OrderReached claims here) (sym (drop_over parts at long)) (λ j f o before after is low there e. absurd (no_part before after is)))
+      inv.back (subst (OrderReached claims here) (sym (drop_over parts at long)) (λ j f o before after is low there e. absurd (no_part j before after is)))
 
   -- ---- nodes
 
@@ -91,7 +92,7 @@ module _ (claims : Claims) where
     there_of o h = (are o (low o h)).1 h
 
     pub no_parts : (n : Node) → parts_of n ≡ [] → PartsReach claims k n
-    no_parts n none i from o before after is h r = absurd (no_part before after (sym none ∙ is))
+    no_parts n none i from o before after is h r = absurd (no_part i before after (sym none ∙ is))
 
     of_seq : {parts before : List ℕ} {i from o : ℕ} → PartReached claims (Seq parts) before i from o → PartsEnd claims before from o
     of_seq (reached_seq h) = h
@@ -143,7 +144,7 @@ module _ (claims : Claims) where
           subst (λ q. IsTrue (claims.reached q o)) (sym one) (subst (λ q. IsTrue (claims.reached part q)) (sym (of_named r)) (h from (low from reached) (there_of from reached)))),
     )
 
-    module _ (many_low : {i o p : ℕ} → o ≤ 7 → ManyEnd claims i o p → p ≤ 7) (times_low : {n i o p : ℕ} → o ≤ 7 → TimesEnd claims n i o p → p ≤ 7) where
+    module _ (small : AreSmall claims) where
       of_many : {part i from o : ℕ} {before : List ℕ} → PartReached claims (Many part) before i from o → ManyEnd claims i from o
       of_many (reached_many h) = h
 
@@ -154,7 +155,7 @@ module _ (claims : Claims) where
             let one = one_part before after is in
             let begin = low from reached in
             let e = subst (λ q. ManyEnd claims q from o) one (of_many r) in
-            let short = many_low begin e in
+            let short = many_small claims small begin e in
             subst (λ q. IsTrue (claims.reached q o)) (sym one) (h o short ((ends o short).1 (record { octet = from; small = begin; there = there_of from reached; fact = e })))),
       )
 
@@ -166,9 +167,9 @@ module _ (claims : Claims) where
       times_of (Fixed n) h = reached_times h.times h.less h.ends
       times_of (Counted m f c) h = reached_counted h
 
-      turn_low : {i o p : ℕ} (count : Count) → o ≤ 7 → TurnBegins claims count i o p → p ≤ 7
-      turn_low (Fixed n) begin h = times_low begin h.ends
-      turn_low (Counted m f c) begin h = many_low begin h
+      turn_low : (i o p : ℕ) (count : Count) → o ≤ 7 → TurnBegins claims count i o p → p ≤ 7
+      turn_low i o p (Fixed n) begin h = times_small claims small begin h.ends
+      turn_low i o p (Counted m f c) begin h = many_small claims small begin h
 
       pub times_parts : (count : Count) (part : ℕ) (turns : List Bool) → OctetsAre turns (λ p. OfSome begins (λ o. TurnBegins claims count part o p)) → PartsReach claims k (Times count part) ↔ HasAll part turns
       times_parts count part turns ends = (
@@ -177,6 +178,6 @@ module _ (claims : Claims) where
             let one = one_part before after is in
             let begin = low from reached in
             let e = subst (λ q. TurnBegins claims count q from o) one (of_times count r) in
-            let short = turn_low count begin e in
+            let short = turn_low part from o count begin e in
             subst (λ q. IsTrue (claims.reached q o)) (sym one) (h o short ((ends o short).1 (record { octet = from; small = begin; there = there_of from reached; fact = e })))),
       )

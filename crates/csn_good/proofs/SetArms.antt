@@ -57,7 +57,7 @@ starts_small c i o bit holds = start_one_at (claimed c i o) bit holds
 
 -- ---- the sets that equations make are octet positions and bits
 
-module _ (d : DescV) (claims : Claims) (small : AreSmall claims) where
+module _ (claims : Claims) (small : AreSmall claims) where
   parts_small : {parts : List ℕ} {o p : ℕ} → o ≤ 7 → PartsEnd claims parts o p → p ≤ 7
   parts_small low (parts_end same) = omega arith
   parts_small {o = o} low (parts_next {i = i} m e others) = parts_small (small i o m e) others
@@ -74,6 +74,7 @@ module _ (d : DescV) (claims : Claims) (small : AreSmall claims) where
   lead_small low (lead_end same) = omega arith
   lead_small {o = o} low (lead_next {i = i} m e others) = lead_small (small i o m e) others
 
+module _ (d : DescV) (claims : Claims) (small : AreSmall claims) where
   pub node_ends_small : {n : Node} {o p : ℕ} → o ≤ 7 → NodeEnds d claims n o p → p ≤ 7
   node_ends_small low (ends_lits is) = omega arith
   node_ends_small low (ends_spare is) = omega arith
@@ -82,12 +83,12 @@ module _ (d : DescV) (claims : Claims) (small : AreSmall claims) where
   node_ends_small low (ends_rest less) = omega arith
   node_ends_small low (ends_field n may is) = omega arith
   node_ends_small low (ends_window n may is) = omega arith
-  node_ends_small low (ends_seq h) = parts_small low h
+  node_ends_small low (ends_seq h) = parts_small claims small low h
   node_ends_small {o = o} {p = p} low (ends_choice {i = i} j at h) = small i o p h
-  node_ends_small low (ends_times h) = times_small low h
-  node_ends_small low (ends_counted h) = many_small low h
-  node_ends_small low (ends_many h) = many_small low h
-  node_ends_small low (ends_trunc h) = lead_small low h
+  node_ends_small low (ends_times h) = times_small claims small low h
+  node_ends_small low (ends_counted h) = many_small claims small low h
+  node_ends_small low (ends_many h) = many_small claims small low h
+  node_ends_small low (ends_trunc h) = lead_small claims small low h
   node_ends_small {o = o} {p = p} low (ends_named {i = i} h) = small i o p h
 
 spare_one : (reading : Reading) (s : Symbol) (o bit : ℕ) → IsSpare reading s o (bit ∷ []) → bit ≤ 1
