@@ -6,5 +6,6 @@ pub mod Denoting
 pub mod Tailing
 pub mod SetArms
 pub mod ReachArms
+pub mod FollowArms
 pub mod Denoted
 pub mod Holding

@@ -25,12 +25,12 @@ pub part_at : {parts : List ℕ} (before : List ℕ) (i : ℕ) (after : List ℕ
 part_at before i after is = ap (λ l. slice_get l (length before)) is ∙ place_of before i after
 
 -- a list of one
-one_part : {p i : ℕ} (before after : List ℕ) → p ∷ [] ≡ before ++ i ∷ after → i ≡ p
+pub one_part : {p i : ℕ} (before after : List ℕ) → p ∷ [] ≡ before ++ i ∷ after → i ≡ p
 one_part [] after is = cc
 one_part (x ∷ []) after is = absurd (cc)
 one_part (x ∷ (y ∷ before)) after is = absurd (cc)
 
-no_part : (i : ℕ) (before after : List ℕ) → [] ≡ before ++ i ∷ after → ⊥
+pub no_part : (i : ℕ) (before after : List ℕ) → [] ≡ before ++ i ∷ after → ⊥
 no_part i [] after is = cc
 no_part i (x ∷ before) after is = cc
 

@@ -3,6 +3,7 @@
 
 ghost use Rattle.std.specs.Prelude.{◌≡◌, ◌+◌, ◌*◌, ◌<◌, ◌≤◌, ◌↔◌, ℕ, length, slice_get, IfSome, IsTrue, Some, None};
 ghost use Rattle.csn_good.specs.ClaimedSets.{has_digit, claims_of};
+ghost use Rattle.csn_good.specs.Signs.{sign_of};
 
 use csn_cert::Certificate;
 
@@ -74,4 +75,18 @@ pub(crate) fn nullable(c: &Certificate, i: u16) -> bool
     ensures { result ≡ (claims_of c.now).nullable i }
 {
     c.nullable(i)
+}
+
+/// Whether a sign is claimed to follow node `i` where it ends at the octet position: 0, 1, or 2 for the end.
+pub(crate) fn follows(c: &Certificate, i: u16, octet: u8, sign: u8) -> bool
+    requires node { i < length c.now }
+    requires octet { octet ≤ 7 }
+    requires sign { sign ≤ 2 }
+    ensures { result ≡ (claims_of c.now).follow i octet (sign_of sign) }
+{
+    if sign == 2 {
+        followed_by_end(c, i, octet)
+    } else {
+        followed_by(c, i, octet, sign)
+    }
 }

@@ -3,6 +3,7 @@
 
 mod claims;
 mod ending;
+mod following;
 pub mod laws;
 mod octets;
 mod reaching;
