@@ -158,11 +158,12 @@ module _ (claims : Claims) where
 
     pub parts_done : (parts : List ℕ) (at : ℕ) (from here : List Bool) → length parts ≤ at → InParts parts at from here → OctetsAre here (λ p. OfSome from (λ o. PartsEnd claims parts o p))
     parts_done parts at from here long inv p low =
-        let none = drop_over parts at long in
-        (λ there. inv.back p (record { octet = p; small = low; there = there; fact = subst (λ l. PartsEnd claims l p p) (sym none) (parts_end refl) }),
-         λ h. let old = inv.to p h in
-             let same = parts_over (subst (λ l. PartsEnd claims l old.octet p) none old.fact) in
-             subst (λ q. IsTrue (has_octet here q)) (sym same) old.there)
+        let none = drop_over parts at long in (
+          λ there. inv.back p (record { octet = p; small = low; there = there; fact = subst (λ l. PartsEnd claims l p p) (sym none) (parts_end refl) }),
+          λ h. let old = inv.to p h in
+              let same = parts_over (subst (λ l. PartsEnd claims l old.octet p) none old.fact) in
+              subst (λ q. IsTrue (has_octet here q)) (sym same) old.there,
+        )
 
     -- ---- the first few
 
@@ -198,14 +199,15 @@ module _ (claims : Claims) where
 
     pub lead_done : (parts : List ℕ) (at : ℕ) (from here ends : List Bool) → length parts ≤ at → Leading parts at from here ends → OctetsAre ends (λ p. OfSome from (λ o. LeadEnd claims parts o p))
     lead_done parts at from here ends long inv p low =
-        let none = drop_over parts at long in
-        (inv.back_ends p low,
-         λ h. elim (inv.to p low h) [
-           | inl there ↦ there
-           | inr old ↦
-               let same = lead_over (subst (λ l. LeadEnd claims l old.octet p) none old.fact) in
-               inv.within p low (subst (λ q. IsTrue (has_octet here q)) (sym same) old.there)
-         ])
+        let none = drop_over parts at long in (
+          inv.back_ends p low,
+          λ h. elim (inv.to p low h) [
+            | inl there ↦ there
+            | inr old ↦
+                let same = lead_over (subst (λ l. LeadEnd claims l old.octet p) none old.fact) in
+                inv.within p low (subst (λ q. IsTrue (has_octet here q)) (sym same) old.there)
+          ],
+        )
 
     -- ---- a number of times
 
@@ -229,11 +231,12 @@ module _ (claims : Claims) where
         }
 
     pub times_done : (i n left : ℕ) (from here : List Bool) → left ≡ 0 → Going i n left from here → OctetsAre here (λ p. OfSome from (λ o. TimesEnd claims n i o p))
-    times_done i n left from here none inv p low =
-        (λ there. inv.back p (record { octet = p; small = low; there = there; fact = times_end none refl }),
-         λ h. let old = inv.to p h in
-             let same = times_over none old.fact in
-             subst (λ q. IsTrue (has_octet here q)) (sym same) old.there)
+    times_done i n left from here none inv p low = (
+      λ there. inv.back p (record { octet = p; small = low; there = there; fact = times_end none refl }),
+      λ h. let old = inv.to p h in
+          let same = times_over none old.fact in
+          subst (λ q. IsTrue (has_octet here q)) (sym same) old.there,
+    )
 
     pub fewer_begin : (i n left : ℕ) (from none : List Bool) → left ≡ n → OctetsAre none (λ o. ⊥) → GoingFewer i n left from from none
     fewer_begin i n left from none is empty =
@@ -270,9 +273,10 @@ module _ (claims : Claims) where
         }
 
     pub fewer_done : (i n left : ℕ) (from here ends : List Bool) → left ≡ 0 → GoingFewer i n left from here ends → OctetsAre ends (λ p. OfSome from (λ o. EndsFewer claims n i o p))
-    fewer_done i n left from here ends none inv p low =
-        (inv.back_ends p low,
-         λ h. elim (inv.to p low h) [ inl there ↦ there | inr old ↦ (let l = old.fact.less in absurd (omega arith)) ])
+    fewer_done i n left from here ends none inv p low = (
+      inv.back_ends p low,
+      λ h. elim (inv.to p low h) [ inl there ↦ there | inr old ↦ (let l = old.fact.less in absurd (omega arith)) ],
+    )
 
     -- ---- any number of times
 
@@ -300,9 +304,10 @@ module _ (claims : Claims) where
         closed_many i ends closed short (closed m short (record { octet = o; small = low; there = there; fact = e })) others
 
     pub many_done : (i : ℕ) (from ends : List Bool) → ((e : ℕ) → e ≤ 7 → OfSome ends (λ o. IsTrue (claims.ends i o e)) → IsTrue (has_octet ends e)) → Growing i from ends → OctetsAre ends (λ p. OfSome from (λ o. ManyEnd claims i o p))
-    many_done i from ends closed inv p low =
-        (inv.sound p low,
-         λ h. closed_many i ends closed h.small (inv.within h.octet h.small h.there) h.fact)
+    many_done i from ends closed inv p low = (
+      inv.sound p low,
+      λ h. closed_many i ends closed h.small (inv.within h.octet h.small h.there) h.fact,
+    )
 
 -- a fact of all the parts is one of those from the place on
 pub record Carried (P : List ℕ → Type 0) (parts : List ℕ) (at : ℕ) : Type 0 where

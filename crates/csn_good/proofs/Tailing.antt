@@ -79,9 +79,10 @@ module _ (claims : Claims) where
     pub tail_behind : (tail new : Tail) (parts : List ℕ) (i : ℕ) → new.nullable ≡ (tail.nullable && claims.nullable i) → OctetsAre new.zero.has (λ o. StartsBehind claims tail i o 0) → OctetsAre new.one.has (λ o. StartsBehind claims tail i o 1) → TailIs claims tail parts → TailIs claims new (i ∷ parts)
     tail_behind tail new parts i is zeros ones old =
         record {
-          nullable =
-              ((λ h. let both = both_true tail.nullable (claims.nullable i) (sym is ∙ h) in all_next both.1 (old.nullable.0 both.0)),
-               (λ h. let both = all_split h in is ∙ and_both tail.nullable (claims.nullable i) (old.nullable.1 both.1) both.0));
+          nullable = (
+            (λ h. let both = both_true tail.nullable (claims.nullable i) (sym is ∙ h) in all_next both.1 (old.nullable.0 both.0)),
+            (λ h. let both = all_split h in is ∙ and_both tail.nullable (claims.nullable i) (old.nullable.1 both.1) both.0),
+          );
           starts = λ o bit low one. by_bit o bit low one;
         }
       where

@@ -12,10 +12,11 @@ loop-at-init c =
     (tail_none (claims_of c.args.c.now) c.none-tail.result c.none-tail.ensures.nullable c.none-tail.ensures.zero c.none-tail.ensures.one)
 
 pub returns-then-not-has_wanted : goal.returns-then-not-has_wanted
-returns-then-not-has_wanted c =
-    ((λ h. absurd (cc)),
-     (λ h. let right = c.has_wanted.ensures.1 (order_not (claims_of c.args.c.now) (ends_small c.args.c.now) (starts_small c.args.c.now) (are_counted c.args.c.now) (reached_small c.args.c.now c.requires.certificate) (ends_reach c.args.c.now) c.args.k c.args.ends_early c.args.parts.now c.loop-at.at c.get-part.result c.loop-at.tail c.loop-at-test.true c.get-part.ensures c.loop-at.invariant h) in
-         let wrong = c.if-not-has_wanted.true in absurd (cc)))
+returns-then-not-has_wanted c = (
+  (λ h. absurd (cc)),
+  (λ h. let right = c.has_wanted.ensures.1 (order_not (claims_of c.args.c.now) (ends_small c.args.c.now) (starts_small c.args.c.now) (are_counted c.args.c.now) (reached_small c.args.c.now c.requires.certificate) (ends_reach c.args.c.now) c.args.k c.args.ends_early c.args.parts.now c.loop-at.at c.get-part.result c.loop-at.tail c.loop-at-test.true c.get-part.ensures c.loop-at.invariant h) in
+      let wrong = c.if-not-has_wanted.true in absurd (cc)),
+)
 
 pub loop-at-preserved : goal.loop-at-preserved
 loop-at-preserved c =
