@@ -5,5 +5,6 @@ pub mod Octets
 pub mod Signs
 pub mod Tails
 pub mod Wanted
+pub mod Apart
 pub mod Told
 pub mod Laws

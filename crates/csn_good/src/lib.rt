@@ -1,6 +1,7 @@
 //! Whether a certificate is good for a description, and so leaves at most one tree to any bits.
 #![tactic(auto)]
 
+mod apart;
 mod claims;
 mod ending;
 mod following;
