@@ -1,8 +1,7 @@
 -- A digit of a number, by division.
-use Rattle.std.proofs.Common.{◌≡◌, ℕ, zero, suc, ◌+◌, ◌-◌, ◌/◌, ◌%◌, ◌<◌, ◌≤◌, Bool, List, refl, sym, ◌∙◌, ap, arith}
-use Rattle.std.specs.Prelude.{◌^◌, ◌==◌, IsTrue, slice_get}
-use Rattle.csn_bits.specs.Numbers.{low_bits}
-use Rattle.csn_good.specs.ClaimedSets.{has_digit, is_one}
+use Rattle.std.proofs.Common.{◌≡◌, ℕ, zero, suc, ◌-◌, ◌/◌, ◌%◌, ◌<◌, sym, ◌∙◌, ap, arith}
+use Rattle.std.specs.Prelude.{◌^◌, ◌==◌, IsTrue}
+use Rattle.csn_good.specs.ClaimedSets.{has_digit}
 
 pub digit_is : (count number place : ℕ) → place < count → has_digit count number place ≡ (number / 2 ^ (count - 1 - place) % 2 == 1)
 digit_is zero number place less = absurd (omega arith)

@@ -1,30 +1,28 @@
 -- What is to stand behind the parts of a node, kind by kind.
 use Rattle.std.proofs.Common.{◌≡◌, ℕ, zero, suc, ◌+◌, ◌-◌, ◌<◌, ◌≤◌, ◌⊎◌, ◌↔◌, inl, inr, Bool, true, false, List, [], ◌∷◌, ◌++◌, length, take, drop, take-append-drop, refl, sym, ◌∙◌, ap, subst, arith, Option, Some, None, slice_get}
-use Rattle.std.specs.Prelude.{IsTrue, ◌&&◌, nat_le, is_some}
+use Rattle.std.specs.Prelude.{IsTrue, nat_le, is_some}
 use Rattle.std.specs.Prelude.{eqb, ◌≢◌}
 use Rattle.std.proofs.lemmas.Bool.Decides.{nat_tests, eqb_tells}
 use Rattle.std.proofs.lemmas.Option.{slice_get_within}
 use Rattle.csn_desc.specs.declared.node.Count.{Count}
 use Rattle.csn_desc.specs.declared.node.Node.{Node}
-use Rattle.csn_desc.specs.declared.node.Node.TheVariants.{Seq, Choice, Times, Many, Trunc, Window, Named}
+use Rattle.csn_desc.specs.declared.node.Node.TheVariants.{Choice, Times, Many, Window, Named}
 use Rattle.csn_desc.specs.Nodes.{parts_of}
 use Rattle.csn_cert.specs.CertificateV.{NodeV, PositionV}
 use Rattle.csn_cert.specs.Growing.{claimed}
 use Rattle.csn_claims.specs.Claims.{Claims}
-use Rattle.csn_claims.specs.Nullable.{AllNullable}
 use Rattle.csn_claims.specs.Starts.{PartsStart, starts_here, starts_later}
 use Rattle.csn_claims.specs.Reached.{PartFollow, follow_later, follow_seq, follow_kept, follow_trunc, follow_times_again, follow_times, follow_many_again, follow_many, follow_choice, follow_named, follow_window}
-use Rattle.csn_claims.proofs.Reaching.{cuts}
 use Rattle.csn_good.specs.declared.tail.Tail.{Tail}
 use Rattle.csn_good.specs.declared.following.Around.{Around}
 use Rattle.csn_good.specs.declared.following.Around.TheVariants.{Later, Again, Alone, Closed}
 use Rattle.csn_good.specs.ClaimedSets.{ends_at, followed_by, claims_of}
 use Rattle.csn_good.specs.Signs.{sign_of}
-use Rattle.csn_good.specs.Tails.{tail_has, TailIs}
+use Rattle.csn_good.specs.Tails.{TailIs}
 use Rattle.csn_good.specs.Wanted.{TailStarts, PartStarts, Wants, MayEnd, HasWanted, PartsHave, ordered}
 use Rattle.csn_good.proofs.Denoting.{both_true}
 use Rattle.csn_good.proofs.EndsTold.{AreSmall, drop_part}
-use Rattle.csn_good.proofs.Tailing.{last_none, last_more, tail_none}
+use Rattle.csn_good.proofs.Tailing.{last_none, last_more}
 use Rattle.csn_good.proofs.ReachArms.{part_at, one_part, no_part}
 
 reached_at : (p : Option PositionV) (end : ℕ) → IsTrue (ends_at p end) → IsTrue (is_some p)

@@ -1,17 +1,16 @@
 -- Where the parts of a node are to begin, by the sets of octet positions that are looked at.
-use Rattle.std.proofs.Common.{◌≡◌, ℕ, zero, suc, ◌+◌, ◌<◌, ◌≤◌, ◌↔◌, Bool, true, false, List, [], ◌∷◌, ◌++◌, length, drop, refl, sym, ◌∙◌, ap, subst, arith, Some, slice_get}
+use Rattle.std.proofs.Common.{◌≡◌, ℕ, ◌+◌, ◌≤◌, ◌↔◌, Bool, List, [], ◌∷◌, ◌++◌, length, drop, refl, sym, ◌∙◌, ap, subst, Some, slice_get}
 use Rattle.std.specs.Prelude.{IsTrue}
-use Rattle.csn_desc.specs.declared.symbol.Symbol.{Symbol}
 use Rattle.csn_desc.specs.declared.node.Count.{Count}
 use Rattle.csn_desc.specs.declared.node.Count.TheVariants.{Fixed, Counted}
 use Rattle.csn_desc.specs.declared.node.Node.{Node}
-use Rattle.csn_desc.specs.declared.node.Node.TheVariants.{Lits, Spare, Pad, Null, Field, Rest, Seq, Choice, Times, Many, Trunc, Window, Named}
+use Rattle.csn_desc.specs.declared.node.Node.TheVariants.{Seq, Choice, Times, Many, Trunc, Window, Named}
 use Rattle.csn_desc.specs.Nodes.{parts_of}
 use Rattle.csn_claims.specs.Claims.{Claims}
-use Rattle.csn_claims.specs.Ends.{PartsEnd, TimesEnd, ManyEnd, parts_end, parts_next}
+use Rattle.csn_claims.specs.Ends.{PartsEnd, ManyEnd, parts_end, parts_next}
 use Rattle.csn_claims.specs.Reached.{PartReached, reached_seq, reached_trunc, reached_choice, reached_window, reached_named, reached_times, reached_counted, reached_many}
 use Rattle.csn_claims.proofs.Reaching.{cuts}
-use Rattle.csn_good.specs.Octets.{has_octet, OctetsAre, OfSome, EndsFewer, TurnBegins}
+use Rattle.csn_good.specs.Octets.{has_octet, OctetsAre, OfSome, TurnBegins}
 use Rattle.csn_good.specs.Told.{PartsReach, EachReached, OrderReached}
 use Rattle.csn_good.proofs.SetArms.{many_small, times_small}
 use Rattle.csn_good.proofs.EndsTold.{AreSmall, LeadsOn, drop_part, drop_over}

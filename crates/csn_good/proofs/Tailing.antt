@@ -1,5 +1,5 @@
 -- What is known of the last parts, with one more before them.
-use Rattle.std.proofs.Common.{◌≡◌, ℕ, zero, suc, ◌+◌, ◌-◌, ◌<◌, ◌≤◌, ◌↔◌, Bool, true, false, List, [], ◌∷◌, length, drop, refl, sym, ◌∙◌, ap, subst, arith, Some, slice_get}
+use Rattle.std.proofs.Common.{◌≡◌, ℕ, zero, suc, ◌+◌, ◌-◌, ◌<◌, ◌≤◌, ◌↔◌, false, List, [], ◌∷◌, length, drop, refl, sym, ◌∙◌, ap, subst, arith, Some, slice_get}
 use Rattle.std.specs.Prelude.{IsTrue, ◌&&◌}
 use Rattle.std.proofs.Math.Seq.{drop-cons, drop-length}
 use Rattle.std.proofs.lemmas.Option.{slice_get_within, get_or_from_slice_get}
@@ -7,7 +7,7 @@ use Rattle.csn_claims.specs.Claims.{Claims}
 use Rattle.csn_claims.specs.Nullable.{AllNullable, all_end, all_next}
 use Rattle.csn_claims.specs.Starts.{PartsStart, starts_here, starts_later}
 use Rattle.csn_good.specs.declared.tail.Tail.{Tail}
-use Rattle.csn_good.specs.Octets.{has_octet, OctetsAre}
+use Rattle.csn_good.specs.Octets.{OctetsAre}
 use Rattle.csn_good.specs.Tails.{tail_has, TailIs, StartsBehind, behind_own, behind_later}
 use Rattle.csn_good.proofs.Denoting.{both_true, and_both}
 use Rattle.csn_good.proofs.EndsTold.{AreSmall, Carried, drop_part, drop_over}

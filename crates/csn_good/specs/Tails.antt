@@ -1,5 +1,5 @@
 -- What the private functions know of the last parts of a sequence or truncation. No public contract cites these words.
-use Rattle.std.specs.Prelude.{◌≡◌, ℕ, zero, suc, ◌==◌, ◌≤◌, ◌↔◌, ◌⊎◌, if◌then◌else◌, Bool, List, IsTrue}
+use Rattle.std.specs.Prelude.{ℕ, zero, suc, ◌≤◌, ◌↔◌, Bool, List, IsTrue}
 use Rattle.csn_claims.specs.Claims.{Claims}
 use Rattle.csn_claims.specs.Nullable.{AllNullable}
 use Rattle.csn_claims.specs.Starts.{PartsStart}

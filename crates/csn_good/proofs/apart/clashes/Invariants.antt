@@ -1,7 +1,6 @@
-use Rattle.std.proofs.Common.{◌≡◌, ◌<◌, ◌≤◌, ◌+◌, ℕ, IsTrue, Some, slice_get, []}
+use Rattle.std.proofs.Common.{◌<◌, ℕ, IsTrue}
 use Rattle.csn_good.specs.ClaimedSets.{claims_of}
-use Rattle.csn_good.specs.Octets.{has_octet}
-use Rattle.csn_good.specs.Apart.{HasEmpty, PartsMeet, ClashesAt}
+use Rattle.csn_good.specs.Apart.{ClashesAt}
 use Rattle.csn_good.proofs.apart.clashes.Given as goal
 
 abbrev pub invariant-loop-octet : goal.invariant-loop-octet

@@ -1,8 +1,5 @@
-use Rattle.std.proofs.Common.{◌≡◌, ◌<◌, ◌≤◌, ◌+◌, ℕ, IsTrue, Some, slice_get, []}
-use Rattle.csn_cert.specs.PatternV.{PatternV}
-use Rattle.csn_cert.specs.declared.pattern.Mark.{Mark}
-use Rattle.csn_good.specs.ClaimedSets.{claims_of, patterns_at}
-use Rattle.csn_good.specs.Apart.{MarksMeet, PatternsMeet, SomeMeets}
+use Rattle.std.proofs.Common.{◌<◌, ℕ, IsTrue, Some}
+use Rattle.csn_good.specs.ClaimedSets.{claims_of}
 use Rattle.csn_good.proofs.apart.clashes_at.Given as goal
 
 abbrev pub invariant-loop-bit : goal.invariant-loop-bit

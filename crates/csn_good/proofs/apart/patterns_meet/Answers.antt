@@ -1,7 +1,6 @@
-use Rattle.std.proofs.Common.{◌≡◌, ℕ, refl, inl, inr, sym, ap, subst, arith, Some, slice_get}
+use Rattle.std.proofs.Common.{◌≡◌, refl, inl, inr, sym, ap, subst, arith, slice_get}
 use Rattle.std.proofs.lemmas.Bool.Decides.{eqb_tells}
 use Rattle.std.proofs.lemmas.Option.{slice_get_within}
-use Rattle.csn_cert.specs.declared.pattern.Mark.{Mark}
 use Rattle.csn_good.specs.Apart.{MarksMeet}
 use Rattle.csn_good.proofs.apart.patterns_meet.Goals as goal
 use Rattle.csn_good.proofs.apart.patterns_meet.Goals.{else-at-len-via-then-at-len+else-not-marks_meet, else-at-len-via-else-at-len}

@@ -1,8 +1,6 @@
-use Rattle.std.proofs.Common.{◌≡◌, ◌<◌, ◌≤◌, ◌+◌, ℕ, IsTrue, Some, slice_get, []}
-use Rattle.csn_cert.specs.PatternV.{PatternV}
+use Rattle.std.proofs.Common.{◌≡◌, ◌<◌, ℕ, Some, slice_get}
 use Rattle.csn_cert.specs.declared.pattern.Mark.{Mark}
-use Rattle.csn_good.specs.ClaimedSets.{claims_of, patterns_at}
-use Rattle.csn_good.specs.Apart.{MarksMeet, PatternsMeet, SomeMeets}
+use Rattle.csn_good.specs.Apart.{MarksMeet}
 use Rattle.csn_good.proofs.apart.patterns_meet.Given as goal
 
 abbrev pub invariant-loop-at : goal.invariant-loop-at

@@ -1,8 +1,7 @@
-use Rattle.std.proofs.Common.{◌≡◌, ◌<◌, ◌≤◌, ◌+◌, ℕ, IsTrue, Some, slice_get, []}
+use Rattle.std.proofs.Common.{◌≡◌, ◌<◌, ℕ, Some, slice_get}
 use Rattle.csn_cert.specs.PatternV.{PatternV}
-use Rattle.csn_cert.specs.declared.pattern.Mark.{Mark}
-use Rattle.csn_good.specs.ClaimedSets.{claims_of, patterns_at}
-use Rattle.csn_good.specs.Apart.{MarksMeet, PatternsMeet, SomeMeets}
+use Rattle.csn_good.specs.ClaimedSets.{patterns_at}
+use Rattle.csn_good.specs.Apart.{PatternsMeet}
 use Rattle.csn_good.proofs.apart.some_meets.Given as goal
 
 abbrev pub invariant-loop-k : goal.invariant-loop-k

@@ -1,4 +1,4 @@
-use Rattle.std.proofs.Common.{◌≤◌, ℕ, IsTrue, Some, inl, inr, sym, subst, arith}
+use Rattle.std.proofs.Common.{ℕ, IsTrue, Some, inl, inr, sym, subst, arith}
 use Rattle.std.proofs.lemmas.Bool.Decides.{eqb_tells}
 use Rattle.csn_good.specs.ClaimedSets.{claims_of}
 use Rattle.csn_good.proofs.apart.something_follows.Goals as goal

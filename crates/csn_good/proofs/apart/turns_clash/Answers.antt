@@ -1,4 +1,4 @@
-use Rattle.std.proofs.Common.{refl, arith}
+use Rattle.std.proofs.Common.{arith}
 use Rattle.csn_good.proofs.apart.turns_clash.Goals as goal
 
 pub returns : goal.returns

@@ -1,5 +1,4 @@
-use Rattle.std.proofs.Common.{refl, sym, ◌∙◌, ap, ◌+◌, ◌*◌, ◌%◌, ℕ, length}
-use Rattle.csn_desc.specs.Nodes.{parts_of}
+use Rattle.std.proofs.Common.{refl, ◌∙◌, ap, ◌+◌, ◌*◌, ◌%◌}
 use Rattle.csn_claims.specs.Ends.{NodeEnds}
 use Rattle.csn_good.specs.ClaimedSets.{claims_of}
 use Rattle.csn_good.specs.Octets.{OctetsAre}

@@ -1,4 +1,4 @@
-use Rattle.std.proofs.Common.{◌≡◌, ℕ, ◌+◌, ◌*◌, ◌%◌, refl, sym, subst, ◌∙◌, Some}
+use Rattle.std.proofs.Common.{◌≡◌, ℕ, ◌+◌, ◌*◌, ◌%◌, sym, subst, ◌∙◌}
 use Rattle.csn_desc.specs.declared.node.Count.{Count}
 use Rattle.csn_claims.specs.Ends.{MayCount}
 use Rattle.csn_good.specs.Octets.{OctetsAre}

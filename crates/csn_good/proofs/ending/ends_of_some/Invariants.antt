@@ -1,4 +1,3 @@
-use Rattle.std.proofs.Common.{◌≡◌, ◌<◌, ◌≤◌, ◌+◌, ◌*◌, ◌%◌, ℕ, IsTrue, Some, slice_get, drop}
 use Rattle.csn_good.specs.ClaimedSets.{claims_of}
 use Rattle.csn_good.specs.Octets.{OctetsAre, OfSome}
 use Rattle.csn_good.proofs.EndsTold.{EndsBefore}

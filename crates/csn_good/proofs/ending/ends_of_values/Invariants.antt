@@ -1,5 +1,4 @@
-use Rattle.std.proofs.Common.{◌≡◌, ◌<◌, ◌≤◌, ◌+◌, ◌*◌, ◌%◌, ℕ, IsTrue, Some, slice_get, drop}
-use Rattle.csn_good.specs.ClaimedSets.{claims_of}
+use Rattle.std.proofs.Common.{◌≡◌, ◌<◌, ◌+◌, ◌*◌, ◌%◌, ℕ}
 use Rattle.csn_good.specs.Octets.{OctetsAre}
 use Rattle.csn_good.proofs.ending.ends_of_values.Given as goal
 

@@ -1,11 +1,11 @@
-use Rattle.std.proofs.Common.{◌≡◌, ◌<◌, ℕ, refl, inl, inr, sym, ◌∙◌, ap, subst, arith, Some, slice_get}
+use Rattle.std.proofs.Common.{◌≡◌, refl, inl, inr, sym, ap, subst, arith, slice_get}
 use Rattle.std.proofs.lemmas.Bool.Decides.{eqb_tells}
 use Rattle.std.proofs.lemmas.Option.{slice_get_within}
 use Rattle.csn_good.specs.declared.following.Around.TheVariants.{Alone}
 use Rattle.csn_good.specs.Wanted.{HasWanted}
 use Rattle.csn_good.specs.ClaimedSets.{claims_of}
 use Rattle.csn_good.proofs.EndsTold.{ends_small}
-use Rattle.csn_good.proofs.SetArms.{reached_small, starts_small, tells}
+use Rattle.csn_good.proofs.SetArms.{reached_small, starts_small}
 use Rattle.csn_good.proofs.FollowArms.{are_counted, ends_reach, choice_have}
 use Rattle.csn_good.proofs.following.each_has.Goals as goal
 

@@ -1,7 +1,6 @@
-use Rattle.std.proofs.Common.{◌≡◌, ◌<◌, ◌≤◌, ◌+◌, ℕ, IsTrue, Some, slice_get, drop}
+use Rattle.std.proofs.Common.{◌≡◌, ◌<◌, ℕ, Some, slice_get}
 use Rattle.csn_good.specs.ClaimedSets.{claims_of}
-use Rattle.csn_good.specs.Signs.{sign_of}
-use Rattle.csn_good.specs.Wanted.{Wants, HasWanted, MayEnd, ordered}
+use Rattle.csn_good.specs.Wanted.{HasWanted}
 use Rattle.csn_good.specs.declared.following.Around.TheVariants.{Alone}
 use Rattle.csn_good.proofs.following.each_has.Given as goal
 

@@ -1,7 +1,7 @@
-use Rattle.std.proofs.Common.{◌≡◌, ◌<◌, ◌≤◌, ◌+◌, ℕ, IsTrue, Some, slice_get, drop}
+use Rattle.std.proofs.Common.{◌<◌, ◌≤◌, ℕ, IsTrue}
 use Rattle.csn_good.specs.ClaimedSets.{claims_of}
 use Rattle.csn_good.specs.Signs.{sign_of}
-use Rattle.csn_good.specs.Wanted.{Wants, HasWanted, MayEnd, ordered}
+use Rattle.csn_good.specs.Wanted.{Wants, MayEnd}
 use Rattle.csn_good.proofs.following.has_wanted.Given as goal
 
 abbrev pub invariant-loop-octet : goal.invariant-loop-octet

@@ -1,7 +1,7 @@
-use Rattle.std.proofs.Common.{refl, drop, arith}
+use Rattle.std.proofs.Common.{refl, drop}
 use Rattle.csn_good.specs.ClaimedSets.{claims_of}
 use Rattle.csn_good.proofs.EndsTold.{ends_small}
-use Rattle.csn_good.proofs.SetArms.{reached_small, starts_small, tells}
+use Rattle.csn_good.proofs.SetArms.{reached_small, starts_small}
 use Rattle.csn_good.proofs.Tailing.{tail_none}
 use Rattle.csn_good.proofs.FollowArms.{are_counted, ends_reach, order_begin, order_on, order_not, order_done}
 use Rattle.csn_good.proofs.following.in_order.Goals as goal

@@ -1,7 +1,5 @@
-use Rattle.std.proofs.Common.{◌≡◌, ◌<◌, ◌≤◌, ◌+◌, ℕ, IsTrue, Some, slice_get, drop}
 use Rattle.csn_good.specs.ClaimedSets.{claims_of}
-use Rattle.csn_good.specs.Signs.{sign_of}
-use Rattle.csn_good.specs.Wanted.{Wants, HasWanted, MayEnd, ordered}
+use Rattle.csn_good.specs.Wanted.{ordered}
 use Rattle.csn_good.proofs.FollowArms.{OrderHas}
 use Rattle.csn_good.proofs.following.in_order.Given as goal
 

@@ -1,5 +1,4 @@
-use Rattle.std.proofs.Common.{◌≡◌, ◌↔◌, ℕ, IsTrue, refl, sym, subst, arith, None}
-use Rattle.csn_good.specs.ClaimedSets.{claims_of}
+use Rattle.std.proofs.Common.{refl, arith}
 use Rattle.csn_good.proofs.EndsTold.{ends_small}
 use Rattle.csn_good.proofs.SetArms.{reached_small}
 use Rattle.csn_good.proofs.following.keeps_follow.Goals as goal

@@ -1,4 +1,4 @@
-use Rattle.std.proofs.Common.{◌↔◌, ℕ, refl, true, IsTrue}
+use Rattle.std.proofs.Common.{◌↔◌, refl, true, IsTrue}
 use Rattle.csn_desc.specs.declared.node.Node.TheVariants.{Lits, Spare, Pad, Null, Field, Rest}
 use Rattle.csn_good.specs.ClaimedSets.{claims_of}
 use Rattle.csn_good.proofs.EndsTold.{ends_small}

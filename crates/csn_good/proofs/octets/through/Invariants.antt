@@ -1,4 +1,4 @@
-use Rattle.std.proofs.Common.{◌<◌, ℕ, IsTrue}
+use Rattle.std.proofs.Common.{◌<◌, IsTrue}
 use Rattle.csn_good.specs.ClaimedSets.{claims_of}
 use Rattle.csn_good.specs.Octets.{OctetsAre, OfSome}
 use Rattle.csn_good.proofs.octets.through.Given as goal

@@ -1,7 +1,4 @@
-use Rattle.std.proofs.Common.{◌≤◌, ◌↔◌, ◌⊎◌, ℕ, drop, IsTrue}
-use Rattle.csn_claims.specs.Ends.{LeadEnd}
 use Rattle.csn_good.specs.ClaimedSets.{claims_of}
-use Rattle.csn_good.specs.Octets.{has_octet, OfSome}
 use Rattle.csn_good.proofs.EndsTold.{Leading}
 use Rattle.csn_good.proofs.octets.through_lead.Given as goal
 

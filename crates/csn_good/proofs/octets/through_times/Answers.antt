@@ -1,4 +1,4 @@
-use Rattle.std.proofs.Common.{◌-◌, ◌+◌, refl, arith}
+use Rattle.std.proofs.Common.{◌-◌, ◌+◌, arith}
 use Rattle.csn_good.specs.ClaimedSets.{claims_of}
 use Rattle.csn_good.proofs.EndsTold.{ends_small, times_begin, times_on, times_done}
 use Rattle.csn_good.proofs.octets.through_times.Goals as goal

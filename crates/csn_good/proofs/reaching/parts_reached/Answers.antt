@@ -1,4 +1,4 @@
-use Rattle.std.proofs.Common.{◌≤◌, ◌↔◌, ℕ, refl, IsTrue}
+use Rattle.std.proofs.Common.{◌↔◌, refl, IsTrue}
 use Rattle.csn_good.specs.ClaimedSets.{claims_of}
 use Rattle.csn_good.specs.Told.{PartsReach}
 use Rattle.csn_good.proofs.Arms.{along, parts_within}

@@ -1,4 +1,4 @@
-use Rattle.std.proofs.Common.{refl, sym, ◌∙◌, inl, inr, subst, ◌↔◌, ℕ, IsTrue, true}
+use Rattle.std.proofs.Common.{refl, sym, ◌∙◌, inl, inr, ◌↔◌, IsTrue, true}
 use Rattle.csn_claims.specs.Nullable.{NodeNullable, nullable_null, nullable_rest, nullable_many, nullable_trunc}
 use Rattle.csn_good.specs.ClaimedSets.{claims_of}
 use Rattle.csn_good.proofs.Arms.{along, parts_within}

@@ -1,4 +1,4 @@
-use Rattle.std.proofs.Common.{◌≡◌, ◌<◌, ◌≤◌, ◌+◌, ◌*◌, ◌%◌, ℕ, IsTrue, Some, slice_get, drop}
+use Rattle.std.proofs.Common.{◌<◌, ◌≤◌, ℕ, IsTrue}
 use Rattle.csn_good.specs.ClaimedSets.{claims_of}
 use Rattle.csn_claims.specs.Starts.{NodeStarts}
 use Rattle.csn_good.proofs.sets.keeps_start.Given as goal

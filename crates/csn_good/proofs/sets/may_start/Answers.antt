@@ -1,6 +1,6 @@
 use Rattle.csn_desc.specs.declared.symbol.Symbol.TheVariants.{Low}
 use Rattle.csn_desc.specs.Spelled.{IsSpare}
-use Rattle.std.proofs.Common.{subst, [], ◌∷◌, refl, sym, ◌∙◌, ◌↔◌, ◌≤◌, ℕ, IsTrue, true}
+use Rattle.std.proofs.Common.{subst, [], ◌∷◌, refl, ◌↔◌, IsTrue, true}
 use Rattle.csn_claims.specs.Starts.{NodeStarts, starts_field, starts_rest}
 use Rattle.csn_good.specs.ClaimedSets.{claims_of}
 use Rattle.csn_good.proofs.Arms.{along, parts_within}

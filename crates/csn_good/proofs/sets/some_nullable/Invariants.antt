@@ -1,4 +1,4 @@
-use Rattle.std.proofs.Common.{◌≡◌, ◌<◌, ◌≤◌, ◌+◌, ◌*◌, ◌%◌, ℕ, IsTrue, Some, slice_get, drop}
+use Rattle.std.proofs.Common.{◌≡◌, ◌<◌, ℕ, IsTrue, Some, slice_get}
 use Rattle.csn_good.specs.ClaimedSets.{claims_of}
 use Rattle.csn_good.proofs.sets.some_nullable.Given as goal
 

@@ -1,4 +1,4 @@
-use Rattle.std.proofs.Common.{◌<◌, ◌⊎◌, ℕ, IsTrue}
+use Rattle.std.proofs.Common.{◌<◌, ◌⊎◌, IsTrue}
 use Rattle.csn_good.specs.Octets.{has_octet, OctetsAre}
 use Rattle.csn_good.proofs.octets.Octets.or.Given as goal
 

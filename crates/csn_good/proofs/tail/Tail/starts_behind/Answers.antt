@@ -1,4 +1,4 @@
-use Rattle.std.proofs.Common.{◌≡◌, ◌≤◌, ◌↔◌, ℕ, Bool, true, false, sym, ◌∙◌, IsTrue}
+use Rattle.std.proofs.Common.{◌≡◌, ◌≤◌, ◌↔◌, ℕ, Bool, false, sym, ◌∙◌, IsTrue}
 use Rattle.csn_claims.specs.Claims.{Claims}
 use Rattle.csn_good.specs.declared.tail.Tail.{Tail}
 use Rattle.csn_good.specs.ClaimedSets.{claims_of}

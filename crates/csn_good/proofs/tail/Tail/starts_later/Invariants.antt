@@ -1,4 +1,4 @@
-use Rattle.std.proofs.Common.{◌≡◌, ◌<◌, ◌≤◌, ◌+◌, ◌*◌, ◌%◌, ℕ, IsTrue, Some, slice_get, drop}
+use Rattle.std.proofs.Common.{◌<◌, ℕ, IsTrue}
 use Rattle.csn_good.specs.ClaimedSets.{claims_of}
 use Rattle.csn_good.specs.Tails.{tail_has}
 use Rattle.csn_good.proofs.tail.Tail.starts_later.Given as goal
