@@ -1,6 +1,6 @@
 -- What a good certificate claims holds of the description; and the first fault is one.
-use Rattle.std.proofs.Common.{◌≡◌, ℕ, zero, suc, ◌<◌, ◌≤◌, Bool, List, [], ◌∷◌, length, inl, inr, refl, sym, ◌∙◌, ap, arith, Some, slice_get}
-use Rattle.std.specs.Prelude.{IsTrue, ◌⊎◌}
+use Rattle.std.proofs.Common.{◌≡◌, ℕ, Bool, List, inl, inr, refl, arith, Some, slice_get}
+use Rattle.std.specs.Prelude.{IsTrue}
 use Rattle.csn_desc.specs.declared.node.Node.{Node}
 use Rattle.csn_desc.specs.Nodes.{DescV}
 use Rattle.csn_desc.specs.Formed.{IsDescription, Formed, formed}

@@ -1,6 +1,6 @@
 -- The sets that a certificate claims. At an octet position that a node does not have in it, it claims nothing but what
 -- may follow. (This project's own choice.)
-use Rattle.std.specs.Prelude.{ℕ, ◌+◌, ◌*◌, ◌==◌, nat_le, ◌&&◌, Bool, true, false, List, [], ◌∷◌, slice_get, Option, Some, None, is_some, refl, ◌≡◌, Contains}
+use Rattle.std.specs.Prelude.{ℕ, ◌+◌, ◌*◌, ◌==◌, nat_le, ◌&&◌, Bool, true, false, List, [], ◌∷◌, slice_get, Option, Some, None, is_some, refl, ◌≡◌}
 use Rattle.std.specs.List.{list_any}
 use Rattle.std.proofs.Math.Bool.{beq}
 use Rattle.csn_bits.specs.Numbers.{low_bits}
