@@ -1,6 +1,6 @@
 -- Bits that have a tree end where bits of the node are claimed to end, where the claims hold and the node is claimed to
 -- begin where the bits begin.
-use Rattle.std.proofs.Common.{◌≡◌, ℕ, ◌+◌, ◌*◌, ◌%◌, ◌<◌, List, [], length, refl, sym, ◌∙◌, ap, subst, arith, Some, slice_get}
+use Rattle.std.proofs.Common.{◌≡◌, ℕ, ◌+◌, ◌*◌, ◌%◌, ◌<◌, List, length, refl, sym, ◌∙◌, ap, subst, arith, Some, slice_get}
 use Rattle.std.specs.Prelude.{IsTrue}
 use Rattle.csn_desc.specs.declared.node.Count.{Count}
 use Rattle.csn_desc.specs.declared.node.Count.TheVariants.{Fixed, Counted}

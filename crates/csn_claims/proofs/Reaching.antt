@@ -1,16 +1,15 @@
 -- Where the parts of a node that is claimed to begin are claimed to begin, one part or turn after another.
-use Rattle.std.proofs.Common.{◌≡◌, ℕ, zero, suc, ◌+◌, ◌<◌, List, [], ◌∷◌, ◌++◌, refl, ap, subst, arith, Some, slice_get}
+use Rattle.std.proofs.Common.{◌≡◌, ℕ, zero, suc, ◌<◌, List, [], ◌∷◌, ◌++◌, refl, ap, subst, arith, Some, slice_get}
 use Rattle.std.specs.Prelude.{IsTrue}
 use Rattle.csn_desc.specs.declared.node.Count.{Count}
 use Rattle.csn_desc.specs.declared.node.Count.TheVariants.{Fixed, Counted}
-use Rattle.csn_desc.specs.declared.node.Node.{Node}
 use Rattle.csn_desc.specs.declared.node.Node.TheVariants.{Seq, Choice, Times, Many, Trunc, Window, Named}
 use Rattle.csn_desc.specs.Nodes.{DescV}
 use Rattle.csn_desc.specs.Values.{Values, count_of}
 use Rattle.csn_claims.specs.Claims.{Claims}
 use Rattle.csn_claims.specs.Ends.{PartsEnd, TimesEnd, ManyEnd, parts_end, parts_next, times_end, times_next, many_end, many_next}
 use Rattle.csn_claims.specs.Reached.{reached_seq, reached_trunc, reached_choice, reached_window, reached_named, reached_times, reached_counted, reached_many}
-use Rattle.csn_claims.specs.Holding.{IsPart, Holds}
+use Rattle.csn_claims.specs.Holding.{Holds}
 
 -- a part with its number, and the parts on either side
 pub record Cuts (parts : List ℕ) (i : ℕ) : Type 0 where

@@ -1,6 +1,6 @@
 -- Bits that have a tree begin with a bit that the node is claimed to begin with, where the claims hold and the node is
 -- claimed to begin where the bits begin.
-use Rattle.std.proofs.Common.{◌≡◌, ℕ, ◌+◌, ◌-◌, ◌%◌, ◌≤◌, List, [], ◌∷◌, ◌++◌, length, refl, sym, ◌∙◌, ap, subst, arith, Some, slice_get}
+use Rattle.std.proofs.Common.{◌≡◌, ℕ, ◌+◌, ◌-◌, ◌%◌, ◌≤◌, List, [], ◌∷◌, length, refl, sym, ◌∙◌, ap, subst, arith, Some, slice_get}
 use Rattle.std.specs.Prelude.{replicate, IsTrue}
 use Rattle.csn_bits.specs.Octets.{IsBits, pattern}
 use Rattle.csn_desc.specs.declared.reading.Reading.{Reading}
