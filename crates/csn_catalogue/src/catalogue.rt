@@ -1,7 +1,8 @@
 //! The descriptions: a choice of fields from several releases of 3GPP TS 44.060 clause 11 and TS 44.018
 //! clause 10. What the fields written here do not cover is kept raw.
 
-ghost use Rattle.std.specs.Prelude.{◌≡◌};
+ghost use Rattle.std.specs.Prelude.{◌≡◌, ◌≤◌, length};
+ghost use Rattle.csn_catalogue.specs.Text.{catalogue_text};
 
 /// The text, as it is read. It ends with a line feed.
 const TEXT: &[u8] = b"\
@@ -259,7 +260,8 @@ const TEXT: &[u8] = b"\
 
 /// The text of all descriptions: the root of each entry is one of its rules.
 pub fn text() -> &'static [u8]
-    ensures { result.now ≡ TEXT.now }
+    ensures text { result.now ≡ catalogue_text }
+    ensures few { length result.now ≤ 262144 }
 {
     TEXT
 }

@@ -8,3 +8,4 @@ pub mod Leaves
 pub mod NodeKinds
 pub mod Total
 pub mod Blocks
+pub mod PackedFacts

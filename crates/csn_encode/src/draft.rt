@@ -14,10 +14,11 @@ ghost use Rattle.csn_encode.specs.Writing.{KeepsCount, Added, IfMisfit};
 use crate::fault::Stop;
 use crate::misfit::MisfitWhy;
 use crate::numbers::{MOST_NUMBERS, Number, last_value};
+use crate::packed::PackedBits;
 use crate::path::Path;
 use crate::symbols::symbol_bit;
 use arrayvec::ArrayVec;
-use csn_bits::{Bits, BitsFault, MOST_BITS};
+use csn_bits::{Bits, MOST_BITS};
 use csn_certify::Plan;
 use csn_desc::{Count, Run};
 use std::alloc::Global;
@@ -25,7 +26,7 @@ use std::alloc::Global;
 /// What is written so far of a tree, and where in the tree the writing stands.
 #[derive(Drop)]
 pub(crate) struct Draft {
-    pub bits: Bits,
+    pub bits: PackedBits,
     /// The way from the root to the tree that is written, or to the one that does not fit.
     pub path: Path,
     /// The numbers of the labelled fields that the node sees and that counts stand on.
@@ -40,7 +41,7 @@ impl Draft {
         ensures numbers { result.numbers.items ≡ [] }
     {
         Draft {
-            bits: Bits::new(alloc),
+            bits: PackedBits::new(alloc),
             path: Path::new(alloc),
             numbers: ArrayVec::new(),
         }
@@ -55,11 +56,7 @@ impl Draft {
         ensures path { self.new.path ≡ self.old.path }
         ensures numbers { self.new.numbers ≡ self.old.numbers }
     {
-        match self.bits.push(bit) {
-            Ok(()) => Ok(()),
-            Err(BitsFault::NoMemory) => Err(Stop::NoMemory),
-            Err(_) => unreachable!(),
-        }
+        Ok(self.bits.push(bit)?)
     }
 
     /// Adds the bits of a leaf, where a block has room for them.
@@ -72,10 +69,7 @@ impl Draft {
         if leaf.len() > MOST_BITS - self.bits.len() {
             return Err(Stop::Misfit(MisfitWhy::TooManyBits));
         }
-        for at in 0..leaf.len() {
-            self.push(leaf.get(at))?;
-        }
-        Ok(())
+        Ok(self.bits.append(leaf)?)
     }
 
     /// Adds the bits of a literal, where a block has room for them.

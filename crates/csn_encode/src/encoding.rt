@@ -24,7 +24,12 @@ pub fn encode<L: Ledger>(
     let _count = plan.len();
     let mut draft = Draft::new(alloc);
     match draft.write(plan, 0, 0, tree, steps) {
-        Ok(()) => Ok(draft.bits),
+        Ok(()) => {
+            let Ok(bits) = draft.bits.take(alloc) else {
+                return Err(EncodeFault::NoMemory);
+            };
+            Ok(bits)
+        }
         Err(Stop::Misfit(why)) => Err(EncodeFault::Misfit(Misfit {
             path: draft.path,
             why,

@@ -8,6 +8,7 @@ pub mod laws;
 mod leaf;
 mod misfit;
 mod numbers;
+mod packed;
 mod path;
 mod symbols;
 #[cfg(test)]

@@ -6,3 +6,5 @@ pub mod Refusals
 pub mod Rows
 pub mod Counts
 pub mod Texts
+pub mod Decided
+pub mod WrittenShown

@@ -1,9 +1,9 @@
 -- Lines that are written for blocks, as the reader sees them.
-use Rattle.std.proofs.Common.{◌≡◌, ℕ, zero, suc, ◌+◌, ◌*◌, ◌/◌, ◌%◌, ◌<◌, ◌≤◌, List, [], ◌∷◌, ◌++◌, length, map, None, ◌⊎◌, inl, inr, refl, sym, ap, ◌∙◌, subst, arith, length-append}
+use Rattle.std.proofs.Common.{◌≡◌, ℕ, zero, suc, ◌%◌, ◌≤◌, List, [], ◌∷◌, length, map, ◌⊎◌, inl, inr, sym, ap, ◌∙◌, subst, arith, length-append}
 use Rattle.hex.specs.Hex.{upper_digits, encode_upper}
 use Rattle.hex.proofs.HexLemmas.{length-encode_with}
-use Rattle.csn_bits.specs.Octets.{IsBits, octets_of}
-use Rattle.csn_bits.specs.Line.{BlockLine, written, tail_written, upper, fault_of}
+use Rattle.csn_bits.specs.Octets.{octets_of}
+use Rattle.csn_bits.specs.Line.{BlockLine, written, tail_written, upper}
 use Rattle.csn_bits.specs.Fault.{IsLineFault}
 use Rattle.csn_bits.specs.declared.fault.BitsFault.{BitsFault}
 use Rattle.csn_bits.specs.declared.fault.BitsFault.TheVariants.{NoMemory}
@@ -30,7 +30,7 @@ pub is_short : (line bits : List ℕ) → IsWritten line bits → length line �
 is_short line bits is = omega (arith, ap (λ l. length l) is.spelled, written_is_short bits is.few)
 
 -- it spells its bits
-spells : WrittenIsRead → (line bits : List ℕ) → IsWritten line bits → BlockLine line bits
+pub spells : WrittenIsRead → (line bits : List ℕ) → IsWritten line bits → BlockLine line bits
 spells read line bits is = subst (λ l. BlockLine l bits) (sym is.spelled) (read bits is.zeros_and_ones is.few)
 
 -- it has no digit in lower case

@@ -1,15 +1,14 @@
 -- What a value has to be, part by part, that shows a tree.
-use Rattle.std.proofs.Common.{◌≡◌, ℕ, zero, suc, ◌+◌, ◌<◌, ◌≤◌, Bool, List, [], ◌∷◌, Result, Ok, Err, IfErr, codes, refl, sym, ap, ◌∙◌, subst, arith, add-one}
+use Rattle.std.proofs.Common.{◌≡◌, ℕ, ◌+◌, ◌<◌, Bool, List, Result, Err, IfErr, codes, refl, sym, ap, ◌∙◌, subst, arith, add-one}
 use Rattle.csn_desc.specs.Label.{IsLabel}
 use Rattle.csn_desc.specs.declared.desc.TheConstants.{MOST_NODES}
-use Rattle.csn_desc.specs.TreeV.{TreeV, empty, bits, row, alt, named, Trees, none, more}
+use Rattle.csn_desc.specs.TreeV.{TreeV, empty, bits, row, alt, named, Trees}
 use Rattle.csn_treetext.specs.declared.bounds.TheConstants.{MOST_LEVELS}
-use Rattle.csn_treetext.specs.Fits.{FitsInside}
 use Rattle.csn_treetext.proofs.Fitting.{room_for}
-use Rattle.serde_json.specs.Data.{Data, null, boolean, number, string, array, object, unsigned, Num, Items, Members}
+use Rattle.serde_json.specs.Data.{Data, boolean, number, string, array, object, unsigned, Num, Items, Members}
 use Rattle.csn_json.specs.declared.fault.JsonFault.{JsonFault}
 use Rattle.csn_json.specs.declared.fault.JsonFault.TheVariants.{NotJson, NotTree, NoMemory}
-use Rattle.csn_json.specs.JsonTree.{json_of, items_of, tagged}
+use Rattle.csn_json.specs.JsonTree.{json_of, tagged}
 use Rattle.csn_json.specs.Reading.{IsWritten, IsShown, AreShown, Refuses}
 
 -- ---- what a `?` hands on

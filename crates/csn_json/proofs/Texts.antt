@@ -1,5 +1,5 @@
 -- Bytes, the value that they are, and the tree that it shows.
-use Rattle.std.proofs.Common.{◌≡◌, List, ℕ, Some, None, IsUtf8, refl, sym, ◌∙◌, subst}
+use Rattle.std.proofs.Common.{◌≡◌, List, ℕ, None, IsUtf8, refl, subst}
 use Rattle.csn_desc.specs.TreeV.{TreeV}
 use Rattle.serde_json.specs.Data.{Data}
 use Rattle.serde_json.specs.Read.{read}

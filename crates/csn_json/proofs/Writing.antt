@@ -1,11 +1,10 @@
 -- The value of a tree that fits can be written, and is read back.
-use Rattle.std.proofs.Common.{◌≡◌, ℕ, zero, suc, ◌+◌, ◌<◌, ◌≤◌, max, Bool, false, List, [], ◌∷◌, ◌++◌, take, slice_get, Some, refl, sym, ap, ◌∙◌, arith}
+use Rattle.std.proofs.Common.{◌≡◌, ℕ, suc, ◌+◌, ◌<◌, ◌≤◌, false, List, [], ◌∷◌, ◌++◌, take, slice_get, Some, refl, ap, ◌∙◌, arith}
 use Rattle.csn_desc.specs.TreeV.{TreeV, empty, bits, row, alt, named, Trees, none, more, trees_of}
 use Rattle.csn_treetext.specs.Fits.{Fits, FitsInside, AllFitInside}
 use Rattle.csn_treetext.specs.declared.bounds.TheConstants.{MOST_LEVELS}
-use Rattle.csn_treetext.proofs.Fitting.{room_for}
 use Rattle.csn_treetext.proofs.Rows.{take_next}
-use Rattle.serde_json.specs.Data.{Data, Items, no_items, item, depth, items_depth}
+use Rattle.serde_json.specs.Data.{no_items, item, depth, items_depth}
 use Rattle.serde_json.specs.View.{view, items_view}
 use Rattle.serde_json.specs.declared.value.Value.{Value}
 use Rattle.serde_json.specs.Written.{has_float, items_have_float}

@@ -6,7 +6,7 @@ use Rattle.csn_json.specs.declared.fault.JsonFault.{JsonFault}
 use Rattle.csn_json.specs.declared.fault.JsonFault.TheVariants.{NoMemory}
 use Rattle.csn_treetext.specs.Place.{TreeText}
 use Rattle.csn_json.specs.JsonTree.{JsonTree}
-use Rattle.csn_json.specs.JsonText.{JsonText, IsFaultOf}
+use Rattle.csn_json.specs.JsonText.{JsonText, WrittenJson, IsFaultOf, Decided}
 
 -- one value shows a tree
 abbrev pub TreesHaveOneValue : Type 0
@@ -23,6 +23,14 @@ TextsHaveOneTree = (t u : TreeV) (text : List ℕ) → JsonText t text → JsonT
 -- bytes that show a tree are refused for want of memory alone
 abbrev pub TextsAreNotRefused : Type 0
 TextsAreNotRefused = (t : TreeV) (text : List ℕ) (fault : JsonFault) → JsonText t text → IsFaultOf text fault → fault ≡ NoMemory
+
+-- all bytes show a tree, or are refused as no JSON or as no tree
+abbrev pub TextsAreDecided : Type 0
+TextsAreDecided = (text : List ℕ) → Decided text
+
+-- what is written for a tree shows it
+abbrev pub WrittenIsShown : Type 0
+WrittenIsShown = (t : TreeV) (text : List ℕ) → WrittenJson t text → JsonText t text
 
 -- a tree has a JSON value exactly where it has a text of the plain form
 abbrev pub TreeTextsShareTrees : Type 0

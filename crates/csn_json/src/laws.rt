@@ -1,6 +1,6 @@
 //! Laws over trees as JSON, each the contract of a function that does nothing.
 
-ghost use Rattle.csn_json.specs.Laws.{TreesHaveOneValue, ValuesHaveOneTree, TextsHaveOneTree, TextsAreNotRefused, TreeTextsShareTrees};
+ghost use Rattle.csn_json.specs.Laws.{TreesHaveOneValue, ValuesHaveOneTree, TextsAreDecided, TextsHaveOneTree, TextsAreNotRefused, TreeTextsShareTrees, WrittenIsShown};
 
 /// A tree has one value, a value shows one tree, and so does a text.
 pub fn texts_have_one_tree()
@@ -15,6 +15,19 @@ pub fn texts_have_one_tree()
 /// it.
 pub fn trees_are_not_refused()
     ensures { TextsAreNotRefused }
+{}
+
+/// All bytes show a tree or are refused.
+pub fn texts_are_decided()
+    ensures { TextsAreDecided }
+{
+    csn_bits::laws::written_is_read();
+    csn_bits::laws::fault_or_block();
+}
+
+/// What is written for a tree shows it.
+pub fn written_is_shown()
+    ensures { WrittenIsShown }
 {}
 
 /// A tree can be shown as JSON exactly where it has a text of the plain form.

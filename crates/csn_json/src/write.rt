@@ -6,9 +6,8 @@ ghost use Rattle.csn_desc.specs.TreeParts.{HasTreeParts};
 ghost use Rattle.csn_treetext.specs.Fits.{Fits};
 ghost use Rattle.serde_json.specs.Data.{Data, number as whole, string, unsigned};
 ghost use Rattle.serde_json.specs.View.{view};
-ghost use Rattle.serde_json.specs.Written.{compact_text};
 ghost use Rattle.csn_json.specs.JsonTree.{json_of, tagged};
-ghost use Rattle.csn_json.specs.JsonText.{JsonText};
+ghost use Rattle.csn_json.specs.JsonText.{JsonText, WrittenJson};
 
 use csn_bits::{Bits, NoMemory};
 use csn_desc::{Label, Shape, Tree};
@@ -27,7 +26,7 @@ pub fn json_fits(tree: &Tree) -> bool
 /// The tree as JSON, with no space, and the members of each object in the order of their keys.
 pub fn write_json(alloc: Global, tree: &Tree) -> Result<Vec<u8>, NoMemory>
     requires { Fits tree.now }
-    ensures text { IfOk result (λ text. text.items ≡ compact_text (json_of tree.now)) }
+    ensures text { IfOk result (λ text. WrittenJson tree.now text.items) }
     ensures shows { IfOk result (λ text. JsonText tree.now text.items) }
 {
     let value = value_of(alloc, tree)?;

@@ -14,15 +14,13 @@ use std::alloc::{AllocError, Global};
 use std::collections::BTreeMap;
 
 #[cfg(test)]
-mod descriptions;
+mod as_json;
 #[cfg(test)]
-mod judged;
+mod segmented;
 #[cfg(test)]
 mod shown;
 #[cfg(test)]
 mod tests;
-#[cfg(test)]
-mod texts;
 #[cfg(test)]
 mod written;
 

@@ -194,6 +194,9 @@ fn words_are_held_against_the_table(rt: HostRuntime) -> Result<(), Fail> {
         &["writes", "F", "M", "sent"],
         &["migrate", "F"],
         &["migrates"],
+        &["segments"],
+        &["segments", "both"],
+        &["segments", "sent", "more"],
         &["soak", "uplink", "0"],
     ];
     for case in cases {

@@ -1,10 +1,10 @@
 -- Words, and the rows of the command table.
-use Rattle.std.proofs.Common.{◌≡◌, ◌↔◌, ◌⊎◌, inl, inr, ℕ, List, Option, None, IsSome, subst, sym}
+use Rattle.std.proofs.Common.{◌≡◌, ◌↔◌, inl, ℕ, List, [], ◌∷◌, Option, None, IsSome, subst}
 use Rattle.csn_desc.specs.declared.reading.Reading.{Reading}
 use Rattle.csn_run.specs.declared.command.RuleCommand.{RuleCommand}
 use Rattle.csn_run.specs.Command.{IsCommand, IsOverRule, IsAnswer, IsMigrate, NamesFile, ReadsLines}
 use Rattle.csn_run.specs.declared.command.Command.{Command}
-use Rattle.csn_run.proofs.OneResult.{one_rule, over, not_both, not_migrate}
+use Rattle.csn_run.proofs.OneResult.{one_rule, over, not_both, not_migrate, not_two}
 
 -- words that no command stands for are no row
 pub no_row : (words : List (List ℕ)) (command : Option Command) → (IsSome command ↔ IsCommand words) → command ≡ None → IsCommand words → ⊥
@@ -22,3 +22,10 @@ migrate_reads is file name reading check = not_migrate (over (inl check)) is
 
 pub migrate_names : {words : List (List ℕ)} → IsMigrate words → (file : List ℕ) → NamesFile words file → ⊥
 migrate_names is file names = not_migrate (over names.2) is
+
+-- words of two read lines, and name no file
+pub two_read : {words : List (List ℕ)} {first second : List ℕ} → words ≡ first ∷ second ∷ [] → ReadsLines words
+two_read is file name reading check = not_two (over (inl check)) is
+
+pub two_name : {words : List (List ℕ)} {first second : List ℕ} → words ≡ first ∷ second ∷ [] → (file : List ℕ) → NamesFile words file → ⊥
+two_name is file names = not_two (over names.2) is

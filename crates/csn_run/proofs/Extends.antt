@@ -1,14 +1,14 @@
 -- Answers to some of the first lines go on to the answers to the whole input, where each line has one.
-use Rattle.std.proofs.Common.{◌≡◌, ℕ, ◌<◌, ◌≤◌, Bool, true, false, ◌||◌, ltb, eqb, List, [], ◌∷◌, ◌++◌, length, map, take, refl, sym, ◌∙◌, ap, subst, arith, inl, inr, append_assoc, append-nil, length-append}
-use Rattle.std.specs.List.{AllZip, filter}
-use Rattle.std.proofs.lemmas.Bool.{cases_Bool, cases_lt, ltb-true}
+use Rattle.std.proofs.Common.{◌≡◌, ℕ, ◌<◌, ◌≤◌, Bool, true, false, ◌||◌, eqb, List, [], ◌∷◌, ◌++◌, length, take, refl, sym, ◌∙◌, ap, subst, arith, inl, inr, append_assoc, append-nil, length-append}
+use Rattle.std.proofs.lemmas.Bool.{cases_Bool, cases_lt}
 use Rattle.std.proofs.lemmas.List.{take_all}
 use Rattle.csn_run.specs.declared.ended.Ended.{Ended}
 use Rattle.csn_run.specs.declared.ended.Ended.TheVariants.{TooLong}
 use Rattle.csn_run.specs.declared.lines.TheConstants.{MOST_INPUT}
-use Rattle.csn_run.specs.Lines.{begin_first, between_feeds, without_return}
-use Rattle.csn_run.specs.Progress.{Answers, EndsIn, StopsWithin}
-use Rattle.csn_run.specs.Result.{end_of, AnswersInput, answers_all, answers_front}
+use Rattle.csn_run.specs.Lines.{begin_first, between_feeds, answered}
+use Rattle.csn_run.specs.LineState.{LineState, closing}
+use Rattle.csn_run.specs.Progress.{AllSteps, Answers, EndsIn, StopsWithin}
+use Rattle.csn_run.specs.Result.{LineJob, Steps, beginning, end_of, AnswersInput, answers_all, answers_front}
 use Rattle.csn_run.proofs.LinesLemmas.{between_feeds-one, HasNoFeed-append}
 use Rattle.csn_run.proofs.ProgressLemmas.{adds_more}
 use Rattle.csn_run.proofs.StandingLemmas.{answers_of}
@@ -77,60 +77,58 @@ ended_first bytes line ended front is begins =
 
 -- ---- each line has an answer
 
-module _ (Answer : List ℕ → List ℕ → Type 0) (has_answer : (line : List ℕ) → 0 < length line → (answer : List ℕ) × Answer line answer) where
-  each_line : (lines : List (List ℕ)) → (answers : List (List ℕ)) × AllZip Answer (filter (λ line. ltb 0 (length line)) lines) answers
-  each_line [] = ([], tt)
-  each_line (line ∷ lines) = elim (cases_Bool (ltb 0 (length line))) [
-    | inl some ↦ (
-        let first = has_answer line (ltb-true 0 (length line) some) in
-        let rest = each_line lines in
-        (first.0 ∷ rest.0, (rw some (first.1, rest.1))))
-    | inr none ↦ (let rest = each_line lines in (rest.0, (rw none rest.1)))
-  ]
+module _ (job : LineJob) (has_answer : (before : LineState) (line : List ℕ) → (text : List ℕ) × (after : LineState) × Steps job before line text after) where
+  each_line : (before : LineState) (lines : List (List ℕ)) → (texts : List (List ℕ)) × (after : LineState) × AllSteps (Steps job) before lines texts after
+  each_line before [] = ([], before, refl)
+  each_line before (line ∷ lines) =
+      let first = has_answer before line in
+      let rest = each_line first.1 lines in
+      (first.0 ∷ rest.0, rest.1, (first.1, first.2, rest.2))
 
-  pieces_answered : (pieces : List (List ℕ)) → (text : List ℕ) × (refused : Bool) × Answers Answer pieces text refused
-  pieces_answered pieces =
-      let all = each_line (map without_return pieces) in
-      (_, _, record { answers = all.0; each = all.1; text_is = refl; refused_is = refl })
+  pieces_answered : (before : LineState) (pieces : List (List ℕ)) → (text : List ℕ) × (after : LineState) × (refused : Bool) × Answers (Steps job) before pieces text after refused
+  pieces_answered before pieces =
+      let all = each_line before (answered pieces) in
+      (_, all.1, _, record { texts = all.0; each = all.2; text_is = refl; refused_is = refl })
 
   -- the answers to some pieces, and then to those behind them
-  goes_on : (front behind : List (List ℕ)) (whole_text text rest : List ℕ) (refused : Bool) → Answers Answer front whole_text refused → whole_text ≡ text ++ rest → (more : List ℕ) × (now : Bool) × Answers Answer (front ++ behind) (text ++ more) now
-  goes_on front behind whole_text text rest refused a split =
-      let b = pieces_answered behind in
-      let joined : Answers Answer (front ++ behind) (whole_text ++ b.0) (refused || b.1) =
-      answers_of Answer _ _ _ (adds_more Answer front behind [] whole_text (whole_text ++ b.0) refused b.1 (record { text = whole_text; answers = a; new_is = refl }) (record { text = b.0; answers = b.2; new_is = refl })) in
-      (rest ++ b.0, refused || b.1, subst (λ (t : List ℕ). Answers Answer (front ++ behind) t (refused || b.1)) (ap (λ l. l ++ b.0) split ∙ append_assoc text rest b.0) joined)
+  goes_on : {before after : LineState} (front behind : List (List ℕ)) (whole_text text rest : List ℕ) (refused : Bool) → Answers (Steps job) before front whole_text after refused → whole_text ≡ text ++ rest → (more : List ℕ) × (end : LineState) × (now : Bool) × Answers (Steps job) before (front ++ behind) (text ++ more) end now
+  goes_on {before} {after} front behind whole_text text rest refused a split =
+      let b = pieces_answered after behind in
+      let joined : Answers (Steps job) before (front ++ behind) (whole_text ++ b.0) b.1 (refused || b.2) =
+      answers_of (Steps job) _ _ _ (adds_more (Steps job) front behind [] whole_text (whole_text ++ b.0) refused b.2 (record { text = whole_text; answers = a; new_is = refl }) (record { text = b.0; answers = b.3; new_is = refl })) in
+      (rest ++ b.0, b.1, refused || b.2, subst (λ (t : List ℕ). Answers (Steps job) before (front ++ behind) t b.1 (refused || b.2)) (ap (λ l. l ++ b.0) split ∙ append_assoc text rest b.0) joined)
 
   -- what was written within the limit of an input begins what a whole run writes
-  pub extends : (input text : List ℕ) → StopsWithin Answer (take MOST_INPUT input) text → (rest : List ℕ) × (ended : Ended) × AnswersInput Answer input (text ++ rest) ended
+  pub extends : (input text : List ℕ) → StopsWithin (Steps job) (beginning job) (take MOST_INPUT input) text → (rest : List ℕ) × (ended : Ended) × AnswersInput job input (text ++ rest) ended
   extends input text s = elim (cases_lt MOST_INPUT (length input)) [
     | inl long ↦ past_limit long
     | inr fits ↦ within_limit fits
   ]
     where
-      past_limit : MOST_INPUT < length input → (rest : List ℕ) × (ended : Ended) × AnswersInput Answer input (text ++ rest) ended
+      past_limit : MOST_INPUT < length input → (rest : List ℕ) × (ended : Ended) × AnswersInput job input (text ++ rest) ended
       past_limit long =
           let end = has_end (take MOST_INPUT input) in
           let behind = ended_first (take MOST_INPUT input) end.1 end.0 s.ended end.2 s.begins in
           let all = goes_on s.ended behind.0 s.whole_text text s.rest s.refused s.answers s.text_begins in
-          (all.0, TooLong, answers_front end.0 end.1 all.1 long end.2 (subst (λ (p : List (List ℕ)). Answers Answer p (text ++ all.0) all.1) (sym behind.1) all.2) refl)
+          (all.0, TooLong, answers_front end.0 end.1 all.1 all.2 long end.2 (subst (λ (p : List (List ℕ)). Answers (Steps job) (beginning job) p (text ++ all.0) all.1 all.2) (sym behind.1) all.3) refl)
 
-      within_limit : length input ≤ MOST_INPUT → (rest : List ℕ) × (ended : Ended) × AnswersInput Answer input (text ++ rest) ended
+      within_limit : length input ≤ MOST_INPUT → (rest : List ℕ) × (ended : Ended) × AnswersInput job input (text ++ rest) ended
       within_limit fits =
           let behind = s.begins [] in
           let whole : take MOST_INPUT input ≡ input = take_all MOST_INPUT input fits in
           let pieces : between_feeds input ≡ s.ended ++ behind.0 = ap between_feeds (sym (append-nil input) ∙ ap (λ l. l ++ []) (sym whole)) ∙ behind.1 in
           let all = goes_on s.ended behind.0 s.whole_text text s.rest s.refused s.answers s.text_begins in
-          (all.0, end_of all.1, answers_all all.1 fits (subst (λ (p : List (List ℕ)). Answers Answer p (text ++ all.0) all.1) (sym pieces) all.2) refl)
+          (all.0 ++ closing all.1, end_of all.2, answers_all (text ++ all.0) all.1 all.2 fits (subst (λ (p : List (List ℕ)). Answers (Steps job) (beginning job) p (text ++ all.0) all.1 all.2) (sym pieces) all.3) (sym (append_assoc text all.0 (closing all.1))) refl)
 
   -- a whole run writes something
-  pub some_answers : (input : List ℕ) → (written : List ℕ) × (ended : Ended) × AnswersInput Answer input written ended
+  pub some_answers : (input : List ℕ) → (written : List ℕ) × (ended : Ended) × AnswersInput job input written ended
   some_answers input = extends input [] (record {
     ended = [];
     whole_text = [];
     rest = [];
+    after = beginning job;
     refused = false;
     begins = λ more. (between_feeds (take MOST_INPUT input ++ more), refl);
-    answers = record { answers = []; each = tt; text_is = refl; refused_is = refl };
+    answers = record { texts = []; each = refl; text_is = refl; refused_is = refl };
     text_begins = refl;
   })

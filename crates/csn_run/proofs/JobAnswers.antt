@@ -1,6 +1,7 @@
 -- Each line has one answer, in each job over lines that words ask for.
-use Rattle.std.proofs.Common.{◌≡◌, ℕ, ◌≤◌, inl, inr, List, ◌++◌, codes, Option, refl, sym, ◌∙◌, ap, subst}
+use Rattle.std.proofs.Common.{◌≡◌, ℕ, inl, inr, List, [], ◌∷◌, ◌++◌, codes, refl, sym, ◌∙◌, ap, subst}
 use Rattle.std.specs.Fmt.{decimal}
+use Rattle.csn_catalogue.specs.Text.{catalogue_text}
 use Rattle.csn_desc.specs.declared.reading.Reading.{Reading}
 use Rattle.csn_desc.specs.Nodes.{DescV}
 use Rattle.csn_grammar.specs.RulesV.{RulesV}
@@ -10,10 +11,12 @@ use Rattle.csn_run.specs.declared.command.RuleCommand.{RuleCommand}
 use Rattle.csn_run.specs.declared.command.RuleCommand.TheVariants.{Show, Write}
 use Rattle.csn_run.specs.Known.{KnownOfTrees, Known}
 use Rattle.csn_run.specs.Compiled.{IsCompiled}
+use Rattle.csn_run.specs.LineState.{LineState, AnswersAlone}
 use Rattle.csn_run.specs.OutLine.{AnswersByRule, MigratesLine, migrates_tree, migrates_place}
-use Rattle.csn_run.specs.Result.{LineJob, AnswersLine, AsksFor, asks_by_rule, asks_migrate}
+use Rattle.csn_run.specs.Result.{LineJob, Steps, asks_by_rule, asks_migrate, asks_segments}
 use Rattle.csn_run.specs.Laws.{LinesHaveAnswers, LinesHaveOneAnswer}
 use Rattle.csn_run.proofs.ShownLines.{each_shown, one_shown}
+use Rattle.csn_run.proofs.JoinedLines.{each_segments, one_segments}
 use Rattle.csn_run.proofs.WrittenLines.{each_written, one_written}
 
 each_migrated : KnownOfTrees → (line : List ℕ) → (answer : List ℕ) × MigratesLine line answer
@@ -35,23 +38,38 @@ one_migrated known line answer other (migrates_place place at e) (migrates_place
 
 module _ (known : Known) (text : List ℕ) (rules : RulesV) (name : List ℕ) (reading : Reading) (d : DescV) (is : IsCompiled text name reading rules d) where
   each_by_rule : (command : RuleCommand) (line : List ℕ) → (answer : List ℕ) × AnswersByRule command rules name reading line answer
-  each_by_rule Show line = each_shown known text rules name reading d is line
-  each_by_rule Write line = each_written known text rules name reading d is line
+  each_by_rule (Show form) line = each_shown known text rules name reading d is form line
+  each_by_rule (Write form) line = each_written known text rules name reading d is form line
 
   one_by_rule : (command : RuleCommand) (line answer other : List ℕ) → AnswersByRule command rules name reading line answer → AnswersByRule command rules name reading line other → answer ≡ other
-  one_by_rule Show = one_shown known text rules name reading d is
-  one_by_rule Write = one_written known text rules name reading d is
+  one_by_rule (Show form) = one_shown known text rules name reading d is form
+  one_by_rule (Write form) = one_written known text rules name reading d is form
+
+-- an answer that settles a line alone has its line feed
+alone : (Answer : List ℕ → List ℕ → Type 0) (before : LineState) (line : List ℕ) → (answer : List ℕ) × Answer line answer → (text : List ℕ) × (after : LineState) × AnswersAlone Answer before line text after
+alone Answer before line a = (a.0 ++ 10 ∷ [], before, (a.0, a.1, refl, refl))
+
+one_alone :
+    (Answer : List ℕ → List ℕ → Type 0) (line : List ℕ) {before : LineState} {text other : List ℕ} {after end : LineState}
+    → ((answer other : List ℕ) → Answer line answer → Answer line other → answer ≡ other)
+    → AnswersAlone Answer before line text after → AnswersAlone Answer before line other end → (text ≡ other) × (after ≡ end)
+one_alone Answer line one a b = (a.2 ∙ ap (λ l. l ++ 10 ∷ []) (one a.0 b.0 a.1 b.1) ∙ sym b.2, a.3 ∙ sym b.3)
 
 pub each_in_job : Known → LinesHaveAnswers
-each_in_job known words files job (asks_by_rule command file name text reading rules d row held fits compiled is) line =
-    let answer = each_by_rule known text rules name reading d compiled command line in
-    (answer.0, subst (λ (j : LineJob). AnswersLine j line answer.0) (sym is) answer.1)
-each_in_job known words files job (asks_migrate row is) line =
-    let answer = each_migrated known.of_trees line in
-    (answer.0, subst (λ (j : LineJob). AnswersLine j line answer.0) (sym is) answer.1)
+each_in_job known words files job (asks_by_rule command file name text reading rules d row held fits compiled is) before line =
+    let step = alone (AnswersByRule command rules name reading) before line (each_by_rule known text rules name reading d compiled command line) in
+    (step.0, step.1, subst (λ (j : LineJob). Steps j before line step.0 step.1) (sym is) step.2)
+each_in_job known words files job (asks_migrate row is) before line =
+    let step = alone MigratesLine before line (each_migrated known.of_trees line) in
+    (step.0, step.1, subst (λ (j : LineJob). Steps j before line step.0 step.1) (sym is) step.2)
+each_in_job known words files job (asks_segments reading rules d row fits compiled is) before line =
+    let step = each_segments known catalogue_text rules reading d compiled before line in
+    (step.0, step.1, subst (λ (j : LineJob). Steps j before line step.0 step.1) (sym is) step.2)
 
 pub one_in_job : Known → LinesHaveOneAnswer
-one_in_job known words files job (asks_by_rule command file name text reading rules d row held fits compiled is) line answer other a b =
-    one_by_rule known text rules name reading d compiled command line answer other (subst (λ (j : LineJob). AnswersLine j line answer) is a) (subst (λ (j : LineJob). AnswersLine j line other) is b)
-one_in_job known words files job (asks_migrate row is) line answer other a b =
-    one_migrated known.of_trees line answer other (subst (λ (j : LineJob). AnswersLine j line answer) is a) (subst (λ (j : LineJob). AnswersLine j line other) is b)
+one_in_job known words files job (asks_by_rule command file name written reading rules d row held fits compiled is) before line text other after end a b =
+    one_alone (AnswersByRule command rules name reading) line (one_by_rule known written rules name reading d compiled command line) (subst (λ (j : LineJob). Steps j before line text after) is a) (subst (λ (j : LineJob). Steps j before line other end) is b)
+one_in_job known words files job (asks_migrate row is) before line text other after end a b =
+    one_alone MigratesLine line (one_migrated known.of_trees line) (subst (λ (j : LineJob). Steps j before line text after) is a) (subst (λ (j : LineJob). Steps j before line other end) is b)
+one_in_job known words files job (asks_segments reading rules d row fits compiled is) before line text other after end a b =
+    one_segments known catalogue_text rules reading d compiled (subst (λ (j : LineJob). Steps j before line text after) is a) (subst (λ (j : LineJob). Steps j before line other end) is b)

@@ -1,8 +1,14 @@
 -- How jobs are over.
-use Rattle.std.proofs.Common.{◌≡◌, ℕ, ◌+◌, ◌<◌, ◌≤◌, ◌⊎◌, Bool, inl, inr, List, [], ◌∷◌, ◌++◌, length, Option, Some, None, Result, Ok, Err, IfOk, IfErr, codes, refl, sym, ◌∙◌, ap, subst, take, arith}
-use Rattle.std.specs.List.{AllZip}
+use Rattle.std.proofs.Common.{◌≡◌, ℕ, ◌+◌, ◌<◌, ◌≤◌, ◌⊎◌, Bool, inl, inr, List, [], ◌∷◌, ◌++◌, length, Option, Some, None, Result, Ok, Err, IfOk, IfErr, refl, sym, ◌∙◌, ap, subst, take, arith}
+use Rattle.std.specs.List.{AllByRecursion}
 use Rattle.std.specs.Option.{option_map}
 use Rattle.std.proofs.lemmas.List.{length-take, take_all}
+use Rattle.csn_catalogue.specs.declared.entry.Entry.TheVariants.{Downlink}
+use Rattle.csn_catalogue.specs.Entries.{entry_root}
+use Rattle.csn_catalogue.specs.Text.{catalogue_text}
+use Rattle.csn_replay.specs.Watched.{reports}
+use Rattle.csn_segment.specs.Joining.{JoinsFor}
+use Rattle.csn_run.specs.OutLine.{Segments, Joins}
 use Rattle.csn_desc.specs.declared.reading.Reading.{Reading}
 use Rattle.csn_desc.specs.Nodes.{DescV}
 use Rattle.csn_grammar.specs.declared.fault.GrammarFault.TheVariants.{Syntax, NoMemory as no_memory_for_rules}
@@ -19,52 +25,20 @@ use Rattle.csn_run.specs.declared.compile.NoPlan.{NoPlan}
 use Rattle.csn_run.specs.declared.compile.NoPlan.TheVariants.{Rules, Description, Plan}
 use Rattle.csn_run.specs.declared.compile.TheConstants.{MOST_DESCRIPTION}
 use Rattle.csn_run.specs.declared.ended.Ended.{Ended}
-use Rattle.csn_run.specs.declared.ended.Ended.TheVariants.{Done, SomeRefused, BadDescription, NotCertified, TooLong as Long}
+use Rattle.csn_run.specs.declared.ended.Ended.TheVariants.{Done, TooLong as Long}
 use Rattle.csn_run.specs.declared.fault.Fault.{Fault}
 use Rattle.csn_run.specs.declared.fault.Fault.TheVariants.{Read, Write, Memory, TooLong}
 use Rattle.csn_run.specs.declared.planned.Unplanned.{Unplanned}
 use Rattle.csn_run.specs.declared.planned.Unplanned.TheVariants.{File, Text}
-use Rattle.csn_run.specs.Lines.{answered}
-use Rattle.csn_run.specs.Progress.{Answers, AnswersAll, KeepsUp, StopsAfter, StopsWithin, StopsBy, Stops}
+use Rattle.csn_run.specs.LineState.{LineState, Kept, closing, closing_of}
+use Rattle.csn_run.specs.Progress.{AnswersAll, Stops}
 use Rattle.csn_run.specs.declared.command.RuleCommand.{RuleCommand}
-use Rattle.csn_run.specs.Command.{IsCheck, IsAnswer, IsMigrate, IsOverRule}
-use Rattle.csn_run.specs.Compiled.{HasNoPlan, no_rules, rules_refused, not_certified, IsReason, Tells, certified_line}
+use Rattle.csn_run.specs.Command.{IsCheck, IsAnswer, IsMigrate, IsSegments, IsOverRule}
+use Rattle.csn_run.specs.Compiled.{RuleOf, rule_of_entry, IsCompiled, HasNoPlan, no_rules, rules_refused, not_certified, IsReason, Tells, certified_line}
 use Rattle.csn_run.specs.Planned.{IsPlanned, IsWhy, Refuses}
 use Rattle.csn_run.specs.Job.{IsDescription, IsBeforeLines, Asked, EndedBefore, JobEnds, unread, before_lines, all_lines, some_lines}
-use Rattle.csn_run.specs.Result.{LineJob, by_rule, migrating, AnswersLine, asks_by_rule, asks_migrate, HasNoJob, long_text, no_plan, EndsBefore, no_job, checked, end_of}
-
--- ---- answers that hold of more
-
-AllZip-weaker : {X Y : Type 0} (A B : X → Y → Type 0) → ((x : X) (y : Y) → A x y → B x y) → (xs : List X) (ys : List Y) → AllZip A xs ys → AllZip B xs ys
-AllZip-weaker A B w [] [] h = tt
-AllZip-weaker A B w [] (y ∷ ys) h = absurd h
-AllZip-weaker A B w (x ∷ xs) [] h = absurd h
-AllZip-weaker A B w (x ∷ xs) (y ∷ ys) h = (w x y h.0, AllZip-weaker A B w xs ys h.1)
-
-module _ (A B : List ℕ → List ℕ → Type 0) (w : (line answer : List ℕ) → A line answer → B line answer) where
-  answers_weaker : {pieces : List (List ℕ)} {text : List ℕ} {refused : Bool} → Answers A pieces text refused → Answers B pieces text refused
-  answers_weaker {pieces} a = record { answers = a.answers; each = AllZip-weaker A B w (answered pieces) a.answers a.each; text_is = a.text_is; refused_is = a.refused_is }
-
-  after_weaker : {input text : List ℕ} → StopsAfter A input text → StopsAfter B input text
-  after_weaker a = record { ended = a.ended; line = a.line; refused = a.refused; ends = a.ends; answers = answers_weaker a.answers }
-
-  keeps_up_weaker : {given text : List ℕ} → KeepsUp A given text → KeepsUp B given text
-  keeps_up_weaker a = record { before = a.before; piece = a.piece; front = a.front; rest = a.rest; given_is = a.given_is; short = a.short; stopped = after_weaker a.stopped; text_is = a.text_is }
-
-  pub all_weaker : {left left' taken taken' : Option (List ℕ)} {waits : List ℕ} {refused : Bool} → AnswersAll A left left' taken taken' waits refused → AnswersAll B left left' taken taken' waits refused
-  all_weaker a = record { given = a.given; took = a.took; source = a.source; nothing_left = a.nothing_left; fits = a.fits; sink = a.sink; keeps_up = keeps_up_weaker a.keeps_up; answers = answers_weaker a.answers }
-
-  within_weaker : {input text : List ℕ} → StopsWithin A input text → StopsWithin B input text
-  within_weaker a = record { ended = a.ended; whole_text = a.whole_text; rest = a.rest; refused = a.refused; begins = a.begins; answers = answers_weaker a.answers; text_begins = a.text_begins }
-
-  by_weaker : (fault : Fault) (given text : List ℕ) → StopsBy A fault given text → StopsBy B fault given text
-  by_weaker Read given text h = (h.0, after_weaker h.1)
-  by_weaker Write given text h = within_weaker h
-  by_weaker Memory given text h = within_weaker h
-  by_weaker TooLong given text h = (h.0, after_weaker h.1)
-
-  pub stops_weaker : {left left' taken taken' : Option (List ℕ)} {waits : List ℕ} (fault : Fault) → Stops A fault left left' taken taken' waits → Stops B fault left left' taken taken' waits
-  stops_weaker fault s = record { given = s.given; took = s.took; source = s.source; few = s.few; sink = s.sink; keeps_up = keeps_up_weaker s.keeps_up; by = by_weaker fault s.given _ s.by }
+use Rattle.csn_run.proofs.Following.{Follows, all_follow, stops_follow}
+use Rattle.csn_run.specs.Result.{LineJob, by_rule, migrating, Steps, beginning, segmenting, asks_by_rule, asks_migrate, asks_segments, HasJob, Compiles, of_file, of_catalogue, long_text, no_plan, no_job, checked, end_of}
 
 -- ---- what the words ask for over told files
 
@@ -131,22 +105,40 @@ tells_before (Description no_memory_for_nodes) line ended tells = absurd tells
 tells_before (Plan (Conflict conflict)) line ended tells = inr (inl tells.1)
 tells_before (Plan no_memory_for_plan) line ended tells = absurd tells
 
-module _ (words : List (List ℕ)) (rule : RuleWords) (row : IsOverRule words rule.file.now rule.name.now rule.reading) where
-  ended_by_text :
-      (files : Option (List ℕ → Option (List ℕ))) (text written : List ℕ) (reason : NoPlan) (line : List ℕ) (ended : Ended)
-      → IsDescription files rule.file.now text → IsReason text rule.name.now rule.reading reason → Tells reason line ended
-      → written ≡ line ++ 10 ∷ [] → EndedBefore words files written ended
-  ended_by_text None text written reason line ended is reasons tells e = inl (tells_before reason line ended tells)
-  ended_by_text (Some files) text written reason line ended is reasons tells e =
-      no_job rule.file.now rule.name.now text rule.reading row (whole_file files rule.file.now text is) (no_plan line is.fits (no_plan_of text rule.name.now rule.reading reason line ended reasons tells) e)
+-- what is compiled of a file that is there
+file_compiles :
+    (words : List (List ℕ)) (files : List ℕ → Option (List ℕ)) (file name text : List ℕ) (reading : Reading) → IsOverRule words file name reading → files file ≡ Some text
+    → Compiles words files (record { text = text; name = name; reading = reading } ∷ [])
+file_compiles words files file name text reading row held = of_file file name text reading row held refl
 
+-- a text that gives its rule no plan, behind others that give one
+ended_by_text :
+    (words : List (List ℕ)) (files : Option (List ℕ → Option (List ℕ))) (front : List RuleOf) (rule : RuleOf) (behind : List RuleOf) (written : List ℕ) (reason : NoPlan) (line : List ℕ) (ended : Ended)
+    → ((told : List ℕ → Option (List ℕ)) → files ≡ Some told → Compiles words told (front ++ rule ∷ behind)) → AllByRecursion HasJob front
+    → length rule.text ≤ MOST_DESCRIPTION → IsReason rule.text rule.name rule.reading reason → Tells reason line ended
+    → written ≡ line ++ 10 ∷ [] → EndedBefore words files written ended
+ended_by_text words None front rule behind written reason line ended compiles before fits reasons tells e = inl (tells_before reason line ended tells)
+ended_by_text words (Some files) front rule behind written reason line ended compiles before fits reasons tells e =
+    no_job front rule behind (compiles files refl) before (no_plan line fits (no_plan_of rule.text rule.name rule.reading reason line ended reasons tells) e)
+
+-- the job is over before it has a plan, by the text of a rule
+pub reason_ends :
+    (words : List (List ℕ)) (files : Option (List ℕ → Option (List ℕ))) (front : List RuleOf) (rule : RuleOf) (behind : List RuleOf) (left taken : Option (List ℕ)) (waits : List ℕ) (reason : NoPlan) (end : Result Ended Fault)
+    → ((told : List ℕ → Option (List ℕ)) → files ≡ Some told → Compiles words told (front ++ rule ∷ behind)) → AllByRecursion HasJob front
+    → length rule.text ≤ MOST_DESCRIPTION → IsReason rule.text rule.name rule.reading reason → Refuses (Text reason) waits end
+    → JobEnds words files left left taken taken waits end
+reason_ends words files front rule behind left taken waits reason (Ok ended) compiles before fits is refuses =
+    before_lines (ended_by_text words files front rule behind waits reason refuses.0 ended compiles before fits is refuses.2 refuses.1) refl refl
+reason_ends words files front rule behind left taken waits reason (Err fault) compiles before fits is refuses = unread refl refl refuses.1 (inr (ap Err refuses.0))
+
+module _ (words : List (List ℕ)) (rule : RuleWords) (row : IsOverRule words rule.file.now rule.name.now rule.reading) where
   ended_by_length :
       (files : Option (List ℕ → Option (List ℕ))) (front written : List ℕ) → written ≡ []
       → BeginsFile files rule.file.now (MOST_DESCRIPTION + 1) front → MOST_DESCRIPTION < length front → EndedBefore words files written Long
   ended_by_length None front written none begins long = inl (inr (inr refl))
   ended_by_length (Some files) front written none begins long =
       let text = long_file files rule.file.now front begins long in
-      no_job rule.file.now rule.name.now text.0 rule.reading row text.1 (long_text text.2 none refl)
+      no_job [] (record { text = text.0; name = rule.name.now; reading = rule.reading }) [] (file_compiles words files rule.file.now rule.name.now text.0 rule.reading row text.1) tt (long_text text.2 none refl)
 
   -- the job is over before it has a plan
   pub refused_ends :
@@ -164,20 +156,50 @@ module _ (words : List (List ℕ)) (rule : RuleWords) (row : IsOverRule words ru
           let long = is.1 refl in
           let P : Result Ended Fault → Type 0 = λ e. JobEnds words files left left taken taken waits e in
           subst P (sym refuses.0) (before_lines (ended_by_length files long.0 waits refuses.1 long.1 long.2) refl refl)
-  refused_ends files left taken waits (Text reason) (Ok ended) is refuses =
-      before_lines (ended_by_text files is.0 waits reason refuses.0 ended is.1 is.2 refuses.2 refuses.1) refl refl
-  refused_ends files left taken waits (Text reason) (Err fault) is refuses = unread refl refl refuses.1 (inr (ap Err refuses.0))
+  refused_ends files left taken waits (Text reason) end is refuses =
+      reason_ends words files [] (record { text = is.0; name = rule.name.now; reading = rule.reading }) [] left taken waits reason end
+      (λ told e. file_compiles words told rule.file.now rule.name.now is.0 rule.reading row (whole_file told rule.file.now is.0 (subst (λ (f : Option (List ℕ → Option (List ℕ))). IsDescription f rule.file.now is.0) e is.1)))
+      tt is.1.fits is.2 refuses
+
+-- what `segments` compiles
+pub segments_compile : (words : List (List ℕ)) (files : List ℕ → Option (List ℕ)) (reading : Reading) → IsSegments words reading → Compiles words files (rule_of_entry reading Downlink ∷ [])
+segments_compile words files reading row = of_catalogue (Downlink ∷ []) reading (row, refl) refl
+
+pub asked_segments :
+    (words : List (List ℕ)) (files : Option (List ℕ → Option (List ℕ))) (reading : Reading) (rules : RulesV) (d : DescV) → IsSegments words reading
+    → length catalogue_text ≤ MOST_DESCRIPTION → IsCompiled catalogue_text (entry_root Downlink) reading rules d
+    → Asked words files (segmenting rules reading)
+asked_segments words None reading rules d row fits is = tt
+asked_segments words (Some files) reading rules d row fits is = asks_segments reading rules d row fits is refl
+
+-- the bodies that a command keeps are those that wait behind the blocks before
+pub record KeepsBodies (kept : Kept) (state : LineState) : Type 0 where
+  pub joins : JoinsFor kept.bodies state.blocks
+  pub watches : kept.watchers ≡ state.watchers
+
+pub keeps_close : (kept : Kept) (state : LineState) → KeepsBodies kept state → closing_of kept ≡ closing state
+keeps_close kept state is = ap reports is.watches
+
+pub joins_follow :
+    (d : DescV) (text : List ℕ) (rules : RulesV) (reading : Reading) → IsCompiled text (entry_root Downlink) reading rules d
+    → Follows KeepsBodies (Joins d) (Segments rules reading)
+joins_follow d source rules reading compiled kept line text kept' h before is =
+    let next = h.1 before.blocks is.joins in (
+      record { blocks = next.0; watchers = before.watchers },
+      (h.0, next.2 source rules reading compiled, h.2, refl),
+      record { joins = next.1; watches = h.3 ∙ is.watches },
+    )
 
 -- ---- ends of jobs
 
 -- the job is over with its lines
 pub lines_end :
-    (A : List ℕ → List ℕ → Type 0) (words : List (List ℕ)) (files : Option (List ℕ → Option (List ℕ))) (job : LineJob) (left left' taken taken' : Option (List ℕ)) (waits : List ℕ) (refused : Bool) (end : Result Ended Fault)
-    → Asked words files job → ((line answer : List ℕ) → A line answer → AnswersLine job line answer)
-    → IfOk end (λ ended. AnswersAll A left left' taken taken' waits refused × (ended ≡ end_of refused))
-    → IfErr end (λ fault. Stops A fault left left' taken taken' waits) → JobEnds words files left left' taken taken' waits end
-lines_end A words files job left left' taken taken' waits refused (Ok ended) asked weaker ok err = all_lines job refused asked (all_weaker A (AnswersLine job) weaker ok.0) (ap Ok ok.1)
-lines_end A words files job left left' taken taken' waits refused (Err fault) asked weaker ok err = some_lines job fault asked (stops_weaker A (AnswersLine job) weaker fault err) refl
+    (Stands : Kept → LineState → Type 0) (A : Kept → List ℕ → List ℕ → Kept → Type 0) (kept : Kept) (words : List (List ℕ)) (files : Option (List ℕ → Option (List ℕ))) (job : LineJob) (left left' taken taken' : Option (List ℕ)) (waits : List ℕ) (refused : Bool) (end : Result Ended Fault)
+    → Asked words files job → Follows Stands A (Steps job) → ((kept : Kept) (state : LineState) → Stands kept state → closing_of kept ≡ closing state) → Stands kept (beginning job)
+    → IfOk end (λ ended. AnswersAll A closing_of kept left left' taken taken' waits refused × (ended ≡ end_of refused))
+    → IfErr end (λ fault. Stops A kept fault left left' taken taken' waits) → JobEnds words files left left' taken taken' waits end
+lines_end Stands A kept words files job left left' taken taken' waits refused (Ok ended) asked follows closes is ok err = all_lines job refused asked (all_follow Stands A (Steps job) follows kept (beginning job) is closes ok.0) (ap Ok ok.1)
+lines_end Stands A kept words files job left left' taken taken' waits refused (Err fault) asked follows closes is ok err = some_lines job fault asked (stops_follow Stands A (Steps job) follows kept (beginning job) is fault err) refl
 
 -- the job of `check` is over by a plan
 pub check_ends :

@@ -1,5 +1,9 @@
 pub mod AnswerLemmas
 pub mod CommandLemmas
+pub mod FormLemmas
+pub mod FormsAgree
+pub mod Following
+pub mod OneInput
 pub mod JobLemmas
 pub mod LinesLemmas
 pub mod OutsideLemmas
@@ -17,5 +21,6 @@ pub mod OneResult
 pub mod MeantParts
 pub mod TreesFit
 pub mod ShownLines
+pub mod JoinedLines
 pub mod WrittenLines
 pub mod OneTree

@@ -2,7 +2,7 @@
 use Rattle.std.proofs.Common.{◌≡◌, ℕ, suc, ◌+◌, ◌<◌, add-one, get_or, take, drop, drop-cons, Bool, true, false, cond, eqb, List, [], ◌∷◌, ◌++◌, length, refl, sym, ◌∙◌, ap, arith, map, ltb}
 use Rattle.std.proofs.lemmas.List.{map-append, take-append-drop}
 use Rattle.std.proofs.lemmas.List.Elements.{filter-append}
-use Rattle.std.specs.List.{AllZip, filter}
+use Rattle.std.specs.List.{filter}
 use Rattle.csn_run.specs.Lines.{begin_first, between_feeds, HasNoFeed, without_return, answered}
 
 begin_first-nil : (c : ℕ) (xs : List (List ℕ)) → begin_first c xs ≡ [] → ⊥
@@ -46,12 +46,6 @@ HasNoFeed-append (c ∷ a) b h k = (h.0, HasNoFeed-append a b h.1 k)
 pub answered-append : (a b : List (List ℕ)) → answered (a ++ b) ≡ answered a ++ answered b
 answered-append a b =
     ap (filter (λ line. ltb 0 (length line))) (map-append without_return a b) ∙ filter-append (λ line. ltb 0 (length line)) (map without_return a) (map without_return b)
-
-pub AllZip-append : {A B : Type 0} (R : A → B → Type 0) (xs us : List A) (ys vs : List B) → AllZip R xs ys → AllZip R us vs → AllZip R (xs ++ us) (ys ++ vs)
-AllZip-append R [] us [] vs h k = k
-AllZip-append R [] us (y ∷ ys) vs h k = absurd h
-AllZip-append R (x ∷ xs) us [] vs h k = absurd h
-AllZip-append R (x ∷ xs) us (y ∷ ys) vs h k = (h.0, AllZip-append R xs us ys vs h.1 k)
 
 -- bytes of which none is a line feed, place by place
 pub HasNoFeed-from_places : (bytes : List ℕ) → ((k : ℕ) → k < length bytes → get_or bytes k 0 ≡ 10 → ⊥) → HasNoFeed bytes

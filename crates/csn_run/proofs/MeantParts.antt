@@ -1,19 +1,19 @@
 -- The trees of a rule, by the rules of a text, have labels that are labels and leaves that are bits.
-use Rattle.std.proofs.Common.{◌≡◌, ℕ, zero, suc, ◌+◌, ◌≤◌, Bool, true, false, List, [], ◌∷◌, ◌++◌, length, Option, Some, None, slice_get, refl, subst, ap, arith, length-append}
+use Rattle.std.proofs.Common.{◌≡◌, ℕ, zero, suc, ◌≤◌, Bool, true, false, List, [], ◌∷◌, ◌++◌, length, Option, Some, None, slice_get, refl, subst, ap, arith, length-append}
 use Rattle.std.specs.Prelude.{if◌then◌else◌}
 use Rattle.std.specs.Option.{option_map, option_or}
 use Rattle.std.specs.List.{find}
-use Rattle.csn_bits.specs.Octets.{IsBits, most_bits}
+use Rattle.csn_bits.specs.Octets.{most_bits}
 use Rattle.csn_desc.specs.declared.reading.Reading.{Reading}
 use Rattle.csn_desc.specs.TreeParts.{HasTreeParts, AllHaveTreeParts}
-use Rattle.csn_desc.specs.TreeV.{TreeV, Trees, none, more, row, empty}
+use Rattle.csn_desc.specs.TreeV.{TreeV, Trees, none, more}
 use Rattle.csn_grammar.specs.declared.rules.Rule.{Rule}
 use Rattle.csn_grammar.specs.ExprV.{ExprV, expr, seq, ExprsV, no_item, item, BranchesV}
 use Rattle.csn_grammar.specs.RulesV.{RulesV}
 use Rattle.csn_grammar.specs.Names.{is_built_in, same_name, rule_of}
 use Rattle.csn_grammar.specs.Environment.{Frame, Env}
 use Rattle.csn_grammar.specs.Forms.{WidthV, WindowV, width_of, window_of}
-use Rattle.csn_grammar.specs.TailForm.{EndV, TailV, end_of, last_item, front_items, tail_of_body, tail_of}
+use Rattle.csn_grammar.specs.TailForm.{EndV, TailV, end_of, last_item, front_items, tail_of_body}
 use Rattle.csn_grammar.specs.Void.{Kept, kept_end, kept_next, kept_void, kept_error}
 use Rattle.csn_grammar.specs.Labelled.{IsLabelled, ItemsLabelled, BranchesLabelled, AreLabelled}
 use Rattle.csn_grammar.specs.Laws.{MeaningsAreBits}

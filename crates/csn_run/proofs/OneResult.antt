@@ -1,14 +1,14 @@
 -- A run has one result.
-use Rattle.std.proofs.Common.{◌≡◌, ℕ, ◌≤◌, ◌⊎◌, inl, inr, Bool, List, [], ◌∷◌, ◌++◌, length, take, codes, Option, Some, refl, sym, ◌∙◌, ap, subst, arith}
-use Rattle.std.proofs.lemmas.List.{append-nil}
+use Rattle.std.proofs.Common.{◌≡◌, ℕ, ◌≤◌, inl, inr, List, [], ◌∷◌, ◌++◌, length, map, codes, Option, Some, refl, sym, ◌∙◌, ap, subst, arith}
+use Rattle.std.specs.List.{AllByRecursion}
 use Rattle.std.specs.Prelude.{slice_index}
-use Rattle.std.specs.List.{AllZip, list_any}
+use Rattle.csn_catalogue.specs.declared.entry.Entry.TheVariants.{Downlink}
+use Rattle.csn_catalogue.specs.Text.{catalogue_text}
 use Rattle.csn_desc.specs.declared.reading.Reading.{Reading}
 use Rattle.csn_desc.specs.declared.reading.Reading.TheVariants.{Received, Sent}
 use Rattle.csn_desc.specs.Nodes.{DescV}
 use Rattle.csn_grammar.specs.RulesV.{RulesV}
 use Rattle.csn_grammar.specs.Place.{HasRules}
-use Rattle.csn_resolve.specs.declared.why.Why.{Why}
 use Rattle.csn_resolve.specs.Why.{number_of}
 use Rattle.csn_resolve.specs.Resolved.{IsResolved, IsRefused}
 use Rattle.csn_look.specs.declared.word.TheConstants.{MOST_WORD}
@@ -16,66 +16,15 @@ use Rattle.csn_certify.specs.declared.conflict.Conflict.{Conflict}
 use Rattle.csn_certify.specs.Conflicts.{IsFirstConflict}
 use Rattle.csn_run.specs.declared.command.RuleCommand.{RuleCommand}
 use Rattle.csn_run.specs.declared.command.RuleCommand.TheVariants.{Show, Write}
+use Rattle.csn_run.specs.declared.command.TreeForm.TheVariants.{Text, Json}
 use Rattle.csn_run.specs.declared.ended.Ended.{Ended}
-use Rattle.csn_run.specs.declared.lines.TheConstants.{MOST_INPUT}
 use Rattle.csn_run.specs.declared.compile.TheConstants.{MOST_DESCRIPTION}
-use Rattle.csn_run.specs.Known.{KnownOfTexts, Known}
-use Rattle.csn_run.specs.Command.{word_of, command_word, NamesRule, IsCheck, IsAnswer, IsMigrate, IsOverRule}
-use Rattle.csn_run.specs.Compiled.{line_of, conflict_line, certified_line, IsCompiled, HasNoPlan, no_rules, rules_refused, not_certified}
-use Rattle.csn_run.specs.Lines.{between_feeds, answered, text_of, is_refusal}
-use Rattle.csn_run.specs.Progress.{Answers, EndsIn}
-use Rattle.csn_run.specs.Result.{LineJob, by_rule, AnswersLine, AsksFor, asks_by_rule, asks_migrate, end_of, AnswersInput, answers_all, answers_front, HasNoJob, long_text, no_plan, EndsBefore, no_job, checked, Result, no_line, lines}
+use Rattle.csn_run.specs.Known.{KnownOfTexts}
+use Rattle.csn_run.specs.Command.{word_of, command_word, NamesRule, NamesReading, IsCheck, IsAnswer, IsMigrate, IsOverRule}
+use Rattle.csn_run.specs.Compiled.{RuleOf, rule_of_entry, line_of, conflict_line, certified_line, IsCompiled, HasNoPlan, no_rules, rules_refused, not_certified}
+use Rattle.csn_run.specs.Result.{LineJob, by_rule, segmenting, AsksFor, asks_by_rule, asks_migrate, asks_segments, AnswersInput, HasJob, Compiles, of_file, of_catalogue, HasNoJob, long_text, no_plan, EndsBefore, no_job, checked, no_line, lines}
 use Rattle.csn_run.specs.Laws.{LinesHaveOneAnswer, RunsHaveOneResult}
-use Rattle.csn_run.proofs.LinesLemmas.{between_feeds-one}
-
--- ---- answers to lines
-
-last_apart : (xs ys : List (List ℕ)) (x y : List ℕ) → xs ++ x ∷ [] ≡ ys ++ y ∷ [] → xs ≡ ys
-last_apart [] [] x y e = refl
-last_apart [] (v ∷ []) x y e = cc
-last_apart [] (v ∷ w ∷ ys) x y e = cc
-last_apart (u ∷ []) [] x y e = cc
-last_apart (u ∷ w ∷ xs) [] x y e = cc
-last_apart (u ∷ xs) (v ∷ ys) x y e =
-    let first : u ≡ v = cc in
-    let behind : xs ++ x ∷ [] ≡ ys ++ y ∷ [] = cc in
-    ap (λ w. w ∷ xs) first ∙ ap (λ l. v ∷ l) (last_apart xs ys x y behind)
-
--- bytes have one list of lines that have ended in them
-one_end : (bytes line other : List ℕ) (ended others : List (List ℕ)) → EndsIn bytes ended line → EndsIn bytes others other → ended ≡ others
-one_end bytes line other ended others a b = last_apart ended others line other (sym (pieces ended line a) ∙ pieces others other b)
-  where
-    pieces : (ended : List (List ℕ)) (line : List ℕ) → EndsIn bytes ended line → between_feeds (bytes ++ []) ≡ ended ++ line ∷ []
-    pieces ended line is = is.whole [] ∙ ap (λ l. ended ++ between_feeds l) (append-nil line) ∙ ap (λ l. ended ++ l) (between_feeds-one line is.unended)
-
-abbrev Written : List ℕ → Ended → List ℕ → Ended → Type 0
-Written w e v f = (w ≡ v) × (e ≡ f)
-
-module _ (Answer : List ℕ → List ℕ → Type 0) (one : (line a b : List ℕ) → Answer line a → Answer line b → a ≡ b) where
-  one_each : (found answers others : List (List ℕ)) → AllZip Answer found answers → AllZip Answer found others → answers ≡ others
-  one_each [] [] [] h k = refl
-  one_each [] [] (b ∷ others) h k = absurd k
-  one_each [] (a ∷ answers) others h k = absurd h
-  one_each (line ∷ found) [] others h k = absurd h
-  one_each (line ∷ found) (a ∷ answers) [] h k = absurd k
-  one_each (line ∷ found) (a ∷ answers) (b ∷ others) h k =
-      ap (λ x. x ∷ answers) (one line a b h.0 k.0) ∙ ap (λ l. b ∷ l) (one_each found answers others h.1 k.1)
-
-  one_text : (pieces : List (List ℕ)) (text other : List ℕ) (refused refused' : Bool) → Answers Answer pieces text refused → Answers Answer pieces other refused' → (text ≡ other) × (refused ≡ refused')
-  one_text pieces text other refused refused' a b =
-      let same = one_each (answered pieces) a.answers b.answers a.each b.each in
-      (a.text_is ∙ ap text_of same ∙ sym b.text_is, a.refused_is ∙ ap (list_any is_refusal) same ∙ sym b.refused_is)
-
-  one_input : (input w v : List ℕ) (e f : Ended) → AnswersInput Answer input w e → AnswersInput Answer input v f → Written w e v f
-  one_input input w v e f (answers_all refused fits a is) (answers_all refused' fits' b is') =
-      let same = one_text (between_feeds input) w v refused refused' a b in
-      (same.0, is ∙ ap end_of same.1 ∙ sym is')
-  one_input input w v e f (answers_all refused fits a is) (answers_front found line refused' long ends b is') = absurd (omega arith)
-  one_input input w v e f (answers_front found line refused long ends a is) (answers_all refused' fits' b is') = absurd (omega arith)
-  one_input input w v e f (answers_front found line refused long ends a is) (answers_front found' line' refused' long' ends' b is') =
-      let pieces : found ≡ found' = one_end (take MOST_INPUT input) line line' found found' ends ends' in
-      let same = one_text found' w v refused refused' (subst (λ (p : List (List ℕ)). Answers Answer p w refused) pieces a) b in
-      (same.0, is ∙ sym is')
+use Rattle.csn_run.proofs.OneInput.{Written, one_input}
 
 -- ---- what the words name
 
@@ -115,14 +64,28 @@ pub answers : {words : List (List ℕ)} {file name : List ℕ} {reading : Readin
 answers command row = record { command = command_word command; row = row }
 
 one_command : (command other : RuleCommand) → command_word command ≡ command_word other → command ≡ other
-one_command Show Show e = refl
-one_command Show Write e = cc
-one_command Write Show e = cc
-one_command Write Write e = refl
+one_command (Show Text) (Show Text) e = refl
+one_command (Show Text) (Show Json) e = absurd (let first : 115 ≡ 106 = ap (λ w. slice_index w 0) e in omega (arith, first))
+one_command (Show Text) (Write Text) e = absurd (let first : 115 ≡ 119 = ap (λ w. slice_index w 0) e in omega (arith, first))
+one_command (Show Text) (Write Json) e = absurd (let first : 115 ≡ 117 = ap (λ w. slice_index w 0) e in omega (arith, first))
+one_command (Show Json) (Show Text) e = absurd (let first : 106 ≡ 115 = ap (λ w. slice_index w 0) e in omega (arith, first))
+one_command (Show Json) (Show Json) e = refl
+one_command (Show Json) (Write Text) e = absurd (let first : 106 ≡ 119 = ap (λ w. slice_index w 0) e in omega (arith, first))
+one_command (Show Json) (Write Json) e = absurd (let first : 106 ≡ 117 = ap (λ w. slice_index w 0) e in omega (arith, first))
+one_command (Write Text) (Show Text) e = absurd (let first : 119 ≡ 115 = ap (λ w. slice_index w 0) e in omega (arith, first))
+one_command (Write Text) (Show Json) e = absurd (let first : 119 ≡ 106 = ap (λ w. slice_index w 0) e in omega (arith, first))
+one_command (Write Text) (Write Text) e = refl
+one_command (Write Text) (Write Json) e = absurd (let first : 119 ≡ 117 = ap (λ w. slice_index w 0) e in omega (arith, first))
+one_command (Write Json) (Show Text) e = absurd (let first : 117 ≡ 115 = ap (λ w. slice_index w 0) e in omega (arith, first))
+one_command (Write Json) (Show Json) e = absurd (let first : 117 ≡ 106 = ap (λ w. slice_index w 0) e in omega (arith, first))
+one_command (Write Json) (Write Text) e = absurd (let first : 117 ≡ 119 = ap (λ w. slice_index w 0) e in omega (arith, first))
+one_command (Write Json) (Write Json) e = refl
 
 not_check : (command : RuleCommand) → codes "check" ≡ command_word command → ⊥
-not_check Show e = cc
-not_check Write e = let first : 99 ≡ 119 = ap (λ w. slice_index w 0) e in omega (arith, first)
+not_check (Show Text) e = let first : 99 ≡ 115 = ap (λ w. slice_index w 0) e in omega (arith, first)
+not_check (Show Json) e = let first : 99 ≡ 106 = ap (λ w. slice_index w 0) e in omega (arith, first)
+not_check (Write Text) e = let first : 99 ≡ 119 = ap (λ w. slice_index w 0) e in omega (arith, first)
+not_check (Write Json) e = let first : 99 ≡ 117 = ap (λ w. slice_index w 0) e in omega (arith, first)
 
 pub not_both : {words : List (List ℕ)} {file name file' name' : List ℕ} {reading reading' : Reading} (command : RuleCommand) → IsCheck words file name reading → IsAnswer command words file' name' reading' → ⊥
 not_both command row row' = not_check command (one_rule row row').command_is
@@ -131,20 +94,50 @@ pub not_migrate : {words : List (List ℕ)} {file name : List ℕ} {reading : Re
 not_migrate {words} {file} {name} {reading} rule is =
     let all : rule.command ∷ file ∷ name ∷ word_of reading ∷ [] ≡ codes "migrate" ∷ [] = sym rule.row.words_are ∙ is in cc
 
--- what holds of the text, the rule and the reading that the words name holds of them however they are named
-pub moved :
-    {words : List (List ℕ)} {file name text file' name' text' : List ℕ} {reading reading' : Reading}
-    (files : List ℕ → Option (List ℕ)) (P : List ℕ → List ℕ → Reading → Type 0)
-    → OverRule words file name reading → files file ≡ Some text → OverRule words file' name' reading' → files file' ≡ Some text'
-    → P text name reading → P text' name' reading'
-moved {words} {file} {name} {text} {file'} {name'} {text'} {reading} {reading'} files P rule held rule' held' p =
-    let same = one_rule rule.row rule'.row in
+-- words of four are none of two
+pub not_two : {words : List (List ℕ)} {file name first second : List ℕ} {reading : Reading} → OverRule words file name reading → words ≡ first ∷ second ∷ [] → ⊥
+not_two {words} {file} {name} {first} {second} {reading} rule is =
+    let all : rule.command ∷ file ∷ name ∷ word_of reading ∷ [] ≡ first ∷ second ∷ [] = sym rule.row.words_are ∙ is in cc
+
+pub migrate_alone : {words : List (List ℕ)} {first second : List ℕ} → IsMigrate words → words ≡ first ∷ second ∷ [] → ⊥
+migrate_alone {words} {first} {second} row is =
+    let all : codes "migrate" ∷ [] ≡ first ∷ second ∷ [] = sym row ∙ is in cc
+
+-- words of two name one reading
+pub same_reading : {words : List (List ℕ)} {command other : List ℕ} {reading reading' : Reading} → NamesReading command words reading → NamesReading other words reading' → reading ≡ reading'
+same_reading {words} {command} {other} {reading} {reading'} is is' =
+    let all : command ∷ word_of reading ∷ [] ≡ other ∷ word_of reading' ∷ [] = sym is ∙ is' in
+    let read : word_of reading ≡ word_of reading' = cc in one_reading_word reading reading' read
+
+-- ---- what is compiled
+
+abbrev pub rule_of : List ℕ → List ℕ → Reading → RuleOf
+rule_of text name reading = record { text = text; name = name; reading = reading }
+
+pub first_of : {rule other : RuleOf} {rest others : List RuleOf} → rule ∷ rest ≡ other ∷ others → rule ≡ other
+first_of e = cc
+
+rest_of : {rule other : RuleOf} {rest others : List RuleOf} → rule ∷ rest ≡ other ∷ others → rest ≡ others
+rest_of e = cc
+
+-- a run of the words compiles one list of rules
+pub one_list_compiles : (words : List (List ℕ)) (files : List ℕ → Option (List ℕ)) (all others : List RuleOf) → Compiles words files all → Compiles words files others → all ≡ others
+one_list_compiles words files all others (of_file file name text reading row held is) (of_file file' name' text' reading' row' held' is') =
+    let same = one_rule (over row).row (over row').row in
     let there : Some text ≡ Some text' = sym held ∙ ap files same.file_is ∙ held' in
     let texts : text ≡ text' = cc in
-    let A : List ℕ → Type 0 = λ t. P t name reading in
-    let B : List ℕ → Type 0 = λ n. P text' n reading in
-    let C : Reading → Type 0 = λ r. P text' name' r in
-    subst C same.reading_is (subst B same.name_is (subst A texts p))
+    let rules : rule_of text name reading ≡ rule_of text' name' reading' =
+    ap (λ t. rule_of t name reading) texts ∙ ap (λ n. rule_of text' n reading) same.name_is ∙ ap (λ r. rule_of text' name' r) same.reading_is in
+    is ∙ ap (λ r. r ∷ []) rules ∙ sym is'
+one_list_compiles words files all others (of_file file name text reading row held is) (of_catalogue entries reading' row' is') = absurd (not_two (over row) row'.0)
+one_list_compiles words files all others (of_catalogue entries reading row is) (of_file file' name' text' reading' row' held' is') = absurd (not_two (over row') row.0)
+one_list_compiles words files all others (of_catalogue entries reading row is) (of_catalogue entries' reading' row' is') =
+    is ∙ ap (λ r. map (rule_of_entry r) entries) (same_reading row.0 row'.0) ∙ ap (map (rule_of_entry reading')) (row.1 ∙ sym row'.1) ∙ sym is'
+
+-- where all rules have a job, each has one
+pub holds_at : (front : List RuleOf) (rule : RuleOf) (behind : List RuleOf) → AllByRecursion HasJob (front ++ rule ∷ behind) → HasJob rule
+holds_at [] rule behind h = h.0
+holds_at (first ∷ front) rule behind h = holds_at front rule behind h.1
 
 module _ (known : KnownOfTexts) where
   -- ---- a text without a plan
@@ -223,50 +216,89 @@ module _ (known : KnownOfTexts) where
   no_job_or_one (long_text long is end) fits compiled = omega (arith, long, fits)
   no_job_or_one (no_plan line fits' none is) fits compiled = no_plan_or_one none compiled
 
+  -- a rule has a job, or none
+  job_or_none : (rule : RuleOf) {w : List ℕ} {e : Ended} → HasJob rule → HasNoJob rule.text rule.name rule.reading w e → ⊥
+  job_or_none rule has none = no_job_or_one none has.0 has.3
+
+  -- the first rule that has no job is one
+  one_first :
+      (front front' : List RuleOf) (rule rule' : RuleOf) (behind behind' : List RuleOf) (w v : List ℕ) (e f : Ended)
+      → front ++ rule ∷ behind ≡ front' ++ rule' ∷ behind' → AllByRecursion HasJob front → AllByRecursion HasJob front'
+      → HasNoJob rule.text rule.name rule.reading w e → HasNoJob rule'.text rule'.name rule'.reading v f → rule ≡ rule'
+  one_first [] [] rule rule' behind behind' w v e f same has has' none none' = first_of same
+  one_first [] (first ∷ front') rule rule' behind behind' w v e f same has has' none none' =
+      absurd (job_or_none first has'.0 (subst (λ (r : RuleOf). HasNoJob r.text r.name r.reading w e) (first_of same) none))
+  one_first (first ∷ front) [] rule rule' behind behind' w v e f same has has' none none' =
+      absurd (job_or_none first has.0 (subst (λ (r : RuleOf). HasNoJob r.text r.name r.reading v f) (sym (first_of same)) none'))
+  one_first (first ∷ front) (first' ∷ front') rule rule' behind behind' w v e f same has has' none none' =
+      one_first front front' rule rule' behind behind' w v e f (rest_of same) has.1 has'.1 none none'
+
   -- ---- runs that come to no line
 
   module _ (words : List (List ℕ)) (files : List ℕ → Option (List ℕ)) where
-    no_job_or_compiled :
-        {file name text file' name' text' : List ℕ} {reading reading' : Reading} {w : List ℕ} {e : Ended} {rules : RulesV} {d : DescV}
-        → OverRule words file name reading → files file ≡ Some text → HasNoJob text name reading w e
-        → OverRule words file' name' reading' → files file' ≡ Some text' → length text' ≤ MOST_DESCRIPTION
-        → IsCompiled text' name' reading' rules d → ⊥
-    no_job_or_compiled {w = w} {e} row held none row' held' fits compiled =
-        let P : List ℕ → List ℕ → Reading → Type 0 = λ t n r. HasNoJob t n r w e in
-        no_job_or_one (moved files P row held row' held' none) fits compiled
+    -- one rule that is compiled, where all that are have a job
+    all_or_none : (front : List RuleOf) (rule : RuleOf) (behind all : List RuleOf) {w : List ℕ} {e : Ended} → Compiles words files (front ++ rule ∷ behind) → Compiles words files all → AllByRecursion HasJob all → HasNoJob rule.text rule.name rule.reading w e → ⊥
+    all_or_none front rule behind all compiles others has none =
+        job_or_none rule (holds_at front rule behind (subst (λ (l : List RuleOf). AllByRecursion HasJob l) (one_list_compiles words files all (front ++ rule ∷ behind) others compiles) has)) none
+
+    -- all rules that `check` compiles have a job
+    pub checked_compiles :
+        {file name text : List ℕ} {reading : Reading} {rules : RulesV} {d : DescV} → IsOverRule words file name reading → files file ≡ Some text
+        → length text ≤ MOST_DESCRIPTION → IsCompiled text name reading rules d
+        → Compiles words files (rule_of text name reading ∷ []) × AllByRecursion HasJob (rule_of text name reading ∷ [])
+    checked_compiles {file} {name} {text} {reading} {rules} {d} row held fits compiled = (of_file file name text reading row held refl, ((fits, rules, d, compiled), tt))
 
     one_before : (w v : List ℕ) (e f : Ended) → EndsBefore words files w e → EndsBefore words files v f → Written w e v f
-    one_before w v e f (no_job file name text reading row held none) (no_job file' name' text' reading' row' held' none') =
-        let P : List ℕ → List ℕ → Reading → Type 0 = λ t n r. HasNoJob t n r w e in
-        one_no_job text' name' reading' w v e f (moved files P (over row) held (over row') held' none) none'
-    one_before w v e f (no_job file name text reading row held none) (checked file' name' text' reading' rules d row' held' fits compiled is end) =
-        absurd (no_job_or_compiled (over row) held none (over (inl row')) held' fits compiled)
-    one_before w v e f (checked file' name' text' reading' rules d row' held' fits compiled is end) (no_job file name text reading row held none) =
-        absurd (no_job_or_compiled (over row) held none (over (inl row')) held' fits compiled)
+    one_before w v e f (no_job front rule behind compiles has none) (no_job front' rule' behind' compiles' has' none') =
+        let same = one_first front front' rule rule' behind behind' w v e f (one_list_compiles words files _ _ compiles compiles') has has' none none' in
+        one_no_job rule'.text rule'.name rule'.reading w v e f (subst (λ (r : RuleOf). HasNoJob r.text r.name r.reading w e) same none) none'
+    one_before w v e f (no_job front rule behind compiles has none) (checked file' name' text' reading' rules d row' held' fits compiled is end) =
+        let all = checked_compiles (inl row') held' fits compiled in absurd (all_or_none front rule behind _ compiles all.0 all.1 none)
+    one_before w v e f (checked file' name' text' reading' rules d row' held' fits compiled is end) (no_job front rule behind compiles has none) =
+        let all = checked_compiles (inl row') held' fits compiled in absurd (all_or_none front rule behind _ compiles all.0 all.1 none)
     one_before w v e f (checked file name text reading rules d row held fits compiled is end) (checked file' name' text' reading' rules' d' row' held' fits' compiled' is' end') =
-        let P : List ℕ → List ℕ → Reading → Type 0 = λ t n r. IsCompiled t n r rules d in
-        let same = one_compiled (moved files P (over (inl row)) held (over (inl row')) held' compiled) compiled' in
-        (is ∙ ap (λ x. certified_line x ++ 10 ∷ []) same ∙ sym is', end ∙ sym end')
+        let same = first_of (one_list_compiles words files _ _ (checked_compiles (inl row) held fits compiled).0 (checked_compiles (inl row') held' fits' compiled').0) in
+        let P : RuleOf → Type 0 = λ r. IsCompiled r.text r.name r.reading rules d in
+        let one = one_compiled (subst P same compiled) compiled' in
+        (is ∙ ap (λ x. certified_line x ++ 10 ∷ []) one ∙ sym is', end ∙ sym end')
 
     -- ---- which job the words ask for
 
     one_job : (job other : LineJob) → AsksFor words files job → AsksFor words files other → job ≡ other
     one_job job other (asks_by_rule command file name text reading rules d row held fits compiled is) (asks_by_rule command' file' name' text' reading' rules' d' row' held' fits' compiled' is') =
-        let P : List ℕ → List ℕ → Reading → Type 0 = λ t n r. HasRules t rules in
-        let all : rules ≡ rules' = known.one_list text' rules rules' (moved files P (answers command row) held (answers command' row') held' compiled.has_rules) compiled'.has_rules in
+        let here = first_of (one_list_compiles words files _ _ (checked_compiles (inr (command, row)) held fits compiled).0 (checked_compiles (inr (command', row')) held' fits' compiled').0) in
+        let P : RuleOf → Type 0 = λ r. HasRules r.text rules in
+        let all : rules ≡ rules' = known.one_list text' rules rules' (subst P here compiled.has_rules) compiled'.has_rules in
         let same = one_rule row row' in
         is ∙ ap (λ c. by_rule c rules name reading) (one_command command command' same.command_is) ∙ ap (λ r. by_rule command' r name reading) all ∙ ap (λ n. by_rule command' rules' n reading) same.name_is ∙ ap (λ r. by_rule command' rules' name' r) same.reading_is ∙ sym is'
     one_job job other (asks_by_rule command file name text reading rules d row held fits compiled is) (asks_migrate row' is') = absurd (not_migrate (answers command row) row')
+    one_job job other (asks_by_rule command file name text reading rules d row held fits compiled is) (asks_segments reading' rules' d' row' fits' compiled' is') = absurd (not_two (answers command row) row')
     one_job job other (asks_migrate row' is') (asks_by_rule command file name text reading rules d row held fits compiled is) = absurd (not_migrate (answers command row) row')
     one_job job other (asks_migrate row is) (asks_migrate row' is') = is ∙ sym is'
+    one_job job other (asks_migrate row is) (asks_segments reading' rules' d' row' fits' compiled' is') = absurd (migrate_alone row row')
+    one_job job other (asks_segments reading' rules' d' row' fits' compiled' is') (asks_by_rule command file name text reading rules d row held fits compiled is) = absurd (not_two (answers command row) row')
+    one_job job other (asks_segments reading' rules' d' row' fits' compiled' is') (asks_migrate row is) = absurd (migrate_alone row row')
+    one_job job other (asks_segments reading rules d row fits compiled is) (asks_segments reading' rules' d' row' fits' compiled' is') =
+        let all : rules ≡ rules' = known.one_list catalogue_text rules rules' compiled.has_rules compiled'.has_rules in
+        is ∙ ap (λ r. segmenting r reading) all ∙ ap (λ r. segmenting rules' r) (same_reading row row') ∙ sym is'
+
+    -- a run that has a job over lines has one for each rule that it compiles
+    pub jobs_compile : (job : LineJob) (all : List RuleOf) → AsksFor words files job → Compiles words files all → AllByRecursion HasJob all
+    jobs_compile job all (asks_by_rule command file name text reading rules d row held fits compiled is) compiles =
+        let here = checked_compiles (inr (command, row)) held fits compiled in
+        subst (λ (l : List RuleOf). AllByRecursion HasJob l) (one_list_compiles words files _ all here.0 compiles) here.1
+    jobs_compile job all (asks_migrate row is) (of_file file name text reading row' held is') = absurd (not_migrate (over row') row)
+    jobs_compile job all (asks_migrate row is) (of_catalogue entries reading row' is') = absurd (migrate_alone row row'.0)
+    jobs_compile job all (asks_segments reading rules d row fits compiled is) compiles =
+        let here : AllByRecursion HasJob (rule_of_entry reading Downlink ∷ []) = ((fits, rules, d, compiled), tt) in
+        subst (λ (l : List RuleOf). AllByRecursion HasJob l) (one_list_compiles words files (rule_of_entry reading Downlink ∷ []) all (of_catalogue (Downlink ∷ []) reading (row, refl) refl) compiles) here
 
     -- a run that comes to no line has no job over lines
     pub before_or_job : {w : List ℕ} {e : Ended} (job : LineJob) → EndsBefore words files w e → AsksFor words files job → ⊥
-    before_or_job job (no_job file name text reading row held none) (asks_by_rule command file' name' text' reading' rules d row' held' fits compiled is) =
-        no_job_or_compiled (over row) held none (answers command row') held' fits compiled
-    before_or_job job (no_job file name text reading row held none) (asks_migrate row' is) = not_migrate (over row) row'
+    before_or_job job (no_job front rule behind compiles has none) asked = job_or_none rule (holds_at front rule behind (jobs_compile job _ asked compiles)) none
     before_or_job job (checked file name text reading rules d row held fits compiled is end) (asks_by_rule command file' name' text' reading' rules' d' row' held' fits' compiled' is') = not_both command row row'
     before_or_job job (checked file name text reading rules d row held fits compiled is end) (asks_migrate row' is') = not_migrate (over (inl row)) row'
+    before_or_job job (checked file name text reading rules d row held fits compiled is end) (asks_segments reading' rules' d' row' fits' compiled' is') = not_two (over (inl row)) row'
 
 pub one_result : KnownOfTexts → LinesHaveOneAnswer → RunsHaveOneResult
 one_result known one_in_job words files input w v e f (no_line before) (no_line before') = one_before known words files w v e f before before'
@@ -274,4 +306,4 @@ one_result known one_in_job words files input w v e f (no_line before) (lines jo
 one_result known one_in_job words files input w v e f (lines job asked a) (no_line before) = absurd (before_or_job known words files job before asked)
 one_result known one_in_job words files input w v e f (lines job asked a) (lines job' asked' b) =
     let same : job ≡ job' = one_job known words files job job' asked asked' in
-    one_input (AnswersLine job') (one_in_job words files job' asked') input w v e f (subst (λ (j : LineJob). AnswersInput (AnswersLine j) input w e) same a) b
+    one_input job' (one_in_job words files job' asked') input w v e f (subst (λ (j : LineJob). AnswersInput j input w e) same a) b

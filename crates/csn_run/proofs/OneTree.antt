@@ -1,46 +1,40 @@
 -- After a command over a rule is done, the rule gives no bits two trees.
-use Rattle.std.proofs.Common.{◌≡◌, ℕ, ◌⊎◌, inl, inr, Bool, List, [], Option, Some, sym, ◌∙◌, ap, subst, Result, Ok, Err}
-use Rattle.csn_desc.specs.declared.reading.Reading.{Reading}
-use Rattle.csn_desc.specs.Nodes.{DescV}
+use Rattle.std.proofs.Common.{◌≡◌, ℕ, inl, inr, List, Option, Some, subst, Result}
+use Rattle.std.specs.List.{AllByRecursion}
 use Rattle.csn_desc.specs.TreeV.{TreeV}
 use Rattle.csn_grammar.specs.RulesV.{RulesV}
-use Rattle.csn_grammar.specs.Place.{HasRules}
 use Rattle.csn_grammar.specs.Strings.{Strings}
 use Rattle.csn_run.specs.declared.ended.Ended.{Ended}
-use Rattle.csn_run.specs.declared.ended.Ended.TheVariants.{Done, SomeRefused}
 use Rattle.csn_run.specs.declared.fault.Fault.TheVariants.{Read, Memory}
 use Rattle.csn_run.specs.declared.fault.Fault.{Fault}
 use Rattle.csn_run.specs.Known.{Known}
-use Rattle.csn_run.specs.Command.{IsOverRule}
-use Rattle.csn_run.specs.Compiled.{IsCompiled, no_rules, rules_refused, not_certified}
-use Rattle.csn_run.specs.Job.{JobEnds, unread, before_lines, all_lines, some_lines, end_with, end_by}
-use Rattle.csn_run.specs.Result.{LineJob, AsksFor, asks_by_rule, asks_migrate, EndsBefore, no_job, checked, long_text, no_plan, RulesHaveOneTree}
-use Rattle.csn_run.proofs.OneResult.{OverRule, over, answers, moved, not_migrate}
+use Rattle.csn_run.specs.Compiled.{RuleOf, no_rules, rules_refused, not_certified}
+use Rattle.csn_run.specs.Job.{JobEnds, unread, before_lines, all_lines, some_lines, end_with}
+use Rattle.csn_run.specs.Result.{LineJob, AsksFor, HasJob, Compiles, EndsBefore, no_job, checked, long_text, no_plan, RulesHaveOneTree}
+use Rattle.csn_run.proofs.OneResult.{holds_at, one_list_compiles, checked_compiles, jobs_compile}
 use Rattle.csn_run.proofs.ResultLemmas.{IsAnswered, fault_answered, ended_apart}
 use Rattle.csn_run.proofs.ShownLines.{one_tree}
 
 module _ (known : Known) (words : List (List ℕ)) (files : List ℕ → Option (List ℕ)) where
-  -- the rule that was compiled is the one that the words name
-  compiled_one_tree :
-      {file name text : List ℕ} {reading : Reading} {rules : RulesV} {d : DescV}
-      → OverRule words file name reading → files file ≡ Some text → IsCompiled text name reading rules d → RulesHaveOneTree words files
-  compiled_one_tree {rules = rules} {d} row held compiled file' name' text' reading' rules' row' held' has' b t u first second =
-      let P : List ℕ → List ℕ → Reading → Type 0 = λ t n r. IsCompiled t n r rules d in
-      let here = moved files P row held (over row') held' compiled in
-      let same : rules' ≡ rules = known.of_texts.one_list text' rules' rules has' here.has_rules in
-      let Q : RulesV → TreeV → Type 0 = λ r x. Strings r name' reading' b x in
-      one_tree known text' rules name' reading' d here b t u (subst (λ r. Q r t) same first) (subst (λ r. Q r u) same second)
+  -- the rules that were compiled are those that are meant
+  all_one_tree : (all : List RuleOf) → Compiles words files all → AllByRecursion HasJob all → RulesHaveOneTree words files
+  all_one_tree all compiles has front behind rule rules compiles' has_rules b t u first second =
+      let job = holds_at front rule behind (subst (λ (l : List RuleOf). AllByRecursion HasJob l) (one_list_compiles words files all _ compiles compiles') has) in
+      let same : rules ≡ job.1 = known.of_texts.one_list rule.text rules job.1 has_rules job.3.has_rules in
+      let Q : RulesV → TreeV → Type 0 = λ r x. Strings r rule.name rule.reading b x in
+      one_tree known rule.text job.1 rule.name rule.reading job.2 job.3 b t u (subst (λ r. Q r t) same first) (subst (λ r. Q r u) same second)
 
   asked_one_tree : (job : LineJob) → AsksFor words files job → RulesHaveOneTree words files
-  asked_one_tree job (asks_by_rule command file name text reading rules d row held fits compiled is) = compiled_one_tree (answers command row) held compiled
-  asked_one_tree job (asks_migrate row is) = λ file name text reading rules row' held has b t u first second. absurd (not_migrate (over row') row)
+  asked_one_tree job asked front behind rule rules compiles =
+      all_one_tree _ compiles (jobs_compile known.of_texts words files job _ asked compiles) front behind rule rules compiles
 
   before_one_tree : (written : List ℕ) (ended : Ended) → EndsBefore words files written ended → IsAnswered ended → RulesHaveOneTree words files
-  before_one_tree written ended (no_job file name text reading row held (long_text long is e)) answered = absurd (ended_apart _ _ e (λ h. cc) (λ h. cc) answered)
-  before_one_tree written ended (no_job file name text reading row held (no_plan line fits (no_rules place at is e) ends)) answered = absurd (ended_apart _ _ e (λ h. cc) (λ h. cc) answered)
-  before_one_tree written ended (no_job file name text reading row held (no_plan line fits (rules_refused rules why place has why_not is e) ends)) answered = absurd (ended_apart _ _ e (λ h. cc) (λ h. cc) answered)
-  before_one_tree written ended (no_job file name text reading row held (no_plan line fits (not_certified rules d c has resolved first is e) ends)) answered = absurd (ended_apart _ _ e (λ h. cc) (λ h. cc) answered)
-  before_one_tree written ended (checked file name text reading rules d row held fits compiled is e) answered = compiled_one_tree (over (inl row)) held compiled
+  before_one_tree written ended (no_job front rule behind compiles earlier (long_text long is e)) answered = absurd (ended_apart _ _ e (λ h. cc) (λ h. cc) answered)
+  before_one_tree written ended (no_job front rule behind compiles earlier (no_plan line fits (no_rules place at is e) ends)) answered = absurd (ended_apart _ _ e (λ h. cc) (λ h. cc) answered)
+  before_one_tree written ended (no_job front rule behind compiles earlier (no_plan line fits (rules_refused rules why place has why_not is e) ends)) answered = absurd (ended_apart _ _ e (λ h. cc) (λ h. cc) answered)
+  before_one_tree written ended (no_job front rule behind compiles earlier (no_plan line fits (not_certified rules d c has resolved first is e) ends)) answered = absurd (ended_apart _ _ e (λ h. cc) (λ h. cc) answered)
+  before_one_tree written ended (checked file name text reading rules d row held fits compiled is e) answered =
+      let all = checked_compiles known.of_texts words files (inl row) held fits compiled in all_one_tree _ all.0 all.1
 
   pub one_tree_of :
       {left left' taken taken' : Option (List ℕ)} {waits : List ℕ} (end : Result Ended Fault)

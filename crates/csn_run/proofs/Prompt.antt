@@ -9,7 +9,7 @@ use Rattle.csn_run.specs.Result.{AnswersPromptly, nothing_read, some_read}
 use Rattle.csn_run.proofs.ResultLemmas.{given_front, handed_front, taken_then}
 
 -- no answer is kept back of a text that goes on
-keeps_up_longer : {Answer : List ℕ → List ℕ → Type 0} {given text : List ℕ} (more : List ℕ) → KeepsUp Answer given text → KeepsUp Answer given (text ++ more)
+keeps_up_longer : {St : Type 0} {Step : St → List ℕ → List ℕ → St → Type 0} {begin : St} {given text : List ℕ} (more : List ℕ) → KeepsUp Step begin given text → KeepsUp Step begin given (text ++ more)
 keeps_up_longer more k = record {
   before = k.before;
   piece = k.piece;

@@ -1,6 +1,10 @@
 -- Where the file that the words name is there, a whole run writes something.
-use Rattle.std.proofs.Common.{◌≡◌, ℕ, ◌≤◌, ◌⊎◌, inl, inr, List, [], ◌∷◌, ◌++◌, length, codes, Option, Some, None, IsSome, refl}
+use Rattle.std.proofs.Common.{◌≡◌, ℕ, ◌≤◌, ◌⊎◌, inl, inr, List, [], ◌∷◌, ◌++◌, length, codes, Option, Some, None, IsSome, refl, sym, subst, append_assoc}
 use Rattle.std.proofs.lemmas.Bool.{cases_lt}
+use Rattle.std.proofs.lemmas.List.{append-nil}
+use Rattle.std.specs.List.{AllByRecursion}
+use Rattle.csn_catalogue.specs.declared.entry.Entry.{Entry}
+use Rattle.csn_catalogue.specs.declared.entry.Entry.TheVariants.{Downlink}
 use Rattle.csn_desc.specs.declared.reading.Reading.{Reading}
 use Rattle.csn_desc.specs.Nodes.{DescV}
 use Rattle.csn_grammar.specs.RulesV.{RulesV}
@@ -11,15 +15,23 @@ use Rattle.csn_run.specs.declared.ended.Ended.{Ended}
 use Rattle.csn_run.specs.declared.ended.Ended.TheVariants.{Done, BadDescription, NotCertified, TooLong}
 use Rattle.csn_run.specs.declared.compile.TheConstants.{MOST_DESCRIPTION}
 use Rattle.csn_run.specs.Known.{KnownOfTexts}
-use Rattle.csn_run.specs.Command.{IsOverRule, IsCommand, rule_row, migrate_row, NamesFile}
-use Rattle.csn_run.specs.Compiled.{line_of, conflict_line, certified_line, IsCompiled, HasNoPlan, no_rules, rules_refused, not_certified}
+use Rattle.csn_run.specs.Command.{IsOverRule, IsOverEntries, rule_row, entries_row, migrate_row}
+use Rattle.csn_run.specs.Compiled.{RuleOf, rule_of_entry, line_of, conflict_line, certified_line, HasNoPlan, no_rules, rules_refused, not_certified}
 use Rattle.csn_run.specs.Laws.{IsDecided, LinesHaveAnswers, RunsHaveResults}
-use Rattle.csn_run.specs.Result.{LineJob, by_rule, migrating, AnswersLine, AsksFor, asks_by_rule, asks_migrate, HasNoJob, long_text, no_plan, EndsBefore, no_job, checked, Result, no_line, lines}
+use Rattle.csn_run.specs.Result.{LineJob, by_rule, migrating, segmenting, AsksFor, asks_by_rule, asks_migrate, asks_segments, HasJob, Compiles, of_file, of_catalogue, HasNoJob, long_text, no_plan, no_job, checked, Result, no_line, lines}
+use Rattle.csn_look.specs.declared.word.TheConstants.{MOST_WORD}
+use Rattle.csn_certify.specs.declared.conflict.Conflict.{Conflict}
+use Rattle.csn_certify.specs.Conflicts.{Certified, IsFirstConflict}
 use Rattle.csn_run.proofs.Extends.{some_answers}
+use Rattle.csn_run.proofs.OneResult.{rule_of}
 
 held_text : (o : Option (List ℕ)) → IsSome o → (text : List ℕ) × (o ≡ Some text)
 held_text None h = absurd (cc)
 held_text (Some text) h = (text, refl)
+
+all_append : (front : List RuleOf) (rule : RuleOf) → AllByRecursion HasJob front → HasJob rule → AllByRecursion HasJob (front ++ rule ∷ [])
+all_append [] rule has job = (job, tt)
+all_append (first ∷ front) rule has job = (has.0, all_append front rule has.1 job)
 
 module _ (known : KnownOfTexts) (each_in_job : LinesHaveAnswers) (words : List (List ℕ)) (files : List ℕ → Option (List ℕ)) (input : List ℕ) where
   abbrev HasResult : Type 0
@@ -27,45 +39,72 @@ module _ (known : KnownOfTexts) (each_in_job : LinesHaveAnswers) (words : List (
 
   job_result : (job : LineJob) → AsksFor words files job → HasResult
   job_result job asked =
-      let all = some_answers (AnswersLine job) (λ line some. each_in_job words files job asked line) input in
+      let all = some_answers job (each_in_job words files job asked) input in
       (all.0, all.1, lines job asked all.2)
 
-  module _ (decided : IsDecided words files) (file name text : List ℕ) (reading : Reading) (row : IsOverRule words file name reading) (held : files file ≡ Some text) where
-    none_result : (written : List ℕ) (ended : Ended) → HasNoJob text name reading written ended → HasResult
-    none_result written ended none = (written, ended, no_line (no_job file name text reading row held none))
+  -- whether a rule has a job is decided
+  module _ (rule : RuleOf) (decided : (rules : RulesV) (d : DescV) → HasRules rule.text rules → IsResolved rules rule.name rule.reading d → Certified d MOST_WORD ⊎ ((conflict : Conflict) × IsFirstConflict d MOST_WORD conflict)) where
+    abbrev Decided : Type 0
+    Decided = HasJob rule ⊎ ((written : List ℕ) × (ended : Ended) × HasNoJob rule.text rule.name rule.reading written ended)
 
-    compiled_result : length text ≤ MOST_DESCRIPTION → (rules : RulesV) (d : DescV) → IsCompiled text name reading rules d → IsOverRule words file name reading → HasResult
-    compiled_result fits rules d compiled (inl check) =
-        (certified_line d ++ 10 ∷ [], Done, no_line (checked file name text reading rules d check held fits compiled refl refl))
-    compiled_result fits rules d compiled (inr answer) =
-        job_result (by_rule answer.0 rules name reading) (asks_by_rule answer.0 file name text reading rules d answer.1 held fits compiled refl)
+    none_by_plan : length rule.text ≤ MOST_DESCRIPTION → (line : List ℕ) (ended : Ended) → HasNoPlan rule.text rule.name rule.reading line ended → Decided
+    none_by_plan fits line ended none = inr (line ++ 10 ∷ [], ended, no_plan line fits none refl)
 
-    no_plan_result : length text ≤ MOST_DESCRIPTION → (line : List ℕ) (ended : Ended) → HasNoPlan text name reading line ended → HasResult
-    no_plan_result fits line ended none = none_result (line ++ 10 ∷ []) ended (no_plan line fits none refl)
-
-    resolved_result : length text ≤ MOST_DESCRIPTION → (rules : RulesV) (d : DescV) → HasRules text rules → IsResolved rules name reading d → HasResult
-    resolved_result fits rules d has resolved = elim (decided file name text reading rules d row held has resolved) [
-      | inl certified ↦ compiled_result fits rules d (record { has_rules = has; resolved = resolved; certified = certified }) row
-      | inr conflict ↦ no_plan_result fits (conflict_line conflict.0) NotCertified (not_certified rules d conflict.0 has resolved conflict.1 refl refl)
+    by_desc : length rule.text ≤ MOST_DESCRIPTION → (rules : RulesV) (d : DescV) → HasRules rule.text rules → IsResolved rules rule.name rule.reading d → Decided
+    by_desc fits rules d has resolved = elim (decided rules d has resolved) [
+      | inl certified ↦ inl (fits, rules, d, record { has_rules = has; resolved = resolved; certified = certified })
+      | inr conflict ↦ none_by_plan fits (conflict_line conflict.0) NotCertified (not_certified rules d conflict.0 has resolved conflict.1 refl refl)
     ]
 
-    rules_result : length text ≤ MOST_DESCRIPTION → (rules : RulesV) → HasRules text rules → HasResult
-    rules_result fits rules has = elim (known.answered rules reading name (known.shaped text rules has)) [
-      | inl refusal ↦ no_plan_result fits (line_of (codes "description") (number_of refusal.0 ∷ refusal.1 ∷ [])) BadDescription (rules_refused rules refusal.0 refusal.1 has refusal.2 refl refl)
-      | inr d ↦ resolved_result fits rules d.0 has d.1
+    by_rules : length rule.text ≤ MOST_DESCRIPTION → (rules : RulesV) → HasRules rule.text rules → Decided
+    by_rules fits rules has = elim (known.answered rules rule.reading rule.name (known.shaped rule.text rules has)) [
+      | inl refusal ↦ none_by_plan fits (line_of (codes "description") (number_of refusal.0 ∷ refusal.1 ∷ [])) BadDescription (rules_refused rules refusal.0 refusal.1 has refusal.2 refl refl)
+      | inr d ↦ by_desc fits rules d.0 has d.1
     ]
 
-    rule_result : HasResult
-    rule_result = elim (cases_lt MOST_DESCRIPTION (length text)) [
-      | inl long ↦ none_result [] TooLong (long_text long refl refl)
-      | inr fits ↦ elim (known.decided text) [
-        | inl rules ↦ rules_result fits rules.0 rules.1
-        | inr place ↦ no_plan_result fits (line_of (codes "syntax") (place.0 ∷ [])) BadDescription (no_rules place.0 place.1 refl refl)
+    job_decided : Decided
+    job_decided = elim (cases_lt MOST_DESCRIPTION (length rule.text)) [
+      | inl long ↦ inr ([], TooLong, long_text long refl refl)
+      | inr fits ↦ elim (known.decided rule.text) [
+        | inl rules ↦ by_rules fits rules.0 rules.1
+        | inr place ↦ none_by_plan fits (line_of (codes "syntax") (place.0 ∷ [])) BadDescription (no_rules place.0 place.1 refl refl)
       ]
+    ]
+
+  module _ (decided : IsDecided words files) where
+    -- the first rule that has no job is told, or all have one
+    first_told : (front rest : List RuleOf) → Compiles words files (front ++ rest) → AllByRecursion HasJob front → HasResult ⊎ AllByRecursion HasJob (front ++ rest)
+    first_told front [] compiles has = inr (subst (λ (l : List RuleOf). AllByRecursion HasJob l) (sym (append-nil front)) has)
+    first_told front (rule ∷ rest) compiles has = elim (job_decided rule (λ rules d has_rules resolved. decided front rest rule rules d compiles has_rules resolved)) [
+      | inr none ↦ inl (none.0, none.1, no_line (no_job front rule rest compiles has none.2))
+      | inl job ↦
+          let split : front ++ rule ∷ rest ≡ (front ++ rule ∷ []) ++ rest = sym (append_assoc front (rule ∷ []) rest) in
+          let more = first_told (front ++ rule ∷ []) rest (subst (λ (l : List RuleOf). Compiles words files l) split compiles) (all_append front rule has job) in
+          elim more [
+            | inl result ↦ inl result
+            | inr all ↦ inr (subst (λ (l : List RuleOf). AllByRecursion HasJob l) (sym split) all)
+          ]
+    ]
+
+    rule_result : (file name text : List ℕ) (reading : Reading) (row : IsOverRule words file name reading) → files file ≡ Some text → HasResult
+    rule_result file name text reading row held = elim (first_told [] (rule_of text name reading ∷ []) (of_file file name text reading row held refl) tt) [
+      | inl result ↦ result
+      | inr all ↦ compiled row all.0
+    ]
+      where
+        compiled : IsOverRule words file name reading → HasJob (rule_of text name reading) → HasResult
+        compiled (inl check) job = (certified_line job.2 ++ 10 ∷ [], Done, no_line (checked file name text reading job.1 job.2 check held job.0 job.3 refl refl))
+        compiled (inr answer) job = job_result (by_rule answer.0 job.1 name reading) (asks_by_rule answer.0 file name text reading job.1 job.2 answer.1 held job.0 job.3 refl)
+
+    entries_result : (entries : List Entry) (reading : Reading) → IsOverEntries words entries reading → HasResult
+    entries_result entries reading row = elim (first_told [] (rule_of_entry reading Downlink ∷ []) (of_catalogue (Downlink ∷ []) reading (row.0, refl) refl) tt) [
+      | inl result ↦ result
+      | inr all ↦ job_result (segmenting all.0.1 reading) (asks_segments reading all.0.1 all.0.2 row.0 all.0.0 all.0.3 refl)
     ]
 
 pub some_result : KnownOfTexts → LinesHaveAnswers → RunsHaveResults
 some_result known each_in_job words files input (rule_row file name reading row) held decided =
     let text = held_text (files file) (held file (name, reading, row)) in
     rule_result known each_in_job words files input decided file name text.0 reading row text.1
+some_result known each_in_job words files input (entries_row entries reading row) held decided = entries_result known each_in_job words files input decided entries reading row
 some_result known each_in_job words files input (migrate_row row) held decided = job_result known each_in_job words files input migrating (asks_migrate row refl)

@@ -9,11 +9,10 @@ use Rattle.csn_run.specs.declared.ended.Ended.TheVariants.{Done, SomeRefused, Us
 use Rattle.csn_run.specs.declared.fault.Fault.{Fault}
 use Rattle.csn_run.specs.declared.fault.Fault.TheVariants.{Read, Write, Memory, TooLong}
 use Rattle.csn_run.specs.declared.lines.TheConstants.{MOST_INPUT}
-use Rattle.csn_run.specs.Lines.{between_feeds}
-use Rattle.csn_run.specs.Progress.{Answers, EndsIn, StopsBy}
-use Rattle.csn_run.specs.Command.{IsCheck, IsOverRule, ReadsLines}
-use Rattle.csn_run.specs.Known.{Known, KnownOfTexts}
-use Rattle.csn_run.specs.Compiled.{HasNoPlan, no_rules, rules_refused, not_certified}
+use Rattle.csn_run.specs.Progress.{EndsIn, StopsBy}
+use Rattle.csn_run.specs.Command.{ReadsLines}
+use Rattle.csn_run.specs.Known.{KnownOfTexts}
+use Rattle.csn_run.specs.Compiled.{no_rules, rules_refused, not_certified}
 use Rattle.csn_run.specs.Job.{JobEnds, unread, before_lines, all_lines, some_lines, end_by, end_with, IsBeforeLines, EndedBefore, Asked}
 use Rattle.csn_run.specs.Result as whole
 use Rattle.csn_run.specs.Laws.{LinesHaveAnswers}
@@ -79,7 +78,7 @@ module _ (words : List (List ℕ)) (files : List ℕ → Option (List ℕ)) (inp
       let all = given_all input a.given left' a.source a.nothing_left in (
         a.took ++ waits,
         taken_then before taken' taken'' a.took waits a.sink handed,
-        whole.lines job asked (subst (λ (i : List ℕ). whole.AnswersInput (whole.AnswersLine job) i (a.took ++ waits) ended) (sym all) (whole.answers_all refused a.fits a.answers (end_after_lines refused ended end is e))),
+        whole.lines job asked (subst (λ (i : List ℕ). whole.AnswersInput job i (a.took ++ waits) ended) (sym all) (whole.answers_all a.text a.after refused a.fits a.answers a.closed (end_after_lines refused ended end is e))),
       )
   result_of left' taken' taken'' waits end ended (some_lines job Read asked s e) handed is finished = absurd (unfinished Read ended end is e finished)
   result_of left' taken' taken'' waits end ended (some_lines job Write asked s e) handed is finished = absurd (unfinished Write ended end is e finished)
@@ -91,7 +90,7 @@ module _ (words : List (List ℕ)) (files : List ℕ → Option (List ℕ)) (inp
       let same : take MOST_INPUT s.given ≡ take MOST_INPUT input = sym (take-append-le MOST_INPUT s.given front.0 fits) ∙ ap (take MOST_INPUT) (sym front.1) in (
         s.took ++ waits,
         taken_then before taken' taken'' s.took waits s.sink handed,
-        whole.lines job asked (whole.answers_front after.ended after.line after.refused (omega (arith, s.by.0, ap length front.1, length-append s.given front.0)) (subst (λ (i : List ℕ). EndsIn i after.ended after.line) same after.ends) after.answers (is ∙ ap end_with e)),
+        whole.lines job asked (whole.answers_front after.ended after.line after.after after.refused (omega (arith, s.by.0, ap length front.1, length-append s.given front.0)) (subst (λ (i : List ℕ). EndsIn i after.ended after.line) same after.ends) after.answers (is ∙ ap end_with e)),
       )
 
   -- ---- what stands written where a run was stopped
@@ -113,13 +112,13 @@ module _ (words : List (List ℕ)) (files : List ℕ → Option (List ℕ)) (inp
       let text_is : a.took ++ waits ≡ (a.took ++ front) ++ rest = ap (λ l. a.took ++ l) split ∙ sym (append_assoc a.took front rest) in (
         a.took ++ front,
         taken_then before taken' taken'' a.took front a.sink handed,
-        whole.begins_whole rest (whole.end_of refused) (whole.lines job asked (subst (λ (i : List ℕ). whole.AnswersInput (whole.AnswersLine job) i ((a.took ++ front) ++ rest) (whole.end_of refused)) (sym all) (whole.answers_all refused a.fits (subst (λ (t : List ℕ). Answers (whole.AnswersLine job) (between_feeds a.given) t refused) text_is a.answers) refl))),
+        whole.begins_whole rest (whole.end_of refused) (whole.lines job asked (subst (λ (i : List ℕ). whole.AnswersInput job i ((a.took ++ front) ++ rest) (whole.end_of refused)) (sym all) (whole.answers_all a.text a.after refused a.fits a.answers (sym text_is ∙ a.closed) refl))),
       )
   begun_of each_in_job left' taken' taken'' waits front rest end (some_lines job fault asked s e) split handed =
       let given = given_front input s.given left' s.source in
       let text_is : s.took ++ waits ≡ (s.took ++ front) ++ rest = ap (λ l. s.took ++ l) split ∙ sym (append_assoc s.took front rest) in
-      let within = within_input (whole.AnswersLine job) fault input s.given given.0 (s.took ++ waits) (s.took ++ front) rest given.1 text_is s.by in
-      let all = extends (whole.AnswersLine job) (λ line some. each_in_job words files job asked line) input (s.took ++ front) within in (
+      let within = within_input (whole.Steps job) fault input s.given given.0 (s.took ++ waits) (s.took ++ front) rest given.1 text_is s.by in
+      let all = extends job (each_in_job words files job asked) input (s.took ++ front) within in (
         s.took ++ front,
         taken_then before taken' taken'' s.took front s.sink handed,
         whole.begins_whole all.0 all.1 (whole.lines job asked all.2),
@@ -138,10 +137,10 @@ module _ (words : List (List ℕ)) (files : List ℕ → Option (List ℕ)) (inp
       absurd (no_read waits (subst (λ (d : Ended). whole.EndsBefore words files waits d) (sym fault) gives))
     where
       no_read : (written : List ℕ) → whole.EndsBefore words files written ReadFault → ⊥
-      no_read written (whole.no_job file name text reading row held (whole.long_text long is e)) = cc
-      no_read written (whole.no_job file name text reading row held (whole.no_plan line fits (no_rules place at is e) ends)) = cc
-      no_read written (whole.no_job file name text reading row held (whole.no_plan line fits (rules_refused rules why place has why_not is e) ends)) = cc
-      no_read written (whole.no_job file name text reading row held (whole.no_plan line fits (not_certified rules d c has resolved first is e) ends)) = cc
+      no_read written (whole.no_job front rule behind compiles earlier (whole.long_text long is e)) = cc
+      no_read written (whole.no_job front rule behind compiles earlier (whole.no_plan line fits (no_rules place at is e) ends)) = cc
+      no_read written (whole.no_job front rule behind compiles earlier (whole.no_plan line fits (rules_refused rules why place has why_not is e) ends)) = cc
+      no_read written (whole.no_job front rule behind compiles earlier (whole.no_plan line fits (not_certified rules d c has resolved first is e) ends)) = cc
       no_read written (whole.checked file name text reading rules d row held fits compiled is e) = cc
   read_of left' taken' taken'' waits end (all_lines job refused asked a e) handed fault = absurd (no_read refused (fault ∙ ap end_with e))
     where
@@ -156,7 +155,7 @@ module _ (words : List (List ℕ)) (files : List ℕ → Option (List ℕ)) (inp
         whole.while_reading s.given given.0 given.1 given.2 (record {
           job = job;
           asked = asked;
-          stopped = (subst (λ (f : Fault). StopsBy (whole.AnswersLine job) f s.given (s.took ++ waits)) is_read s.by).1;
+          stopped = (subst (λ (f : Fault). StopsBy (whole.Steps job) (whole.beginning job) f s.given (s.took ++ waits)) is_read s.by).1;
         }),
       )
     where
@@ -189,10 +188,10 @@ before_answered words None written ended (inr done) answered reads = done.1 read
 before_answered words (Some files) written ended gives answered reads = by_end gives answered
   where
     by_end : whole.EndsBefore words files written ended → IsAnswered ended → ⊥
-    by_end (whole.no_job file name text reading row held (whole.long_text long is e)) answered = ended_apart ended Long e (λ h. cc) (λ h. cc) answered
-    by_end (whole.no_job file name text reading row held (whole.no_plan line fits (no_rules place at is e) ends)) answered = ended_apart ended BadDescription e (λ h. cc) (λ h. cc) answered
-    by_end (whole.no_job file name text reading row held (whole.no_plan line fits (rules_refused rules why place has why_not is e) ends)) answered = ended_apart ended BadDescription e (λ h. cc) (λ h. cc) answered
-    by_end (whole.no_job file name text reading row held (whole.no_plan line fits (not_certified rules d c has resolved first is e) ends)) answered = ended_apart ended NotCertified e (λ h. cc) (λ h. cc) answered
+    by_end (whole.no_job front rule behind compiles earlier (whole.long_text long is e)) answered = ended_apart ended Long e (λ h. cc) (λ h. cc) answered
+    by_end (whole.no_job front rule behind compiles earlier (whole.no_plan line fits (no_rules place at is e) ends)) answered = ended_apart ended BadDescription e (λ h. cc) (λ h. cc) answered
+    by_end (whole.no_job front rule behind compiles earlier (whole.no_plan line fits (rules_refused rules why place has why_not is e) ends)) answered = ended_apart ended BadDescription e (λ h. cc) (λ h. cc) answered
+    by_end (whole.no_job front rule behind compiles earlier (whole.no_plan line fits (not_certified rules d c has resolved first is e) ends)) answered = ended_apart ended NotCertified e (λ h. cc) (λ h. cc) answered
     by_end (whole.checked file name text reading rules d row held fits compiled is e) answered = reads file name reading row
 
 pub fault_answered : (fault : Fault) → IsAnswered (end_by fault) → ⊥
@@ -309,10 +308,10 @@ before_apart words None written ended (inr done) only = only.0 done.0
 before_apart words (Some files) written ended gives only = by_end gives
   where
     by_end : whole.EndsBefore words files written ended → ⊥
-    by_end (whole.no_job file name text reading row held (whole.long_text long is e)) = only.4 e
-    by_end (whole.no_job file name text reading row held (whole.no_plan line fits (no_rules place at is e) ends)) = only.2 e
-    by_end (whole.no_job file name text reading row held (whole.no_plan line fits (rules_refused rules why place has why_not is e) ends)) = only.2 e
-    by_end (whole.no_job file name text reading row held (whole.no_plan line fits (not_certified rules d c has resolved first is e) ends)) = only.3 e
+    by_end (whole.no_job front rule behind compiles earlier (whole.long_text long is e)) = only.4 e
+    by_end (whole.no_job front rule behind compiles earlier (whole.no_plan line fits (no_rules place at is e) ends)) = only.2 e
+    by_end (whole.no_job front rule behind compiles earlier (whole.no_plan line fits (rules_refused rules why place has why_not is e) ends)) = only.2 e
+    by_end (whole.no_job front rule behind compiles earlier (whole.no_plan line fits (not_certified rules d c has resolved first is e) ends)) = only.3 e
     by_end (whole.checked file name text reading rules d row held fits compiled is e) = only.0 e
 
 -- a job that ends so met a fault

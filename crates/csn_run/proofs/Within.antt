@@ -10,9 +10,10 @@ use Rattle.csn_run.specs.Lines.{between_feeds}
 use Rattle.csn_run.specs.Progress.{StopsAfter, StopsWithin, StopsBy}
 
 -- a job that stopped behind some lines stopped within them
-pub within_from_after : (A : List ℕ → List ℕ → Type 0) (input text : List ℕ) → StopsAfter A input text → StopsWithin A input text
-within_from_after A input text a = record {
+pub within_from_after : {St : Type 0} {begin : St} (Step : St → List ℕ → List ℕ → St → Type 0) (input text : List ℕ) → StopsAfter Step begin input text → StopsWithin Step begin input text
+within_from_after {begin = begin} Step input text a = record {
   ended = a.ended;
+  after = a.after;
   whole_text = text;
   rest = [];
   refused = a.refused;
@@ -22,9 +23,10 @@ within_from_after A input text a = record {
 }
 
 -- of what begins the answers, so does the front
-pub within_shorter : (A : List ℕ → List ℕ → Type 0) (input text front rest : List ℕ) → text ≡ front ++ rest → StopsWithin A input text → StopsWithin A input front
-within_shorter A input text front rest split a = record {
+pub within_shorter : {St : Type 0} {begin : St} (Step : St → List ℕ → List ℕ → St → Type 0) (input text front rest : List ℕ) → text ≡ front ++ rest → StopsWithin Step begin input text → StopsWithin Step begin input front
+within_shorter {begin = begin} Step input text front rest split a = record {
   ended = a.ended;
+  after = a.after;
   whole_text = a.whole_text;
   rest = rest ++ a.rest;
   refused = a.refused;
@@ -34,9 +36,10 @@ within_shorter A input text front rest split a = record {
 }
 
 -- what begins the answers to the front of an input begins those to all of it
-pub within_longer : (A : List ℕ → List ℕ → Type 0) (input given past text : List ℕ) → input ≡ given ++ past → StopsWithin A given text → StopsWithin A input text
-within_longer A input given past text split a = record {
+pub within_longer : {St : Type 0} {begin : St} (Step : St → List ℕ → List ℕ → St → Type 0) (input given past text : List ℕ) → input ≡ given ++ past → StopsWithin Step begin given text → StopsWithin Step begin input text
+within_longer {begin = begin} Step input given past text split a = record {
   ended = a.ended;
+  after = a.after;
   whole_text = a.whole_text;
   rest = a.rest;
   refused = a.refused;
@@ -61,16 +64,16 @@ take_both most front past = elim (cases_lt most (length front)) [
 ]
 
 -- a job that met a fault stopped within the lines that end within the limit of an input
-pub within_from_by : (A : List ℕ → List ℕ → Type 0) (fault : Fault) (given text : List ℕ) → StopsBy A fault given text → StopsWithin A (take MOST_INPUT given) text
-within_from_by A Read given text h =
-    subst (λ (l : List ℕ). StopsWithin A l text) (sym (take_all MOST_INPUT given h.0)) (within_from_after A given text h.1)
-within_from_by A Write given text h = h
-within_from_by A Memory given text h = h
-within_from_by A TooLong given text h = within_from_after A (take MOST_INPUT given) text h.1
+pub within_from_by : {St : Type 0} {begin : St} (Step : St → List ℕ → List ℕ → St → Type 0) (fault : Fault) (given text : List ℕ) → StopsBy Step begin fault given text → StopsWithin Step begin (take MOST_INPUT given) text
+within_from_by {begin = begin} Step Read given text h =
+    subst (λ (l : List ℕ). StopsWithin Step begin l text) (sym (take_all MOST_INPUT given h.0)) (within_from_after Step given text h.1)
+within_from_by {begin = begin} Step Write given text h = h
+within_from_by {begin = begin} Step Memory given text h = h
+within_from_by {begin = begin} Step TooLong given text h = within_from_after Step (take MOST_INPUT given) text h.1
 
 -- the same of an input that goes on behind what was given, and of the front of what was written
-pub within_input : (A : List ℕ → List ℕ → Type 0) (fault : Fault) (input given past text front rest : List ℕ) → input ≡ given ++ past → text ≡ front ++ rest → StopsBy A fault given text → StopsWithin A (take MOST_INPUT input) front
-within_input A fault input given past text front rest goes_on split h =
+pub within_input : {St : Type 0} {begin : St} (Step : St → List ℕ → List ℕ → St → Type 0) (fault : Fault) (input given past text front rest : List ℕ) → input ≡ given ++ past → text ≡ front ++ rest → StopsBy Step begin fault given text → StopsWithin Step begin (take MOST_INPUT input) front
+within_input {begin = begin} Step fault input given past text front rest goes_on split h =
     let more = take_both MOST_INPUT given past in
-    within_longer A (take MOST_INPUT input) (take MOST_INPUT given) more.0 front (ap (take MOST_INPUT) goes_on ∙ more.1)
-    (within_shorter A (take MOST_INPUT given) text front rest split (within_from_by A fault given text h))
+    within_longer Step (take MOST_INPUT input) (take MOST_INPUT given) more.0 front (ap (take MOST_INPUT) goes_on ∙ more.1)
+    (within_shorter Step (take MOST_INPUT given) text front rest split (within_from_by Step fault given text h))

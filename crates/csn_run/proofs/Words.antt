@@ -15,3 +15,10 @@ pub one_member : {A : Type 0} (xs : List A) (a : A) → 1 ≤ length xs → leng
 one_member [] a low high p = absurd (omega arith)
 one_member (w ∷ []) a low high p = cc
 one_member (w ∷ x ∷ rest) a low high p = absurd (omega arith)
+
+-- a list of two members is these two
+pub two_members : {A : Type 0} (xs : List A) (a b : A) → 2 ≤ length xs → length xs < 3 → a ≡ get_or xs 0 a → b ≡ get_or xs 1 b → xs ≡ a ∷ b ∷ []
+two_members [] a b low high p q = absurd (omega arith)
+two_members (w ∷ []) a b low high p q = absurd (omega arith)
+two_members (w ∷ x ∷ []) a b low high p q = cc
+two_members (w ∷ x ∷ y ∷ rest) a b low high p q = absurd (omega arith)

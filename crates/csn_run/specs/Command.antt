@@ -1,12 +1,15 @@
 -- The command table. It is this project's own choice.
 use Rattle.std.specs.Prelude.{◌≡◌, ◌≢◌, ◌⊎◌, ℕ, List, [], ◌∷◌, codes}
+use Rattle.csn_catalogue.specs.declared.entry.Entry.{Entry}
+use Rattle.csn_catalogue.specs.declared.entry.Entry.TheVariants.{Downlink}
 use Rattle.csn_desc.specs.declared.reading.Reading.{Reading}
 use Rattle.csn_desc.specs.declared.reading.Reading.TheVariants.{Received, Sent}
 use Rattle.csn_run.specs.declared.command.RuleWords.{RuleWords}
+use Rattle.csn_run.specs.declared.command.TreeForm.TheVariants.{Text, Json}
 use Rattle.csn_run.specs.declared.command.RuleCommand.{RuleCommand}
 use Rattle.csn_run.specs.declared.command.RuleCommand.TheVariants.{Show, Write}
 use Rattle.csn_run.specs.declared.command.Command.{Command}
-use Rattle.csn_run.specs.declared.command.Command.TheVariants.{Check, Answer, Migrate}
+use Rattle.csn_run.specs.declared.command.Command.TheVariants.{Check, Answer, Migrate, Segments}
 
 -- a word that can be an argument: it is not empty, and does not begin with `-`
 abbrev pub IsArgument : List ℕ → Type 0
@@ -30,10 +33,12 @@ IsCheck = NamesRule (codes "check")
 
 -- the word of a command that answers lines by a rule
 abbrev pub command_word : RuleCommand → List ℕ
-command_word Show = codes "show"
-command_word Write = codes "write"
+command_word (Show Text) = codes "show"
+command_word (Show Json) = codes "json"
+command_word (Write Text) = codes "write"
+command_word (Write Json) = codes "unjson"
 
--- `show FILE NAME READING` and `write FILE NAME READING`
+-- `show FILE NAME READING`, and `json`, `write` and `unjson` with the same words behind them
 abbrev pub IsAnswer : RuleCommand → List (List ℕ) → List ℕ → List ℕ → Reading → Type 0
 IsAnswer command = NamesRule (command_word command)
 
@@ -41,14 +46,27 @@ IsAnswer command = NamesRule (command_word command)
 abbrev pub IsMigrate : List (List ℕ) → Type 0
 IsMigrate words = words ≡ codes "migrate" ∷ []
 
+-- the words are `COMMAND READING`
+abbrev pub NamesReading : List ℕ → List (List ℕ) → Reading → Type 0
+NamesReading command words reading = words ≡ command ∷ word_of reading ∷ []
+
+-- `segments READING`
+abbrev pub IsSegments : List (List ℕ) → Reading → Type 0
+IsSegments = NamesReading (codes "segments")
+
 -- the words are a command over this rule of the description in this file
 abbrev pub IsOverRule : List (List ℕ) → List ℕ → List ℕ → Reading → Type 0
 IsOverRule words file name reading =
     IsCheck words file name reading ⊎ ((command : RuleCommand) × IsAnswer command words file name reading)
 
+-- the words are a command over the rules of these entries of the catalogue, in their order
+abbrev pub IsOverEntries : List (List ℕ) → List Entry → Reading → Type 0
+IsOverEntries words entries reading = IsSegments words reading × (entries ≡ Downlink ∷ [])
+
 -- the words are a row of the command table
 pub data IsCommand (words : List (List ℕ)) : Type 0 where
   rule_row : (file name : List ℕ) (reading : Reading) → IsOverRule words file name reading → IsCommand words
+  entries_row : (entries : List Entry) (reading : Reading) → IsOverEntries words entries reading → IsCommand words
   migrate_row : IsMigrate words → IsCommand words
 
 -- no command but `check` leaves the input alone
@@ -68,3 +86,4 @@ abbrev pub IsRowOf : List (List ℕ) → Command → Type 0
 IsRowOf words (Check rule) = AreRuleWords (codes "check") words rule
 IsRowOf words (Answer command rule) = AreRuleWords (command_word command) words rule
 IsRowOf words Migrate = IsMigrate words
+IsRowOf words (Segments reading) = IsSegments words reading

@@ -4,6 +4,9 @@
 use Rattle.std.specs.Prelude.{◌≡◌, ℕ, ◌+◌, List, [], ◌∷◌, ◌++◌, length, map, codes}
 use Rattle.std.specs.List.{flat_map}
 use Rattle.std.specs.Fmt.{decimal}
+use Rattle.csn_catalogue.specs.declared.entry.Entry.{Entry}
+use Rattle.csn_catalogue.specs.Entries.{entry_root}
+use Rattle.csn_catalogue.specs.Text.{catalogue_text}
 use Rattle.csn_desc.specs.declared.reading.Reading.{Reading}
 use Rattle.csn_desc.specs.Nodes.{DescV}
 use Rattle.csn_grammar.specs.RulesV.{RulesV}
@@ -22,6 +25,16 @@ use Rattle.csn_run.specs.declared.compile.NoPlan.{NoPlan}
 use Rattle.csn_run.specs.declared.compile.NoPlan.TheVariants.{Rules, Description, Plan}
 use Rattle.csn_run.specs.declared.ended.Ended.{Ended}
 use Rattle.csn_run.specs.declared.ended.Ended.TheVariants.{BadDescription, NotCertified}
+
+-- what is compiled: a rule of a text, for a reading
+pub record RuleOf : Type 0 where
+  pub text : List ℕ
+  pub name : List ℕ
+  pub reading : Reading
+
+-- the rule of the catalogue that describes the blocks of an entry
+abbrev pub rule_of_entry : Reading → Entry → RuleOf
+rule_of_entry reading entry = record { text = catalogue_text; name = entry_root entry; reading = reading }
 
 -- fields of a line, with a space before each
 abbrev pub spaced : List (List ℕ) → List ℕ

@@ -1,5 +1,5 @@
 -- What a job has done with the outside when it is over, before the answers that still wait are handed on.
-use Rattle.std.specs.Prelude.{◌≡◌, ℕ, ◌+◌, ◌<◌, ◌≤◌, ◌⊎◌, Bool, List, [], length, Option, Some, None, Result, Ok, Err}
+use Rattle.std.specs.Prelude.{◌≡◌, ℕ, ◌+◌, ◌≤◌, ◌⊎◌, Bool, List, [], length, Option, Some, None, Result, Ok, Err}
 use Rattle.csn_io.specs.ShelfFault.{BeginsFile}
 use Rattle.csn_run.specs.declared.ended.Ended.{Ended}
 use Rattle.csn_run.specs.declared.ended.Ended.TheVariants.{Done, BadDescription, NotCertified, ReadFault, WriteFault, NoMemory, TooLong as Long}
@@ -7,8 +7,9 @@ use Rattle.csn_run.specs.declared.fault.Fault.{Fault}
 use Rattle.csn_run.specs.declared.fault.Fault.TheVariants.{Read, Write, Memory, TooLong}
 use Rattle.csn_run.specs.declared.compile.TheConstants.{MOST_DESCRIPTION}
 use Rattle.csn_run.specs.Command.{ReadsLines}
+use Rattle.csn_run.specs.LineState.{closing}
 use Rattle.csn_run.specs.Progress.{AnswersAll, Stops}
-use Rattle.csn_run.specs.Result.{LineJob, AnswersLine, AsksFor, EndsBefore, end_of}
+use Rattle.csn_run.specs.Result.{LineJob, Steps, beginning, AsksFor, EndsBefore, end_of}
 
 -- the text is the whole description in a file
 pub record IsDescription (files : Option (List ℕ → Option (List ℕ))) (file text : List ℕ) : Type 0 where
@@ -50,8 +51,8 @@ pub data JobEnds (words : List (List ℕ)) (files : Option (List ℕ → Option 
   before_lines : EndedBefore words files waits (end_with end) → left' ≡ left → taken' ≡ taken
       → JobEnds words files left left' taken taken' waits end
   all_lines : (job : LineJob) (refused : Bool) → Asked words files job
-      → AnswersAll (AnswersLine job) left left' taken taken' waits refused → end ≡ Ok (end_of refused)
+      → AnswersAll (Steps job) closing (beginning job) left left' taken taken' waits refused → end ≡ Ok (end_of refused)
       → JobEnds words files left left' taken taken' waits end
   some_lines : (job : LineJob) (fault : Fault) → Asked words files job
-      → Stops (AnswersLine job) fault left left' taken taken' waits → end ≡ Err fault
+      → Stops (Steps job) (beginning job) fault left left' taken taken' waits → end ≡ Err fault
       → JobEnds words files left left' taken taken' waits end

@@ -5,7 +5,9 @@ use Rattle.csn_grammar.specs.Laws.{BlocksHaveOnePlace, LabelsOfTextsAreLabels, M
 use Rattle.csn_resolve.specs.Laws.{NamesAreAnswered, PlacesAreKept, RefusedOnce, RefusedOrResolved, ResolvedAreDescriptions, ResolvedOnce, StringsAreKept}
 use Rattle.csn_certify.specs.Laws.{BlocksHaveOneTree, CertifiedHasNoConflict, FirstConflictIsOne}
 use Rattle.csn_encode.specs.Laws.{FirstMisfitIsOne, MisfitsHaveNoBits, OneBlock, TreesFitOrMiss}
+use Rattle.csn_segment.specs.Laws.{MessagesAreShort}
 use Rattle.csn_treetext.specs.Laws as texts
+use Rattle.csn_json.specs.Laws as json
 
 -- of block lines
 pub record KnownOfLines : Type 0 where
@@ -46,6 +48,13 @@ pub record KnownOfTrees : Type 0 where
   pub one_old_tree : texts.OldTextsDiffer
   pub shared : texts.VersionsShareTrees
 
+-- of trees as JSON
+pub record KnownOfJson : Type 0 where
+  pub decided : json.TextsAreDecided
+  pub one_tree : json.TextsHaveOneTree
+  pub not_refused : json.TextsAreNotRefused
+  pub written : json.WrittenIsShown
+
 -- of the blocks of trees
 pub record KnownOfMisfits : Type 0 where
   pub one_block : OneBlock
@@ -58,4 +67,6 @@ pub record Known : Type 0 where
   pub of_texts : KnownOfTexts
   pub of_blocks : KnownOfBlocks
   pub of_trees : KnownOfTrees
+  pub of_json : KnownOfJson
   pub of_misfits : KnownOfMisfits
+  pub of_messages : MessagesAreShort

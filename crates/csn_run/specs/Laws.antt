@@ -1,34 +1,60 @@
 -- Laws over the definitions.
-use Rattle.std.specs.Prelude.{◌≡◌, ◌⊎◌, ℕ, List, Option, Some, IsSome}
+use Rattle.std.specs.Prelude.{◌≡◌, ◌⊎◌, ◌↔◌, ℕ, List, ◌∷◌, ◌++◌, Option, IsSome, codes}
 use Rattle.csn_desc.specs.declared.reading.Reading.{Reading}
 use Rattle.csn_desc.specs.Nodes.{DescV}
+use Rattle.csn_desc.specs.TreeV.{TreeV}
 use Rattle.csn_grammar.specs.RulesV.{RulesV}
 use Rattle.csn_grammar.specs.Place.{HasRules}
 use Rattle.csn_resolve.specs.Resolved.{IsResolved}
 use Rattle.csn_look.specs.declared.word.TheConstants.{MOST_WORD}
 use Rattle.csn_certify.specs.declared.conflict.Conflict.{Conflict}
 use Rattle.csn_certify.specs.Conflicts.{Certified, IsFirstConflict}
+use Rattle.csn_treetext.specs.Place.{TreeText}
+use Rattle.csn_json.specs.JsonText.{JsonText}
+use Rattle.csn_run.specs.declared.command.TreeForm.{TreeForm}
+use Rattle.csn_run.specs.declared.command.TreeForm.TheVariants.{Text, Json}
 use Rattle.csn_run.specs.declared.ended.Ended.{Ended}
-use Rattle.csn_run.specs.Command.{IsCommand, IsOverRule, NamesFile}
-use Rattle.csn_run.specs.Result.{LineJob, AnswersLine, AsksFor, Result}
+use Rattle.csn_run.specs.LineState.{LineState}
+use Rattle.csn_run.specs.Command.{IsCommand, NamesFile}
+use Rattle.csn_run.specs.Compiled.{IsCompiled, RuleOf}
+use Rattle.csn_run.specs.OutLine.{ShowsLine}
+use Rattle.csn_run.specs.Result.{LineJob, Steps, AsksFor, Compiles, Result}
 
--- each line has an answer, in each job over lines that words ask for
+-- each line has an answer, in each job over lines that words ask for and each state
 abbrev pub LinesHaveAnswers : Type 0
 LinesHaveAnswers =
     (words : List (List ℕ)) (files : List ℕ → Option (List ℕ)) (job : LineJob) → AsksFor words files job
-    → (line : List ℕ) → (answer : List ℕ) × AnswersLine job line answer
+    → (before : LineState) (line : List ℕ) → (text : List ℕ) × (after : LineState) × Steps job before line text after
 
--- it has one
+-- it has one, and takes the state further in one way
 abbrev pub LinesHaveOneAnswer : Type 0
 LinesHaveOneAnswer =
     (words : List (List ℕ)) (files : List ℕ → Option (List ℕ)) (job : LineJob) → AsksFor words files job
-    → (line answer other : List ℕ) → AnswersLine job line answer → AnswersLine job line other → answer ≡ other
+    → (before : LineState) (line text other : List ℕ) (after end : LineState)
+    → Steps job before line text after → Steps job before line other end → (text ≡ other) × (after ≡ end)
 
--- it is decided whether the rule that the words name is certified, where it has a description
+-- the line is answered by this text of a tree in a form
+abbrev pub Tells : TreeForm → RulesV → List ℕ → Reading → List ℕ → List ℕ → Type 0
+Tells form rules name reading line text = ShowsLine form rules name reading line (codes "ok " ++ text)
+
+-- a line is answered by a tree in JSON exactly where it is answered by a tree as text
+abbrev pub FormsAreShownTogether : Type 0
+FormsAreShownTogether =
+    (rules : RulesV) (name : List ℕ) (reading : Reading) (line : List ℕ)
+    → ((text : List ℕ) × Tells Json rules name reading line text) ↔ ((text : List ℕ) × Tells Text rules name reading line text)
+
+-- and both are of one tree, where the rule is certified
+abbrev pub FormsShowOneTree : Type 0
+FormsShowOneTree =
+    (file : List ℕ) (rules : RulesV) (name : List ℕ) (reading : Reading) (d : DescV) (line text json : List ℕ)
+    → IsCompiled file name reading rules d → Tells Text rules name reading line text → Tells Json rules name reading line json
+    → (t : TreeV) × TreeText t text × JsonText t json
+
+-- it is decided whether each rule that a run of the words compiles is certified, where it has a description
 abbrev pub IsDecided : List (List ℕ) → (List ℕ → Option (List ℕ)) → Type 0
 IsDecided words files =
-    (file name text : List ℕ) (reading : Reading) (rules : RulesV) (d : DescV) → IsOverRule words file name reading
-    → files file ≡ Some text → HasRules text rules → IsResolved rules name reading d
+    (front behind : List RuleOf) (rule : RuleOf) (rules : RulesV) (d : DescV) → Compiles words files (front ++ rule ∷ behind)
+    → HasRules rule.text rules → IsResolved rules rule.name rule.reading d
     → Certified d MOST_WORD ⊎ ((conflict : Conflict) × IsFirstConflict d MOST_WORD conflict)
 
 -- the words of a command whose files are there have a result, where that is decided

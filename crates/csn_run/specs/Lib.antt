@@ -1,6 +1,7 @@
 pub mod Command
 pub mod Ended
 pub mod Lines
+pub mod LineState
 pub mod OutLine
 pub mod Outside
 pub mod Progress

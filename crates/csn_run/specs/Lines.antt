@@ -1,7 +1,9 @@
 -- The lines of an input, and the text that answers them. They are this project's own choice.
-use Rattle.std.specs.Prelude.{◌≢◌, ℕ, ◌==◌, Bool, if◌then◌else◌, ◌||◌, nat_lt, ◌-◌, slice_index, take, List, [], ◌∷◌, ◌++◌, length, map, filter, codes, nat_eq}
+use Rattle.std.specs.Prelude.{◌≢◌, ℕ, ◌==◌, Bool, if◌then◌else◌, ◌||◌, true, false, nat_lt, ◌-◌, slice_index, take, List, [], ◌∷◌, length, map, filter, codes, nat_eq}
 use Rattle.std.specs.List.{AllByRecursion, flat_map, starts_with}
 use Rattle.csn_run.specs.declared.lines.TheConstants.{LINE_FEED, CARRIAGE_RETURN}
+use Rattle.csn_run.specs.declared.lines.Answered.{Answered}
+use Rattle.csn_run.specs.declared.lines.Answered.TheVariants.{Given, Refused}
 
 -- a byte before the first of some lines
 abbrev pub begin_first : ℕ → List (List ℕ) → List (List ℕ)
@@ -31,10 +33,15 @@ answered pieces = filter (λ line. nat_lt 0 (length line)) (map without_return p
 abbrev pub lines_of : List ℕ → List (List ℕ)
 lines_of input = answered (between_feeds input)
 
--- the answers as a text, each ended by a line feed
+-- what lines give, one behind the other
 abbrev pub text_of : List (List ℕ) → List ℕ
-text_of answers = flat_map (λ answer. answer ++ LINE_FEED ∷ []) answers
+text_of texts = flat_map (λ text. text) texts
 
--- an answer that refuses its line
+-- what refuses its line: it begins as a refusal
 abbrev pub is_refusal : List ℕ → Bool
-is_refusal answer = starts_with nat_eq answer (codes "no") || starts_with nat_eq answer (codes "bad")
+is_refusal text = starts_with nat_eq text (codes "no") || starts_with nat_eq text (codes "bad")
+
+-- whether an answer refuses its line
+abbrev pub is_refused : Answered → Bool
+is_refused Given = false
+is_refused Refused = true

@@ -1,12 +1,14 @@
 -- What answers one line of the input. The texts are this project's own.
-use Rattle.std.specs.Prelude.{◌≡◌, ℕ, ◌≤◌, nat_lt, if◌then◌else◌, List, [], ◌∷◌, ◌++◌, length, codes}
+use Rattle.std.specs.Prelude.{◌≡◌, ◌≢◌, ◌⊎◌, ℕ, ◌≤◌, ◌%◌, nat_lt, if◌then◌else◌, List, [], ◌∷◌, ◌++◌, length, codes, Option, Some, None}
 use Rattle.std.specs.List.{flat_map}
 use Rattle.std.specs.Fmt.{decimal}
-use Rattle.csn_bits.specs.Octets.{most_bits}
+use Rattle.csn_bits.specs.Octets.{most_bits, bits_of_octets, octets_of}
 use Rattle.csn_bits.specs.Line.{BlockLine, written}
 use Rattle.csn_bits.specs.Fault.{IsLineFault}
 use Rattle.csn_bits.specs.declared.fault.BitsFault.{BitsFault}
 use Rattle.csn_bits.specs.declared.fault.BitsFault.TheVariants.{BadDigit, BadLength, BadFill, TooManyBits, NoMemory}
+use Rattle.csn_catalogue.specs.declared.entry.Entry.TheVariants.{Downlink}
+use Rattle.csn_catalogue.specs.Entries.{entry_root}
 use Rattle.csn_desc.specs.declared.reading.Reading.{Reading}
 use Rattle.csn_desc.specs.Nodes.{DescV}
 use Rattle.csn_desc.specs.TreeV.{TreeV}
@@ -20,11 +22,23 @@ use Rattle.csn_encode.specs.Misfits.{IsMisfit}
 use Rattle.csn_grammar.specs.RulesV.{RulesV}
 use Rattle.csn_grammar.specs.Strings.{Strings, IsPlace}
 use Rattle.csn_resolve.specs.Resolved.{IsResolved}
+use Rattle.csn_segment.specs.declared.joined.Joined.{Joined}
+use Rattle.csn_segment.specs.declared.joined.Joined.TheVariants.{Whole, Waiting, Refused as no_message}
+use Rattle.csn_segment.specs.declared.joined.SegmentWhy.{SegmentWhy}
+use Rattle.csn_segment.specs.declared.joined.SegmentWhy.TheVariants.{BadLength as not_23_octets, NotControl, Reserved, NotFinal, NoFirst}
+use Rattle.csn_segment.specs.Joining.{answer_to, JoinsFor}
 use Rattle.csn_treetext.specs.declared.version.Version.TheVariants.{First, Second}
 use Rattle.csn_treetext.specs.Place.{TreeText, OldText, IsFaultPlace}
+use Rattle.csn_json.specs.declared.fault.JsonFault.{JsonFault}
+use Rattle.csn_json.specs.declared.fault.JsonFault.TheVariants.{NotJson, NotTree, NoMemory as no_memory_for_json}
+use Rattle.csn_json.specs.JsonText.{JsonText, WrittenJson, IsFaultOf as IsJsonFault}
+use Rattle.csn_run.specs.declared.command.TreeForm.{TreeForm}
+use Rattle.csn_run.specs.declared.command.TreeForm.TheVariants.{Text, Json}
 use Rattle.csn_run.specs.declared.command.RuleCommand.{RuleCommand}
+use Rattle.csn_run.specs.declared.lines.TheConstants.{LINE_FEED}
 use Rattle.csn_run.specs.declared.command.RuleCommand.TheVariants.{Show, Write}
 use Rattle.csn_run.specs.Compiled.{IsCompiled, line_of}
+use Rattle.csn_run.specs.LineState.{LineState, Kept, AnswersAlone}
 
 -- the answer to a line that is no block line: the number of its fault, and the column of a bad digit
 abbrev pub fault_text : BitsFault → List ℕ
@@ -39,17 +53,25 @@ abbrev pub refusal_text : ℕ → List ℕ → List ℕ
 refusal_text place block =
     codes "no " ++ (decimal place ++ (if nat_lt place (length block) then codes " bit" else codes " ended"))
 
--- `show`: a block is answered by its tree, or by the place up to which its bits can be followed; and a
--- line that is no block line by its fault
-pub data ShowsLine (rules : RulesV) (name : List ℕ) (reading : Reading) (line answer : List ℕ) : Type 0 where
-  shows_tree : (block : List ℕ) (t : TreeV) (text : List ℕ) → BlockLine line block
-      → Strings rules name reading block t → TreeText t text → answer ≡ codes "ok " ++ text
-      → ShowsLine rules name reading line answer
-  shows_place : (block : List ℕ) (place : ℕ) → BlockLine line block
-      → ((t : TreeV) → Strings rules name reading block t → ⊥) → IsPlace rules name reading block place
-      → answer ≡ refusal_text place block → ShowsLine rules name reading line answer
+-- the text that is written for a tree in a form
+abbrev pub IsShown : TreeForm → TreeV → List ℕ → Type 0
+IsShown Text = TreeText
+IsShown Json = WrittenJson
+
+-- a block is answered by its tree in a form, or by the place up to which its bits can be followed
+pub data ShowsBlock (form : TreeForm) (rules : RulesV) (name : List ℕ) (reading : Reading) (block answer : List ℕ) : Type 0 where
+  shows_tree : (t : TreeV) (text : List ℕ) → Strings rules name reading block t → IsShown form t text
+      → answer ≡ codes "ok " ++ text → ShowsBlock form rules name reading block answer
+  shows_place : (place : ℕ) → ((t : TreeV) → Strings rules name reading block t → ⊥)
+      → IsPlace rules name reading block place → answer ≡ refusal_text place block
+      → ShowsBlock form rules name reading block answer
+
+-- `show` and `json`: a block line is answered as its block is, and a line that is none by its fault
+pub data ShowsLine (form : TreeForm) (rules : RulesV) (name : List ℕ) (reading : Reading) (line answer : List ℕ) : Type 0 where
+  shows_block : (block : List ℕ) → BlockLine line block → ShowsBlock form rules name reading block answer
+      → ShowsLine form rules name reading line answer
   shows_fault : (fault : BitsFault) → IsLineFault line fault → answer ≡ fault_text fault
-      → ShowsLine rules name reading line answer
+      → ShowsLine form rules name reading line answer
 
 -- why a block has no tree by a description: it has none, and this place; for want of memory nothing is known
 abbrev pub IsRefusalOf : DescV → List ℕ → DecodeFault → Type 0
@@ -80,24 +102,46 @@ why_text past_the_limit = codes "TooManyBits"
 abbrev pub misfit_text : List ℕ → MisfitWhy → List ℕ
 misfit_text path why = codes "no " ++ (path_text path ++ 32 ∷ why_text why)
 
--- `write`: the text of a tree is answered by the block that has it; where no block has it, by the first
--- misfit to the description of the rule; and a line that is no such text by the place up to which it
--- begins one
-pub data WritesLine (rules : RulesV) (name : List ℕ) (reading : Reading) (line answer : List ℕ) : Type 0 where
-  writes_block : (t : TreeV) (block : List ℕ) → TreeText t line → length block ≤ most_bits
+-- a line that is a tree in a form
+abbrev pub IsRead : TreeForm → TreeV → List ℕ → Type 0
+IsRead Text = TreeText
+IsRead Json = JsonText
+
+-- the answer to a line that is no tree in a form: of a text the place up to which it begins one; of JSON 1 where the line
+-- is no JSON, and 2 where it is a value that shows no tree
+abbrev pub IsUnread : TreeForm → List ℕ → List ℕ → Type 0
+IsUnread Text line answer = (place : ℕ) × IsFaultPlace Second line place × (answer ≡ codes "bad " ++ decimal place)
+IsUnread Json line answer =
+    (IsJsonFault line NotJson × (answer ≡ codes "bad 1")) ⊎ (IsJsonFault line NotTree × (answer ≡ codes "bad 2"))
+
+-- the answer to a line of JSON that is refused for this; for want of memory there is none
+abbrev pub TellsJsonFault : JsonFault → List ℕ → Type 0
+TellsJsonFault NotJson answer = answer ≡ codes "bad 1"
+TellsJsonFault NotTree answer = answer ≡ codes "bad 2"
+TellsJsonFault no_memory_for_json answer = ⊥
+
+-- the tree that a line was found to be in a form, where nothing was written; or the answer that was written, where it is
+-- none
+abbrev pub Reads : TreeForm → List ℕ → Option TreeV → List ℕ → List ℕ → Type 0
+Reads form line (Some t) old new = IsRead form t line × (new ≡ old)
+Reads form line None old new = (answer : List ℕ) × IsUnread form line answer × (new ≡ old ++ answer)
+
+-- `write` and `unjson`: a tree in the form is answered by the block that has it; where no block has it, by the first
+-- misfit to the description of the rule; and a line that is no tree by what is wrong with it
+pub data WritesLine (form : TreeForm) (rules : RulesV) (name : List ℕ) (reading : Reading) (line answer : List ℕ) : Type 0 where
+  writes_block : (t : TreeV) (block : List ℕ) → IsRead form t line → length block ≤ most_bits
       → Strings rules name reading block t → answer ≡ codes "ok " ++ written block
-      → WritesLine rules name reading line answer
-  writes_misfit : (t : TreeV) (d : DescV) (path : List ℕ) (why : MisfitWhy) → TreeText t line
+      → WritesLine form rules name reading line answer
+  writes_misfit : (t : TreeV) (d : DescV) (path : List ℕ) (why : MisfitWhy) → IsRead form t line
       → ((block : List ℕ) → length block ≤ most_bits → Strings rules name reading block t → ⊥)
       → IsResolved rules name reading d → IsMisfit d t path why → answer ≡ misfit_text path why
-      → WritesLine rules name reading line answer
-  writes_place : (place : ℕ) → IsFaultPlace Second line place → answer ≡ codes "bad " ++ decimal place
-      → WritesLine rules name reading line answer
+      → WritesLine form rules name reading line answer
+  writes_bad : IsUnread form line answer → WritesLine form rules name reading line answer
 
 -- what answers a line of a command by a rule
 abbrev pub AnswersByRule : RuleCommand → RulesV → List ℕ → Reading → List ℕ → List ℕ → Type 0
-AnswersByRule Show = ShowsLine
-AnswersByRule Write = WritesLine
+AnswersByRule (Show form) = ShowsLine form
+AnswersByRule (Write form) = WritesLine form
 
 -- the same by a description, for each rule that has it
 abbrev pub AnswersBy : RuleCommand → DescV → List ℕ → List ℕ → Type 0
@@ -112,3 +156,74 @@ pub data MigratesLine (line answer : List ℕ) : Type 0 where
       → MigratesLine line answer
   migrates_place : (place : ℕ) → IsFaultPlace First line place → answer ≡ codes "bad " ++ decimal place
       → MigratesLine line answer
+
+-- a block is answered so for each rule that has the description
+abbrev pub ShowsBlockBy : TreeForm → DescV → List ℕ → List ℕ → Type 0
+ShowsBlockBy form d block answer =
+    (text : List ℕ) (rules : RulesV) (name : List ℕ) (reading : Reading) → IsCompiled text name reading rules d
+    → ShowsBlock form rules name reading block answer
+
+-- the number of the fault that tells why a block gives no message
+abbrev pub segment_fault : SegmentWhy → ℕ
+segment_fault not_23_octets = 5
+segment_fault NotControl = 6
+segment_fault Reserved = 7
+segment_fault NotFinal = 8
+segment_fault NoFirst = 9
+
+-- what the joiner gives for a block is answered: a message as a downlink block, a first segment by its radio
+-- transaction identifier, and a block that gives no message by its fault
+abbrev pub AnswersJoined : RulesV → Reading → Joined → List ℕ → Type 0
+AnswersJoined rules reading (Whole message) answer =
+    ShowsBlock Text rules (entry_root Downlink) reading (bits_of_octets message.items) answer
+AnswersJoined rules reading (Waiting rti) answer = answer ≡ codes "wait " ++ decimal rti
+AnswersJoined rules reading (no_message why) answer = answer ≡ codes "bad " ++ decimal (segment_fault why)
+
+-- and so for the rule that describes downlink blocks, where it has the description
+abbrev pub AnswersJoinedBy : DescV → Joined → List ℕ → Type 0
+AnswersJoinedBy d joined answer =
+    (text : List ℕ) (rules : RulesV) (reading : Reading) → IsCompiled text (entry_root Downlink) reading rules d
+    → AnswersJoined rules reading joined answer
+
+-- `segments`: a block line is answered by what the joiner gives for its block behind those before; but bits that are no
+-- whole octets, and a line that is no block line, are answered by their fault, and are not given to the joiner
+pub data SegmentsLine (rules : RulesV) (reading : Reading) (before : List (List ℕ)) (line answer : List ℕ) (after : List (List ℕ)) : Type 0 where
+  joins_block : (block : List ℕ) → BlockLine line block → length block % 8 ≡ 0
+      → AnswersJoined rules reading (answer_to before (octets_of block)) answer
+      → after ≡ before ++ octets_of block ∷ [] → SegmentsLine rules reading before line answer after
+  no_octets : (block : List ℕ) → BlockLine line block → length block % 8 ≢ 0 → answer ≡ codes "bad 5"
+      → after ≡ before → SegmentsLine rules reading before line answer after
+  no_block : (fault : BitsFault) → IsLineFault line fault → answer ≡ fault_text fault → after ≡ before
+      → SegmentsLine rules reading before line answer after
+
+-- how such a line takes the state further
+abbrev pub Segments : RulesV → Reading → LineState → List ℕ → List ℕ → LineState → Type 0
+Segments rules reading before line text after =
+    (answer : List ℕ) × SegmentsLine rules reading before.blocks line answer after.blocks
+    × (text ≡ answer ++ LINE_FEED ∷ []) × (after.watchers ≡ before.watchers)
+
+-- a line is answered so, whichever blocks came before, and the bodies that are kept stand for those that came then
+abbrev pub JoinsLine : DescV → List (Option (List ℕ)) → List ℕ → List ℕ → List (Option (List ℕ)) → Type 0
+JoinsLine d bodies line answer bodies' =
+    (before : List (List ℕ)) → JoinsFor bodies before → (after : List (List ℕ)) × JoinsFor bodies' after
+    × ((text : List ℕ) (rules : RulesV) (reading : Reading) → IsCompiled text (entry_root Downlink) reading rules d
+    → SegmentsLine rules reading before line answer after)
+
+-- how such a line takes what is kept further
+abbrev pub Joins : DescV → Kept → List ℕ → List ℕ → Kept → Type 0
+Joins d kept line text kept' =
+    (answer : List ℕ) × JoinsLine d kept.bodies line answer kept'.bodies × (text ≡ answer ++ LINE_FEED ∷ [])
+    × (kept'.watchers ≡ kept.watchers)
+
+-- what the command of a line does: it goes by the plan of a description, writes old texts anew, or joins blocks to
+-- messages and goes by the plan of their description
+pub data LineWork : Type 0 where
+  by_plan : RuleCommand → DescV → LineWork
+  renewing : LineWork
+  joining : DescV → LineWork
+
+-- what a line gives in this work, and what is kept behind it
+abbrev pub Works : LineWork → Kept → List ℕ → List ℕ → Kept → Type 0
+Works (by_plan command d) = AnswersAlone (AnswersBy command d)
+Works renewing = AnswersAlone MigratesLine
+Works (joining d) = Joins d

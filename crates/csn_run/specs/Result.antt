@@ -1,7 +1,12 @@
 -- What a run writes, and how it ends: for the words, the files that they name and the whole input. The
 -- order of the ends is this project's own choice: first the length of the description, then what it is,
 -- then the lines.
-use Rattle.std.specs.Prelude.{◌≡◌, ℕ, ◌<◌, ◌≤◌, ◌⊎◌, Bool, if◌then◌else◌, List, [], ◌∷◌, ◌++◌, length, take, Option, Some, None}
+use Rattle.std.specs.Prelude.{◌≡◌, ℕ, ◌<◌, ◌≤◌, ◌⊎◌, Bool, if◌then◌else◌, List, [], ◌∷◌, ◌++◌, length, take, map, Option, Some}
+use Rattle.std.specs.List.{AllByRecursion}
+use Rattle.csn_catalogue.specs.declared.entry.Entry.{Entry}
+use Rattle.csn_catalogue.specs.declared.entry.Entry.TheVariants.{Downlink}
+use Rattle.csn_catalogue.specs.Entries.{entry_root}
+use Rattle.csn_catalogue.specs.Text.{catalogue_text}
 use Rattle.csn_desc.specs.declared.reading.Reading.{Reading}
 use Rattle.csn_desc.specs.Nodes.{DescV}
 use Rattle.csn_desc.specs.TreeV.{TreeV}
@@ -13,43 +18,56 @@ use Rattle.csn_run.specs.declared.ended.Ended.TheVariants.{Done, SomeRefused, Us
 use Rattle.csn_run.specs.declared.lines.TheConstants.{LINE_FEED, MOST_INPUT}
 use Rattle.csn_run.specs.declared.compile.TheConstants.{MOST_DESCRIPTION}
 use Rattle.csn_run.specs.declared.command.RuleCommand.{RuleCommand}
-use Rattle.csn_run.specs.Command.{IsCheck, IsAnswer, IsMigrate, IsOverRule}
-use Rattle.csn_run.specs.Compiled.{IsCompiled, HasNoPlan, certified_line}
+use Rattle.csn_run.specs.Command.{IsCheck, IsAnswer, IsMigrate, IsSegments, IsOverRule, IsOverEntries}
+use Rattle.csn_run.specs.Compiled.{RuleOf, rule_of_entry, IsCompiled, HasNoPlan, certified_line}
 use Rattle.csn_run.specs.Lines.{between_feeds}
-use Rattle.csn_run.specs.OutLine.{AnswersByRule, MigratesLine}
+use Rattle.csn_run.specs.LineState.{LineState, nothing_yet, closing, AnswersAlone}
+use Rattle.csn_run.specs.OutLine.{AnswersByRule, MigratesLine, Segments}
 use Rattle.csn_run.specs.Progress.{Answers, EndsIn, KeepsUp, StopsAfter}
 
--- the jobs that answer the lines of the input: a command by a rule of some rules, and `migrate`
+-- the jobs that answer the lines of the input: a command by a rule of some rules, `migrate`, and `segments` by the rule
+-- of some rules that describes downlink blocks
 pub data LineJob : Type 0 where
   by_rule : RuleCommand → RulesV → List ℕ → Reading → LineJob
   migrating : LineJob
+  segmenting : RulesV → Reading → LineJob
 
--- what answers a line in such a job
-abbrev pub AnswersLine : LineJob → List ℕ → List ℕ → Type 0
-AnswersLine (by_rule command rules name reading) = AnswersByRule command rules name reading
-AnswersLine migrating = MigratesLine
+-- what a line gives in such a job, and how it takes the state further
+abbrev pub Steps : LineJob → LineState → List ℕ → List ℕ → LineState → Type 0
+Steps (by_rule command rules name reading) = AnswersAlone (AnswersByRule command rules name reading)
+Steps migrating = AnswersAlone MigratesLine
+Steps (segmenting rules reading) = Segments rules reading
+
+-- the state in front of the first line
+abbrev pub beginning : LineJob → LineState
+beginning (by_rule command rules name reading) = nothing_yet
+beginning migrating = nothing_yet
+beginning (segmenting rules reading) = nothing_yet
 
 -- the words ask for this job. By a rule the file that they name is there, is no longer than a description
--- may be, and the rule that they name has a certified description
+-- may be, and the rule that they name has a certified description; for `segments` the rule of the catalogue has one
 pub data AsksFor (words : List (List ℕ)) (files : List ℕ → Option (List ℕ)) (job : LineJob) : Type 0 where
   asks_by_rule : (command : RuleCommand) (file name text : List ℕ) (reading : Reading) (rules : RulesV) (d : DescV)
       → IsAnswer command words file name reading → files file ≡ Some text → length text ≤ MOST_DESCRIPTION
       → IsCompiled text name reading rules d → job ≡ by_rule command rules name reading → AsksFor words files job
   asks_migrate : IsMigrate words → job ≡ migrating → AsksFor words files job
+  asks_segments : (reading : Reading) (rules : RulesV) (d : DescV) → IsSegments words reading
+      → length catalogue_text ≤ MOST_DESCRIPTION → IsCompiled catalogue_text (entry_root Downlink) reading rules d
+      → job ≡ segmenting rules reading → AsksFor words files job
 
 -- the end of a command that answered all lines, by whether it refused one
 abbrev pub end_of : Bool → Ended
 end_of refused = if refused then SomeRefused else Done
 
--- what a command writes whose lines are answered so: the answers to all lines of the input; of an input
--- past its limit, to the lines that end within it
-pub data AnswersInput (Answer : List ℕ → List ℕ → Type 0) (input written : List ℕ) (ended : Ended) : Type 0 where
-  answers_all : (refused : Bool) → length input ≤ MOST_INPUT
-      → Answers Answer (between_feeds input) written refused → ended ≡ end_of refused
-      → AnswersInput Answer input written ended
-  answers_front : (lines : List (List ℕ)) (line : List ℕ) (refused : Bool) → MOST_INPUT < length input
-      → EndsIn (take MOST_INPUT input) lines line → Answers Answer lines written refused → ended ≡ TooLong
-      → AnswersInput Answer input written ended
+-- what a job writes: what all lines of the input give, and then what closes it; of an input past its limit, what the
+-- lines give that end within it, and nothing behind that
+pub data AnswersInput (job : LineJob) (input written : List ℕ) (ended : Ended) : Type 0 where
+  answers_all : (text : List ℕ) (after : LineState) (refused : Bool) → length input ≤ MOST_INPUT
+      → Answers (Steps job) (beginning job) (between_feeds input) text after refused
+      → written ≡ text ++ closing after → ended ≡ end_of refused → AnswersInput job input written ended
+  answers_front : (lines : List (List ℕ)) (line : List ℕ) (after : LineState) (refused : Bool) → MOST_INPUT < length input
+      → EndsIn (take MOST_INPUT input) lines line → Answers (Steps job) (beginning job) lines written after refused
+      → ended ≡ TooLong → AnswersInput job input written ended
 
 -- what a command over a rule writes for the text of its file, and how it ends, where the text gives it no certified
 -- description
@@ -58,11 +76,26 @@ pub data HasNoJob (text name : List ℕ) (reading : Reading) (written : List ℕ
   no_plan : (line : List ℕ) → length text ≤ MOST_DESCRIPTION → HasNoPlan text name reading line ended
       → written ≡ line ++ LINE_FEED ∷ [] → HasNoJob text name reading written ended
 
+-- what a run compiles before it comes to a line, in this order: the rule that the words name, of the file that is
+-- there, or rules of the catalogue
+pub data Compiles (words : List (List ℕ)) (files : List ℕ → Option (List ℕ)) (all : List RuleOf) : Type 0 where
+  of_file : (file name text : List ℕ) (reading : Reading) → IsOverRule words file name reading → files file ≡ Some text
+      → all ≡ record { text = text; name = name; reading = reading } ∷ [] → Compiles words files all
+  of_catalogue : (entries : List Entry) (reading : Reading) → IsOverEntries words entries reading
+      → all ≡ map (rule_of_entry reading) entries → Compiles words files all
+
+-- the text is no longer than a description may be, and its rule has a certified description
+abbrev pub HasJob : RuleOf → Type 0
+HasJob rule =
+    (length rule.text ≤ MOST_DESCRIPTION) × (rules : RulesV) × (d : DescV)
+    × IsCompiled rule.text rule.name rule.reading rules d
+
 -- what a run writes, and how it ends, where it comes to no line of the input and the files that its words name are
--- there
+-- there: by the first of what it compiles that is not certified, or for `check` where all is well
 pub data EndsBefore (words : List (List ℕ)) (files : List ℕ → Option (List ℕ)) (written : List ℕ) (ended : Ended) : Type 0 where
-  no_job : (file name text : List ℕ) (reading : Reading) → IsOverRule words file name reading
-      → files file ≡ Some text → HasNoJob text name reading written ended → EndsBefore words files written ended
+  no_job : (front : List RuleOf) (rule : RuleOf) (behind : List RuleOf) → Compiles words files (front ++ rule ∷ behind)
+      → AllByRecursion HasJob front → HasNoJob rule.text rule.name rule.reading written ended
+      → EndsBefore words files written ended
   checked : (file name text : List ℕ) (reading : Reading) (rules : RulesV) (d : DescV) → IsCheck words file name reading
       → files file ≡ Some text → length text ≤ MOST_DESCRIPTION → IsCompiled text name reading rules d
       → written ≡ certified_line d ++ LINE_FEED ∷ [] → ended ≡ Done → EndsBefore words files written ended
@@ -71,7 +104,7 @@ pub data EndsBefore (words : List (List ℕ)) (files : List ℕ → Option (List
 -- or answers the lines of the input
 pub data Result (words : List (List ℕ)) (files : List ℕ → Option (List ℕ)) (input written : List ℕ) (ended : Ended) : Type 0 where
   no_line : EndsBefore words files written ended → Result words files input written ended
-  lines : (job : LineJob) → AsksFor words files job → AnswersInput (AnswersLine job) input written ended
+  lines : (job : LineJob) → AsksFor words files job → AnswersInput job input written ended
       → Result words files input written ended
 
 -- the ends after which a job is done, or all of it that can be
@@ -101,7 +134,7 @@ pub data BeginsResult (words : List (List ℕ)) (files : List ℕ → Option (Li
 pub record AnswersGiven (words : List (List ℕ)) (files : List ℕ → Option (List ℕ)) (given written : List ℕ) : Type 0 where
   pub job : LineJob
   pub asked : AsksFor words files job
-  pub stopped : StopsAfter (AnswersLine job) given written
+  pub stopped : StopsAfter (Steps job) (beginning job) given written
 
 -- a run of which a fault stopped the reading: nothing of the input was read and nothing is written, or the
 -- source had given some bytes, and `left` is what it has left
@@ -115,11 +148,11 @@ pub data StopsReading (words : List (List ℕ)) (files : List ℕ → Option (Li
 pub data AnswersPromptly (words : List (List ℕ)) (files : List ℕ → Option (List ℕ)) (input : List ℕ) (left : Option (List ℕ)) (written : List ℕ) : Type 0 where
   nothing_read : left ≡ Some input → AnswersPromptly words files input left written
   some_read : (given rest : List ℕ) (job : LineJob) → input ≡ given ++ rest → left ≡ Some rest
-      → AsksFor words files job → KeepsUp (AnswersLine job) given written → AnswersPromptly words files input left written
+      → AsksFor words files job → KeepsUp (Steps job) (beginning job) given written → AnswersPromptly words files input left written
 
--- by the rule that the words name, in the text of the file that is there, bits of any length have at most one tree
+-- by each rule that a run of the words compiles, bits of any length have at most one tree
 abbrev pub RulesHaveOneTree : List (List ℕ) → (List ℕ → Option (List ℕ)) → Type 0
 RulesHaveOneTree words files =
-    (file name text : List ℕ) (reading : Reading) (rules : RulesV) → IsOverRule words file name reading
-    → files file ≡ Some text → HasRules text rules
-    → (b : List ℕ) (t u : TreeV) → Strings rules name reading b t → Strings rules name reading b u → t ≡ u
+    (front behind : List RuleOf) (rule : RuleOf) (rules : RulesV) → Compiles words files (front ++ rule ∷ behind)
+    → HasRules rule.text rules
+    → (b : List ℕ) (t u : TreeV) → Strings rules rule.name rule.reading b t → Strings rules rule.name rule.reading b u → t ≡ u

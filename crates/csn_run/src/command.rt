@@ -1,7 +1,7 @@
 ghost use Rattle.std.specs.Prelude.{◌≡◌, ◌↔◌, IsTrue, IsSome, IfSome, List, ℕ, codes, map};
 ghost use Rattle.std.specs.String.{string_bytes};
 ghost use Rattle.csn_desc.specs.declared.reading.Reading.{Reading};
-ghost use Rattle.csn_run.specs.Command.{AreRuleWords, IsArgument, IsCommand, IsMigrate, IsRowOf, NamesRule, word_of};
+ghost use Rattle.csn_run.specs.Command.{AreRuleWords, IsArgument, IsCommand, IsMigrate, IsRowOf, NamesReading, NamesRule, word_of};
 
 use csn_desc::Reading;
 
@@ -15,13 +15,20 @@ pub struct RuleWords<'a> {
     pub reading: Reading,
 }
 
+/// The form in which trees stand in lines.
+#[derive(Clone, Copy)]
+pub enum TreeForm {
+    Text,
+    Json,
+}
+
 /// A command that answers each line of the input by a rule.
 #[derive(Clone, Copy)]
 pub enum RuleCommand {
     /// Shows blocks as the trees that they have.
-    Show,
+    Show(TreeForm),
     /// Writes trees as the blocks that have them.
-    Write,
+    Write(TreeForm),
 }
 
 /// A row of the command table, with what its words name.
@@ -33,6 +40,8 @@ pub enum Command<'a> {
     Answer(RuleCommand, RuleWords<'a>),
     /// Writes the old texts of trees in the input as they are written today.
     Migrate,
+    /// Joins the blocks in the input to control messages of the downlink, and shows these.
+    Segments(Reading),
 }
 
 fn is_argument(word: &str) -> bool
@@ -76,6 +85,22 @@ fn rule_words<'a>(command: &str, words: &'a [String]) -> Option<RuleWords<'a>>
     }
 }
 
+/// The reading that the words `COMMAND READING` name, where these are such words.
+fn reading_words(command: &str, words: &[String]) -> Option<Reading>
+    ensures names { IfSome result (λ reading. NamesReading command.now (map string_bytes words.now) reading) }
+    ensures none { (reading : Reading) → NamesReading command.now (map string_bytes words.now) reading → IsSome result }
+{
+    let [first, reading] = words else {
+        return None;
+    };
+    let reading = reading_of(reading.as_str())?;
+    if first.as_str() == command {
+        Some(reading)
+    } else {
+        None
+    }
+}
+
 fn is_migrate(words: &[String]) -> bool
     ensures { IsTrue result ↔ IsMigrate (map string_bytes words.now) }
 {
@@ -93,12 +118,21 @@ pub fn command_of(words: &[String]) -> Option<Command<'_>>
     if is_migrate(words) {
         return Some(Command::Migrate);
     }
+    if let Some(reading) = reading_words("segments", words) {
+        return Some(Command::Segments(reading));
+    }
     if let Some(rule) = rule_words("check", words) {
         return Some(Command::Check(rule));
     }
     if let Some(rule) = rule_words("show", words) {
-        return Some(Command::Answer(RuleCommand::Show, rule));
+        return Some(Command::Answer(RuleCommand::Show(TreeForm::Text), rule));
     }
-    let rule = rule_words("write", words)?;
-    Some(Command::Answer(RuleCommand::Write, rule))
+    if let Some(rule) = rule_words("write", words) {
+        return Some(Command::Answer(RuleCommand::Write(TreeForm::Text), rule));
+    }
+    if let Some(rule) = rule_words("json", words) {
+        return Some(Command::Answer(RuleCommand::Show(TreeForm::Json), rule));
+    }
+    let rule = rule_words("unjson", words)?;
+    Some(Command::Answer(RuleCommand::Write(TreeForm::Json), rule))
 }

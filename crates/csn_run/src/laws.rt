@@ -1,7 +1,7 @@
 //! Laws over the definitions, each the contract of a function that does nothing.
 
 ghost use Rattle.csn_run.specs.Known.{Known};
-ghost use Rattle.csn_run.specs.Laws.{LinesHaveAnswers, LinesHaveOneAnswer, RunsHaveResults, RunsHaveOneResult};
+ghost use Rattle.csn_run.specs.Laws.{FormsAreShownTogether, FormsShowOneTree, LinesHaveAnswers, LinesHaveOneAnswer, RunsHaveResults, RunsHaveOneResult};
 
 /// What the laws of the crates below say, as the lemmas here take it.
 pub(crate) fn known()
@@ -27,15 +27,28 @@ pub(crate) fn known()
     csn_encode::laws::misfits_have_no_bits();
     csn_encode::laws::first_misfit_is_one();
     csn_encode::laws::trees_fit_or_miss();
+    csn_segment::laws::messages_are_short();
     csn_treetext::laws::texts_are_decided();
     csn_treetext::laws::texts_are_of_one_tree();
     csn_treetext::laws::versions_share_trees();
+    csn_json::laws::texts_are_decided();
+    csn_json::laws::texts_have_one_tree();
+    csn_json::laws::trees_are_not_refused();
+    csn_json::laws::written_is_shown();
 }
 
 /// Each line has one answer, in each job over lines.
 pub fn lines_have_one_answer()
     ensures some_answer { LinesHaveAnswers }
     ensures one_answer { LinesHaveOneAnswer }
+{
+    known();
+}
+
+/// `json` shows what `show` shows: the same blocks, by the same trees.
+pub fn forms_show_one_tree()
+    ensures together { FormsAreShownTogether }
+    ensures one_tree { FormsShowOneTree }
 {
     known();
 }

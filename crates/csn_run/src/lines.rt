@@ -5,9 +5,11 @@ ghost use Rattle.csn_io.specs.Faults.{Rose};
 ghost use Rattle.csn_io.specs.Got.{IfBytes, OnEnd, OnFailed, UnlessBytes, Gave, NothingLeft};
 ghost use Rattle.csn_io.specs.Put.{Appended};
 ghost use Rattle.csn_run.specs.declared.lines.TheConstants.{LINE_FEED, MOST_INPUT, PIECE};
-ghost use Rattle.csn_run.specs.Lines.{HasNoFeed, without_return, is_refusal};
+ghost use Rattle.csn_run.specs.Lines.{HasNoFeed, without_return, is_refusal, is_refused};
 ghost use Rattle.csn_run.specs.Outside.{Keeps};
-ghost use Rattle.csn_run.specs.Progress.{AddsAnswers, Advances, Halts, PassesOn, HaltsAt, AnswersAll, Stops};
+ghost use Rattle.csn_run.specs.Progress.{AddsAnswers, Advances, Closes, Halts, PassesOn, HaltsAt, AnswersAll, Stops};
+ghost use Rattle.csn_run.specs.LineState.{closing_of};
+ghost use Rattle.csn_run.specs.OutLine.{Works};
 
 use crate::fault::Fault;
 use crate::output::pass_on;
@@ -27,17 +29,43 @@ const CARRIAGE_RETURN: u8 = b'\r';
 /// The most bytes that are asked for at once.
 const PIECE: usize = 4096;
 
-/// A command that answers each line of the input.
-pub trait LineCommand {
-    /// What may answer a line.
-    ghost answers: { Self → List ℕ → List ℕ → Type 0 };
+/// What a line was given.
+#[derive(Clone, Copy, Debug, Drop, PartialEq, Eq)]
+pub enum Answered {
+    /// What it asks for.
+    Given,
+    /// The reason why it gets nothing.
+    Refused,
+}
 
-    /// Writes the answer to a line, without a line feed, and tells whether it refuses the line.
-    fn answer(&self, alloc: Global, line: &[u8], out: &mut Vec<u8>) -> Result<bool, AllocError>
+/// A command that answers each line of the input. The answer may depend on the lines before it.
+pub trait LineCommand {
+    ghost use Rattle.csn_run.specs.LineState.{Kept};
+    ghost use Rattle.csn_run.specs.OutLine.{LineWork};
+
+    /// What it does.
+    ghost work: { Self → LineWork };
+
+    /// What it keeps of the lines so far.
+    ghost kept: { Self → Kept };
+
+    /// Writes what a line gives, with its line feed.
+    fn answer(
+        &mut self,
+        alloc: Global,
+        line: &[u8],
+        out: &mut Vec<u8>,
+    ) -> Result<Answered, AllocError>
         requires some { 0 < length line.now }
         requires fits { length line.now ≤ MOST_INPUT }
-        ensures ok { IfOk result (λ refused. (answer : List ℕ) × (out.new.items ≡ out.old.items ++ answer)
-            × answers self.now line.now answer × (refused ≡ is_refusal answer)) }
+        ensures ok { IfOk result (λ answered. (text : List ℕ) × (out.new.items ≡ out.old.items ++ text)
+            × Works (work self.old) (kept self.old) line.now text (kept self.new) × (is_refused answered ≡ is_refusal text)) }
+        ensures work { work self.new ≡ work self.old }
+        ensures err { OnErr result ((tail : List ℕ) × (out.new.items ≡ out.old.items ++ tail)) };
+
+    /// Writes what stands behind the last line.
+    fn close(&mut self, alloc: Global, out: &mut Vec<u8>) -> Result<(), AllocError>
+        ensures ok { OnOk result (out.new.items ≡ out.old.items ++ closing_of (kept self.old)) }
         ensures err { OnErr result ((tail : List ℕ) × (out.new.items ≡ out.old.items ++ tail)) };
 }
 
@@ -61,33 +89,17 @@ fn split_at_feed(bytes: &[u8]) -> Option<(&[u8], &[u8])>
     Some((&bytes[..end], &bytes[end + 1..]))
 }
 
-/// Writes an answer and a line feed.
-fn answer_with_feed<C: LineCommand>(
-    command: &C,
-    alloc: Global,
-    line: &[u8],
-    out: &mut Vec<u8>,
-) -> Result<bool, AllocError>
-    requires some { 0 < length line.now }
-    requires fits { length line.now ≤ MOST_INPUT }
-    ensures ok { IfOk result (λ refused. (answer : List ℕ) × (out.new.items ≡ out.old.items ++ (answer ++ LINE_FEED ∷ []))
-        × C.answers command.now line.now answer × (refused ≡ is_refusal answer)) }
-    ensures err { OnErr result ((tail : List ℕ) × (out.new.items ≡ out.old.items ++ tail)) }
-{
-    let refused = command.answer(alloc, line, out)?;
-    out.push(LINE_FEED)?;
-    Ok(refused)
-}
-
-/// Writes the output line of a line, and tells whether the line was refused. An empty line has none.
+/// Writes what a line gives, and tells whether the line was refused. An empty line gives nothing.
 fn answer_line<C: LineCommand>(
-    command: &C,
+    command: &mut C,
     alloc: Global,
     line: &[u8],
     out: &mut Vec<u8>,
 ) -> Result<bool, AllocError>
     requires { length line.now ≤ MOST_INPUT }
-    ensures ok { IfOk result (AddsAnswers (C.answers command.now) (line.now ∷ []) out.old.items out.new.items) }
+    ensures ok { IfOk result (AddsAnswers (Works (C.work command.old)) (C.kept command.old) (line.now ∷ [])
+        out.old.items out.new.items (C.kept command.new)) }
+    ensures work { C.work command.new ≡ C.work command.old }
     ensures err { OnErr result (out.new.items ≡ out.old.items) }
 {
     let line = strip_return(line);
@@ -95,8 +107,9 @@ fn answer_line<C: LineCommand>(
         return Ok(false);
     }
     let start = out.len();
-    match answer_with_feed(command, alloc, line, out) {
-        Ok(refused) => Ok(refused),
+    match command.answer(alloc, line, out) {
+        Ok(Answered::Given) => Ok(false),
+        Ok(Answered::Refused) => Ok(true),
         Err(error) => {
             out.truncate(start);
             Err(error)
@@ -148,11 +161,13 @@ impl Lines {
     }
 
     /// Answers the line that ends here.
-    fn end_line<C: LineCommand>(&mut self, command: &C, alloc: Global) -> Result<(), AllocError>
+    fn end_line<C: LineCommand>(&mut self, command: &mut C, alloc: Global) -> Result<(), AllocError>
         requires { length self.old.line.items ≤ MOST_INPUT }
         ensures ok { OnOk result ((refused : Bool)
-            × AddsAnswers (C.answers command.now) (self.old.line.items ∷ []) self.old.pending.items self.new.pending.items refused
+            × AddsAnswers (Works (C.work command.old)) (C.kept command.old) (self.old.line.items ∷ [])
+            self.old.pending.items self.new.pending.items (C.kept command.new) refused
             × (self.new.refused ≡ (self.old.refused || refused))) }
+        ensures work { C.work command.new ≡ C.work command.old }
         ensures line { OnOk result (self.new.line.items ≡ []) }
         ensures err { OnErr result (self.new.pending.items ≡ self.old.pending.items) }
     {
@@ -162,22 +177,43 @@ impl Lines {
         Ok(())
     }
 
+    /// Answers the last line, and writes what stands behind it.
+    fn end_input<C: LineCommand>(
+        &mut self,
+        command: &mut C,
+        alloc: Global,
+    ) -> Result<(), AllocError>
+        requires { length self.old.line.items ≤ MOST_INPUT }
+        ensures ok { OnOk result (Closes (Works (C.work command.old)) closing_of (C.kept command.old) self.old.line.items
+            self.old.pending.items self.new.pending.items self.old.refused self.new.refused) }
+        ensures err { OnErr result (self.new.pending.items ≡ self.old.pending.items) }
+    {
+        let start = self.pending.len();
+        self.end_line(command, alloc)?;
+        if let Err(error) = command.close(alloc, &mut self.pending) {
+            self.pending.truncate(start);
+            return Err(error);
+        }
+        Ok(())
+    }
+
     /// Takes the next bytes, and answers each line whose line feed is among them.
     fn take<C: LineCommand>(
         &mut self,
-        command: &C,
+        command: &mut C,
         alloc: Global,
         piece: &[u8],
     ) -> Result<(), AllocError>
         requires fits { length self.old.line.items + length piece.now ≤ MOST_INPUT }
         requires unended { HasNoFeed self.old.line.items }
         ensures ok { OnOk result ((refused : Bool)
-            × Advances (C.answers command.now) (self.old.line.items ++ piece.now) self.new.line.items
-            self.old.pending.items self.new.pending.items refused
+            × Advances (Works (C.work command.old)) (C.kept command.old) (self.old.line.items ++ piece.now)
+            self.new.line.items self.old.pending.items self.new.pending.items (C.kept command.new) refused
             × (self.new.refused ≡ (self.old.refused || refused))) }
+        ensures work { OnOk result (C.work command.new ≡ C.work command.old) }
         ensures fits { OnOk result (length self.new.line.items ≤ length self.old.line.items + length piece.now) }
-        ensures err { OnErr result (Halts (C.answers command.now) (self.old.line.items ++ piece.now)
-            self.old.pending.items self.new.pending.items) }
+        ensures err { OnErr result (Halts (Works (C.work command.old)) (C.kept command.old)
+            (self.old.line.items ++ piece.now) self.old.pending.items self.new.pending.items) }
     {
         let mut rest = piece;
         while let Some((front, back)) = split_at_feed(rest) {
@@ -192,7 +228,7 @@ impl Lines {
     /// Takes the next bytes, and hands the answers to the sink.
     fn pass_piece<C: LineCommand, K: Sink>(
         &mut self,
-        command: &C,
+        command: &mut C,
         alloc: Global,
         piece: &[u8],
         out: &mut K,
@@ -200,12 +236,13 @@ impl Lines {
         requires fits { length self.old.line.items + length piece.now ≤ MOST_INPUT }
         requires unended { HasNoFeed self.old.line.items }
         requires pending { self.old.pending.items ≡ [] }
-        ensures ok { OnOk result (PassesOn (C.answers command.now) (self.old.line.items ++ piece.now) self.new.line.items
-            (K.taken out.old) (K.taken out.new) self.old.refused self.new.refused) }
+        ensures ok { OnOk result (PassesOn (Works (C.work command.old)) (C.kept command.old) (self.old.line.items ++ piece.now)
+            self.new.line.items (K.taken out.old) (K.taken out.new) (C.kept command.new) self.old.refused self.new.refused) }
+        ensures work { OnOk result (C.work command.new ≡ C.work command.old) }
         ensures pending { OnOk result (self.new.pending.items ≡ []) }
         ensures fits { OnOk result (length self.new.line.items ≤ length self.old.line.items + length piece.now) }
-        ensures err { OnErr result (HaltsAt (C.answers command.now) (self.old.line.items ++ piece.now)
-            (K.taken out.old) (K.taken out.new) self.new.pending.items) }
+        ensures err { OnErr result (HaltsAt (Works (C.work command.old)) (C.kept command.old)
+            (self.old.line.items ++ piece.now) (K.taken out.old) (K.taken out.new) self.new.pending.items) }
         ensures causes { IfErr result (λ fault. (fault ≡ Fault.Write) ⊎ (fault ≡ Fault.Memory)) }
         ensures write { result ≡ Err Fault.Write → Rose (K.faults out.old) (K.faults out.new) }
         ensures out { Keeps (K.steady out.old) (K.steady out.new) (K.faults out.old) (K.faults out.new) (result ≡ Err Fault.Write) }
@@ -217,10 +254,11 @@ impl Lines {
     }
 
     /// Answers all lines of the input. The sink has taken the answers to a piece before the next
-    /// piece is asked for; the answer to a last line without a line feed is left pending.
+    /// piece is asked for; the answer to a last line without a line feed is left pending, and so is
+    /// what stands behind it.
     pub fn answer_all<C: LineCommand, S: Source, K: Sink>(
         &mut self,
-        command: &C,
+        command: &mut C,
         alloc: Global,
         input: &mut S,
         out: &mut K,
@@ -228,10 +266,10 @@ impl Lines {
         requires line { self.old.line.items ≡ [] }
         requires pending { self.old.pending.items ≡ [] }
         requires refused { self.old.refused ≡ false }
-        ensures ok { OnOk result (AnswersAll (C.answers command.now) (S.left input.old) (S.left input.new)
-            (K.taken out.old) (K.taken out.new) self.new.pending.items self.new.refused) }
-        ensures err { IfErr result (λ fault. Stops (C.answers command.now) fault (S.left input.old) (S.left input.new)
-            (K.taken out.old) (K.taken out.new) self.new.pending.items) }
+        ensures ok { OnOk result (AnswersAll (Works (C.work command.old)) closing_of (C.kept command.old)
+            (S.left input.old) (S.left input.new) (K.taken out.old) (K.taken out.new) self.new.pending.items self.new.refused) }
+        ensures err { IfErr result (λ fault. Stops (Works (C.work command.old)) (C.kept command.old) fault
+            (S.left input.old) (S.left input.new) (K.taken out.old) (K.taken out.new) self.new.pending.items) }
         ensures read { result ≡ Err Fault.Read → Rose (S.faults input.old) (S.faults input.new) }
         ensures write { result ≡ Err Fault.Write → Rose (K.faults out.old) (K.faults out.new) }
         ensures input { Keeps (S.steady input.old) (S.steady input.new) (S.faults input.old) (S.faults input.new) (result ≡ Err Fault.Read) }
@@ -250,7 +288,7 @@ impl Lines {
                     room -= n;
                 }
                 Got::End => {
-                    self.end_line(command, alloc)?;
+                    self.end_input(command, alloc)?;
                     return Ok(());
                 }
                 Got::Failed => return Err(Fault::Read),

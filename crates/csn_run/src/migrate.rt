@@ -1,29 +1,57 @@
 //! One line of `migrate`: the old text of a tree in, its text of today or its fault out.
 
-ghost use Rattle.csn_run.specs.OutLine.{MigratesLine};
+ghost use Rattle.std.specs.Prelude.{◌≡◌, ◌++◌, ◌≤◌, List, ℕ, IfOk, OnErr, length};
+ghost use Rattle.csn_run.specs.declared.lines.TheConstants.{MOST_INPUT};
+ghost use Rattle.csn_run.specs.LineState.{nothing_kept};
+ghost use Rattle.csn_run.specs.Lines.{is_refusal, is_refused};
+ghost use Rattle.csn_run.specs.OutLine.{MigratesLine, renewing};
 
 use crate::answers::{answer_text_fault, answer_tree};
-use crate::lines::LineCommand;
+use crate::command::TreeForm;
+use crate::lines::{Answered, LINE_FEED, LineCommand};
 use csn_treetext::read_old_tree;
 use std::alloc::{AllocError, Global};
+
+/// Answers a line by the text of today of its tree.
+fn migrate_line(alloc: Global, line: &[u8], out: &mut Vec<u8>) -> Result<Answered, AllocError>
+    requires fits { length line.now ≤ MOST_INPUT }
+    ensures ok { IfOk result (λ answered. (answer : List ℕ) × (out.new.items ≡ out.old.items ++ answer)
+        × MigratesLine line.now answer × (is_refused answered ≡ is_refusal answer)) }
+    ensures err { OnErr result ((tail : List ℕ) × (out.new.items ≡ out.old.items ++ tail)) }
+{
+    match read_old_tree(alloc, line) {
+        Ok(tree) => {
+            answer_tree(alloc, TreeForm::Text, &tree, out)?;
+            Ok(Answered::Given)
+        }
+        Err(fault) => {
+            answer_text_fault(fault, out)?;
+            Ok(Answered::Refused)
+        }
+    }
+}
 
 /// The command `migrate`.
 #[derive(Clone, Copy)]
 pub struct Migrate;
 
 impl LineCommand for Migrate {
-    ghost answers = { λ _ line answer. MigratesLine line answer };
+    ghost work = { λ _. renewing };
 
-    fn answer(&self, alloc: Global, line: &[u8], out: &mut Vec<u8>) -> Result<bool, AllocError> {
-        match read_old_tree(alloc, line) {
-            Ok(tree) => {
-                answer_tree(alloc, &tree, out)?;
-                Ok(false)
-            }
-            Err(fault) => {
-                answer_text_fault(fault, out)?;
-                Ok(true)
-            }
-        }
+    ghost kept = { λ _. nothing_kept };
+
+    fn answer(
+        &mut self,
+        alloc: Global,
+        line: &[u8],
+        out: &mut Vec<u8>,
+    ) -> Result<Answered, AllocError> {
+        let answered = migrate_line(alloc, line, out)?;
+        out.push(LINE_FEED)?;
+        Ok(answered)
+    }
+
+    fn close(&mut self, _alloc: Global, _out: &mut Vec<u8>) -> Result<(), AllocError> {
+        Ok(())
     }
 }

@@ -4,7 +4,10 @@ ghost use Rattle.std.specs.Prelude.{◌≡◌, ◌≢◌, ◌⊎◌, ◌+◌, �
 ghost use Rattle.csn_io.specs.ShelfFault.{BeginsFile, LacksFile};
 ghost use Rattle.csn_run.specs.declared.compile.TheConstants.{MOST_DESCRIPTION};
 ghost use Rattle.csn_run.specs.declared.lines.TheConstants.{LINE_FEED};
-ghost use Rattle.csn_run.specs.Compiled.{Tells, certified_line};
+ghost use Rattle.csn_catalogue.specs.Entries.{entry_root};
+ghost use Rattle.csn_catalogue.specs.Text.{catalogue_text};
+ghost use Rattle.csn_grammar.specs.RulesV.{RulesV};
+ghost use Rattle.csn_run.specs.Compiled.{IsCompiled, IsReason, Tells, certified_line};
 ghost use Rattle.csn_run.specs.Job.{IsDescription};
 ghost use Rattle.csn_run.specs.Outside.{CannotRead, Keeps, LeftByFetch};
 ghost use Rattle.csn_run.specs.Planned.{IsPlanned, IsWhy, Refuses};
@@ -14,7 +17,9 @@ use crate::compile::{MOST_DESCRIPTION, NoPlan, compile, push_certified, push_rea
 use crate::ended::Ended;
 use crate::fault::Fault;
 use crate::lines::LINE_FEED;
+use csn_catalogue::{Entry, root_of};
 use csn_certify::Plan;
+use csn_desc::Reading;
 use csn_io::{Shelf, ShelfFault};
 use std::alloc::{AllocError, Global};
 
@@ -71,6 +76,15 @@ pub fn plan_of<B: Shelf>(
         Ok(plan) => Ok(plan),
         Err(reason) => Err(Unplanned::Text(reason)),
     }
+}
+
+/// The plan of the rule of the catalogue that describes the blocks of an entry.
+pub fn plan_of_entry(alloc: Global, entry: Entry, reading: Reading) -> Result<Plan, NoPlan>
+    ensures plan { IfOk result (λ plan. (rules : RulesV) × IsCompiled catalogue_text (entry_root entry) reading rules plan) }
+    ensures none { IfErr result (IsReason catalogue_text (entry_root entry) reading) }
+    ensures fits { length catalogue_text ≤ MOST_DESCRIPTION }
+{
+    compile(alloc, csn_catalogue::text(), root_of(entry), reading)
 }
 
 /// Writes a line feed behind a line, or forgets the line where there was no memory for it.

@@ -1,15 +1,17 @@
-//! One line of `show`: a block line in, its tree or its refusal out.
+//! One line of `show` or `json`: a block line in, its tree or its refusal out.
 
 ghost use Rattle.std.specs.Prelude.{◌≡◌, ◌<◌, ◌≤◌, ◌++◌, [], List, ℕ, length, IfOk, IfErr, IsErr, OnOk, OnErr};
 ghost use Rattle.csn_desc.specs.Means.{NMeans};
 ghost use Rattle.csn_treetext.specs.Fits.{Fits};
 ghost use Rattle.csn_run.specs.declared.command.RuleCommand.{RuleCommand};
 ghost use Rattle.csn_run.specs.declared.lines.TheConstants.{MOST_INPUT};
-ghost use Rattle.csn_run.specs.Lines.{is_refusal};
-ghost use Rattle.csn_run.specs.OutLine.{AnswersBy, IsRefusalOf, fault_text, refusal_text};
+ghost use Rattle.csn_run.specs.Lines.{is_refusal, is_refused};
+ghost use Rattle.csn_run.specs.OutLine.{AnswersBy, IsRefusalOf, ShowsBlockBy, fault_text, refusal_text};
 
 use crate::answers::{answer_tree, push_number};
+use crate::command::TreeForm;
 use crate::laws::known;
+use crate::lines::Answered;
 use csn_bits::{Bits, BitsFault};
 use csn_certify::{Plan, Steps};
 use csn_decode::{DecodeFault, Decoder, Fed};
@@ -45,7 +47,7 @@ fn answer_no_tree(fault: DecodeFault, bits: &Bits, out: &mut Vec<u8>) -> Result<
 
 /// Writes the answer to a line that is no block line: the number of its fault, and what the fault
 /// tells.
-fn answer_fault(fault: BitsFault, out: &mut Vec<u8>) -> Result<(), AllocError>
+pub(crate) fn answer_fault(fault: BitsFault, out: &mut Vec<u8>) -> Result<(), AllocError>
     ensures ok { OnOk result (out.new.items ≡ out.old.items ++ fault_text fault) }
     ensures memory { fault ≡ BitsFault.NoMemory → IsErr result }
     ensures err { OnErr result ((tail : List ℕ) × (out.new.items ≡ out.old.items ++ tail)) }
@@ -88,34 +90,50 @@ fn decode<L: Ledger>(
     }
 }
 
-/// Answers a line by the tree of its block.
-pub fn show_line(
+/// Answers a block by its tree, in a form.
+pub fn show_block(
     alloc: Global,
     plan: &Plan,
-    line: &[u8],
+    form: TreeForm,
+    bits: &Bits,
     out: &mut Vec<u8>,
-) -> Result<bool, AllocError>
-    requires fits { length line.now ≤ MOST_INPUT }
-    ensures ok { IfOk result (λ refused. (answer : List ℕ) × (out.new.items ≡ out.old.items ++ answer)
-        × AnswersBy RuleCommand.Show plan.now line.now answer × (refused ≡ is_refusal answer)) }
+) -> Result<Answered, AllocError>
+    ensures ok { IfOk result (λ answered. (answer : List ℕ) × (out.new.items ≡ out.old.items ++ answer)
+        × ShowsBlockBy form plan.now bits.now answer × (is_refused answered ≡ is_refusal answer)) }
     ensures err { OnErr result ((tail : List ℕ) × (out.new.items ≡ out.old.items ++ tail)) }
 {
     known();
+    match decode::<Brand>(alloc, plan, bits, Blank::new(1)) {
+        Ok(tree) => {
+            answer_tree(alloc, form, &tree, out)?;
+            Ok(Answered::Given)
+        }
+        Err(fault) => {
+            answer_no_tree(fault, bits, out)?;
+            Ok(Answered::Refused)
+        }
+    }
+}
+
+/// Answers a line by the tree of its block, in a form.
+pub fn show_line(
+    alloc: Global,
+    plan: &Plan,
+    form: TreeForm,
+    line: &[u8],
+    out: &mut Vec<u8>,
+) -> Result<Answered, AllocError>
+    requires fits { length line.now ≤ MOST_INPUT }
+    ensures ok { IfOk result (λ answered. (answer : List ℕ) × (out.new.items ≡ out.old.items ++ answer)
+        × AnswersBy (RuleCommand.Show form) plan.now line.now answer × (is_refused answered ≡ is_refusal answer)) }
+    ensures err { OnErr result ((tail : List ℕ) × (out.new.items ≡ out.old.items ++ tail)) }
+{
     let bits = match Bits::from_hex_line(alloc, line) {
         Ok(bits) => bits,
         Err(fault) => {
             answer_fault(fault, out)?;
-            return Ok(true);
+            return Ok(Answered::Refused);
         }
     };
-    match decode::<Brand>(alloc, plan, &bits, Blank::new(1)) {
-        Ok(tree) => {
-            answer_tree(alloc, &tree, out)?;
-            Ok(false)
-        }
-        Err(fault) => {
-            answer_no_tree(fault, &bits, out)?;
-            Ok(true)
-        }
-    }
+    show_block(alloc, plan, form, &bits, out)
 }

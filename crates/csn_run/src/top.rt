@@ -5,8 +5,10 @@ ghost use Rattle.csn_io.specs.Got.{NothingLeft};
 ghost use Rattle.csn_io.specs.Put.{Appended, FlushedAll};
 ghost use Rattle.csn_io.specs.ShelfFault.{LacksFile};
 ghost use Rattle.csn_run.specs.declared.lines.TheConstants.{LINE_FEED, MOST_INPUT};
-ghost use Rattle.csn_run.specs.Command.{IsCheck, IsCommand, IsRowOf, NamesFile, ReadsLines};
+ghost use Rattle.csn_run.specs.Command.{IsCheck, IsCommand, IsRowOf, IsSegments, NamesFile, ReadsLines};
 ghost use Rattle.csn_run.specs.Progress.{AnswersAll, Stops};
+ghost use Rattle.csn_run.specs.LineState.{closing_of};
+ghost use Rattle.csn_run.specs.OutLine.{Works};
 ghost use Rattle.csn_run.specs.Outside.{CannotRead, Keeps, LeftByFetch};
 ghost use Rattle.csn_run.specs.Job.{Asked, JobEnds, end_with};
 ghost use Rattle.csn_run.specs.Result.{AnswersPromptly, BeginsResult, EndsBefore, IsFinished, IsStopped, LineJob, Result, RulesHaveOneTree, StopsReading, end_of};
@@ -19,14 +21,18 @@ use crate::laws::{known, lines_have_one_answer};
 use crate::lines::{LineCommand, Lines};
 use crate::migrate::Migrate;
 use crate::output::{flush, pass_on};
-use crate::planned::{plan_of, refuse, tell_certified};
+use crate::planned::{Unplanned, plan_of, plan_of_entry, refuse, tell_certified};
+use crate::segments::Segments;
+use csn_catalogue::Entry;
+use csn_desc::Reading;
 use csn_io::{Shelf, Sink, Source};
+use csn_segment::Joiner;
 use std::alloc::Global;
 
 /// Answers each line of the input.
 fn answer_lines<C: LineCommand, S: Source, K: Sink>(
     alloc: Global,
-    command: &C,
+    command: &mut C,
     input: &mut S,
     out: &mut K,
     lines: &mut Lines,
@@ -34,10 +40,10 @@ fn answer_lines<C: LineCommand, S: Source, K: Sink>(
     requires line { lines.old.line.items ≡ [] }
     requires pending { lines.old.pending.items ≡ [] }
     requires refused { lines.old.refused ≡ false }
-    ensures ok { IfOk result (λ ended. AnswersAll (C.answers command.now) (S.left input.old) (S.left input.new)
-        (K.taken out.old) (K.taken out.new) lines.new.pending.items lines.new.refused × (ended ≡ end_of lines.new.refused)) }
-    ensures err { IfErr result (λ fault. Stops (C.answers command.now) fault (S.left input.old) (S.left input.new)
-        (K.taken out.old) (K.taken out.new) lines.new.pending.items) }
+    ensures ok { IfOk result (λ ended. AnswersAll (Works (C.work command.old)) closing_of (C.kept command.old)
+        (S.left input.old) (S.left input.new) (K.taken out.old) (K.taken out.new) lines.new.pending.items lines.new.refused × (ended ≡ end_of lines.new.refused)) }
+    ensures err { IfErr result (λ fault. Stops (Works (C.work command.old)) (C.kept command.old) fault
+        (S.left input.old) (S.left input.new) (K.taken out.old) (K.taken out.new) lines.new.pending.items) }
     ensures read { result ≡ Err Fault.Read → Rose (S.faults input.old) (S.faults input.new) }
     ensures write { result ≡ Err Fault.Write → Rose (K.faults out.old) (K.faults out.new) }
     ensures input { Keeps (S.steady input.old) (S.steady input.new) (S.faults input.old) (S.faults input.new) (result ≡ Err Fault.Read) }
@@ -109,11 +115,44 @@ fn answer_by_rule<B: Shelf, S: Source, K: Sink>(
         Ok(plan) => plan,
         Err(why) => return refuse(why, &mut lines.pending),
     };
-    let command = ByPlan {
+    let mut command = ByPlan {
         command,
         plan: &plan,
     };
-    answer_lines(alloc, &command, input, out, lines)
+    answer_lines(alloc, &mut command, input, out, lines)
+}
+
+/// Joins the blocks in the input to control messages of the downlink, and answers each line by these.
+fn answer_segments<S: Source, K: Sink>(
+    alloc: Global,
+    reading: Reading,
+    input: &mut S,
+    out: &mut K,
+    lines: &mut Lines,
+) -> Result<Ended, Fault>
+    requires line { lines.old.line.items ≡ [] }
+    requires pending { lines.old.pending.items ≡ [] }
+    requires refused { lines.old.refused ≡ false }
+    ensures ends { (words : List (List ℕ)) (files : Option (List ℕ → Option (List ℕ))) → IsSegments words reading
+        → JobEnds words files (S.left input.old) (S.left input.new)
+        (K.taken out.old) (K.taken out.new) lines.new.pending.items result }
+    ensures read { result ≡ Err Fault.Read → Rose (S.faults input.old) (S.faults input.new) }
+    ensures write { result ≡ Err Fault.Write → Rose (K.faults out.old) (K.faults out.new) }
+    ensures touches { (words : List (List ℕ)) (files : Option (List ℕ → Option (List ℕ))) → IsSegments words reading
+        → (input.new ≡ input.old) ⊎ ((job : LineJob) × Asked words files job) }
+    ensures before_lines { (result ≡ Ok Ended.BadDescription) ⊎ (result ≡ Ok Ended.NotCertified) → input.new ≡ input.old }
+    ensures input { Keeps (S.steady input.old) (S.steady input.new) (S.faults input.old) (S.faults input.new) (result ≡ Err Fault.Read) }
+    ensures out { Keeps (K.steady out.old) (K.steady out.new) (K.faults out.old) (K.faults out.new) (result ≡ Err Fault.Write) }
+{
+    let plan = match plan_of_entry(alloc, Entry::Downlink, reading) {
+        Ok(plan) => plan,
+        Err(reason) => return refuse(Unplanned::Text(reason), &mut lines.pending),
+    };
+    let mut command = Segments {
+        joiner: Joiner::new(),
+        plan: &plan,
+    };
+    answer_lines(alloc, &mut command, input, out, lines)
 }
 
 /// Does the job of a command, up to the answers that wait.
@@ -154,7 +193,8 @@ fn perform<B: Shelf, S: Source, K: Sink>(
         Command::Answer(command, rule) => {
             answer_by_rule(alloc, command, rule, shelf, input, out, lines)
         }
-        Command::Migrate => answer_lines(alloc, &Migrate, input, out, lines),
+        Command::Migrate => answer_lines(alloc, &mut Migrate, input, out, lines),
+        Command::Segments(reading) => answer_segments(alloc, reading, input, out, lines),
     }
 }
 

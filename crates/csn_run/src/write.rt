@@ -1,4 +1,4 @@
-//! One line of `write`: the text of a tree in, its block or its first misfit out.
+//! One line of `write` or `unjson`: a tree in, its block or its first misfit out.
 
 ghost use Rattle.std.specs.Prelude.{◌≡◌, ◌<◌, ◌≤◌, ◌++◌, ◌∷◌, [], List, ℕ, codes, length, IfOk, IfErr, OnOk, OnErr};
 ghost use Rattle.csn_bits.specs.Line.{written};
@@ -7,15 +7,18 @@ ghost use Rattle.csn_encode.specs.Encoding.{IsBlockOf, IsFaultOf};
 ghost use Rattle.csn_run.specs.declared.command.RuleCommand.{RuleCommand};
 ghost use Rattle.csn_run.specs.declared.lines.TheConstants.{MOST_INPUT};
 ghost use Rattle.csn_run.specs.Compiled.{line_of};
-ghost use Rattle.csn_run.specs.Lines.{is_refusal};
-ghost use Rattle.csn_run.specs.OutLine.{AnswersBy, misfit_text, path_text, why_text};
+ghost use Rattle.csn_run.specs.Lines.{is_refusal, is_refused};
+ghost use Rattle.csn_run.specs.OutLine.{AnswersBy, Reads, TellsJsonFault, misfit_text, path_text, why_text};
 
 use crate::answers::{answer_text_fault, push_number, push_numbers};
+use crate::command::TreeForm;
 use crate::laws::known;
+use crate::lines::Answered;
 use csn_bits::Bits;
 use csn_certify::{Plan, Steps};
 use csn_desc::Tree;
 use csn_encode::{EncodeFault, Misfit, MisfitWhy, Path, encode};
+use csn_json::{JsonFault, read_json};
 use csn_treetext::read_tree;
 use std::alloc::{AllocError, Global};
 use std::marker::Brand;
@@ -116,34 +119,67 @@ fn block_of<L: Ledger>(
     encode(alloc, plan, tree, &mut steps)
 }
 
-/// Answers a line by the block of its tree.
+/// Writes the answer to a line that is no tree in JSON.
+fn answer_json_fault(fault: JsonFault, out: &mut Vec<u8>) -> Result<(), AllocError>
+    ensures ok { OnOk result ((answer : List ℕ) × TellsJsonFault fault answer × (out.new.items ≡ out.old.items ++ answer)) }
+    ensures err { OnErr result ((tail : List ℕ) × (out.new.items ≡ out.old.items ++ tail)) }
+{
+    match fault {
+        JsonFault::NotJson => out.extend_from_slice(b"bad 1"),
+        JsonFault::NotTree => out.extend_from_slice(b"bad 2"),
+        JsonFault::NoMemory => Err(AllocError),
+    }
+}
+
+/// The tree that a line is in a form. Where it is none, the answer to it is written.
+fn tree_of_line(
+    alloc: Global,
+    form: TreeForm,
+    line: &[u8],
+    out: &mut Vec<u8>,
+) -> Result<Option<Tree>, AllocError>
+    requires fits { length line.now ≤ MOST_INPUT }
+    ensures ok { IfOk result (λ found. Reads form line.now found out.old.items out.new.items) }
+    ensures err { OnErr result ((tail : List ℕ) × (out.new.items ≡ out.old.items ++ tail)) }
+{
+    match form {
+        TreeForm::Text => match read_tree(alloc, line) {
+            Ok(tree) => return Ok(Some(tree)),
+            Err(fault) => answer_text_fault(fault, out)?,
+        },
+        TreeForm::Json => match read_json(alloc, line) {
+            Ok(tree) => return Ok(Some(tree)),
+            Err(fault) => answer_json_fault(fault, out)?,
+        },
+    }
+    Ok(None)
+}
+
+/// Answers a line by the block of its tree, which it is in a form.
 pub fn write_line(
     alloc: Global,
     plan: &Plan,
+    form: TreeForm,
     line: &[u8],
     out: &mut Vec<u8>,
-) -> Result<bool, AllocError>
+) -> Result<Answered, AllocError>
     requires fits { length line.now ≤ MOST_INPUT }
-    ensures ok { IfOk result (λ refused. (answer : List ℕ) × (out.new.items ≡ out.old.items ++ answer)
-        × AnswersBy RuleCommand.Write plan.now line.now answer × (refused ≡ is_refusal answer)) }
+    ensures ok { IfOk result (λ answered. (answer : List ℕ) × (out.new.items ≡ out.old.items ++ answer)
+        × AnswersBy (RuleCommand.Write form) plan.now line.now answer × (is_refused answered ≡ is_refusal answer)) }
     ensures err { OnErr result ((tail : List ℕ) × (out.new.items ≡ out.old.items ++ tail)) }
 {
     known();
-    let tree = match read_tree(alloc, line) {
-        Ok(tree) => tree,
-        Err(fault) => {
-            answer_text_fault(fault, out)?;
-            return Ok(true);
-        }
+    let Some(tree) = tree_of_line(alloc, form, line, out)? else {
+        return Ok(Answered::Refused);
     };
     match block_of::<Brand>(alloc, plan, &tree, Blank::new(1)) {
         Ok(bits) => {
             answer_block(alloc, &bits, out)?;
-            Ok(false)
+            Ok(Answered::Given)
         }
         Err(fault) => {
             answer_no_block(fault, out)?;
-            Ok(true)
+            Ok(Answered::Refused)
         }
     }
 }

@@ -1,3 +1,4 @@
 pub mod Lasts
 pub mod Bodies
 pub mod Own
+pub mod Short

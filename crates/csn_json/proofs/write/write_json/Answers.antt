@@ -8,7 +8,11 @@ use Rattle.csn_json.proofs.write.write_json.Goals as goal
 pub returns-clause-text : goal.returns-clause-text
 returns-clause-text c =
     let same = c.in_ok-value.ensures.value in
-    c.in_ok-to_vec.ensures.text (ap has_float same ∙ no_float c.args.tree.now) ∙ ap compact_text same
+    record {
+      fits = c.requires;
+      parts = c.in_ok-value.ensures.parts;
+      spelled = c.in_ok-to_vec.ensures.text (ap has_float same ∙ no_float c.args.tree.now) ∙ ap compact_text same;
+    }
 
 pub returns-clause-shows : goal.returns-clause-shows
 returns-clause-shows c =

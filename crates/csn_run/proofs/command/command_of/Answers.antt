@@ -1,13 +1,24 @@
-use Rattle.std.proofs.Common.{refl, inl, inr}
+use Rattle.std.proofs.Common.{[], ◌∷◌, refl, inl, inr}
+use Rattle.csn_catalogue.specs.declared.entry.Entry.TheVariants.{Downlink}
 use Rattle.csn_run.specs.declared.command.RuleCommand.TheVariants.{Show, Write}
-use Rattle.csn_run.specs.Command.{rule_row}
+use Rattle.csn_run.specs.declared.command.TreeForm.TheVariants.{Text, Json}
+use Rattle.csn_run.specs.Command.{rule_row, entries_row}
 use Rattle.csn_run.proofs.command.command_of.Goals as goal
 
 pub returns-in-Some-clause-row : goal.returns-in-Some-clause-row
-returns-in-Some-clause-row c = (λ _. rule_row _ _ _ (inl c.in-Some.ensures.names), λ _. refl)
-
-pub returns-clause-row : goal.returns-clause-row
-returns-clause-row c = (λ _. rule_row _ _ _ (inr (Write, c.in_ok-rule.ensures.names)), λ _. refl)
+returns-in-Some-clause-row c = (λ _. entries_row (Downlink ∷ []) c.in-Some.reading (c.in-Some.ensures.names, refl), λ _. refl)
 
 pub returns-in-Some-rule_words-clause-row : goal.returns-in-Some-rule_words-clause-row
-returns-in-Some-rule_words-clause-row c = (λ _. rule_row _ _ _ (inr (Show, c.in-Some-rule_words.ensures.names)), λ _. refl)
+returns-in-Some-rule_words-clause-row c = (λ _. rule_row _ _ _ (inl c.in-Some-rule_words.ensures.names), λ _. refl)
+
+pub returns-in-Some-rule_words-2-clause-row : goal.returns-in-Some-rule_words-2-clause-row
+returns-in-Some-rule_words-2-clause-row c = (λ _. rule_row _ _ _ (inr (Show Text, c.in-Some-rule_words-2.ensures.names)), λ _. refl)
+
+pub returns-in-Some-rule_words-3-clause-row : goal.returns-in-Some-rule_words-3-clause-row
+returns-in-Some-rule_words-3-clause-row c = (λ _. rule_row _ _ _ (inr (Write Text, c.in-Some-rule_words-3.ensures.names)), λ _. refl)
+
+pub returns-in-Some-rule_words-4-clause-row : goal.returns-in-Some-rule_words-4-clause-row
+returns-in-Some-rule_words-4-clause-row c = (λ _. rule_row _ _ _ (inr (Show Json, c.in-Some-rule_words-4.ensures.names)), λ _. refl)
+
+pub returns-clause-row : goal.returns-clause-row
+returns-clause-row c = (λ _. rule_row _ _ _ (inr (Write Json, c.in_ok-rule.ensures.names)), λ _. refl)

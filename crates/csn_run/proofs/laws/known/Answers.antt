@@ -35,10 +35,17 @@ returns c =
         one_old_tree = c.texts_are_of_one_tree.ensures.before;
         shared = c.versions_share_trees.ensures;
       };
+      of_json = record {
+        decided = c.texts_are_decided-3.ensures;
+        one_tree = c.texts_have_one_tree.ensures.text;
+        not_refused = c.trees_are_not_refused.ensures;
+        written = c.written_is_shown.ensures;
+      };
       of_misfits = record {
         one_block = c.one_block.ensures;
         no_bits = c.misfits_have_no_bits.ensures;
         one_misfit = c.first_misfit_is_one.ensures;
         fit_or_miss = c.trees_fit_or_miss.ensures.some;
       };
+      of_messages = c.messages_are_short.ensures;
     }

@@ -1,4 +1,4 @@
-use Rattle.std.proofs.Common.{◌≤◌, ◌+◌, length, take, drop, length-drop, arith, sym, subst, ◌∙◌}
+use Rattle.std.proofs.Common.{◌≤◌, ◌+◌, length, take, drop, length-drop, arith, sym, subst}
 use Rattle.std.proofs.lemmas.List.{take-append-drop}
 use Rattle.csn_io.specs.Put.{Appended}
 use Rattle.csn_run.proofs.OutsideLemmas.{slice_from, take_more_of, keeps_then}

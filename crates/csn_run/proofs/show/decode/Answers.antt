@@ -1,4 +1,4 @@
-use Rattle.std.proofs.Common.{sym, ◌∙◌}
+use Rattle.std.proofs.Common.{◌∙◌}
 use Rattle.csn_run.proofs.ShowLemmas.{ended_tree, ended_fits, ended_refusal, fed_refusal}
 use Rattle.csn_run.proofs.show.decode.Goals as goal
 

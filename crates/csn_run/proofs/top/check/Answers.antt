@@ -1,6 +1,5 @@
 use Rattle.std.proofs.Common.{inl}
-use Rattle.csn_run.proofs.JobLemmas.{check_ends, refused_ends, refused_read, refused_write, refused_missing, refused_by_file}
-use Rattle.csn_run.proofs.OutsideLemmas.{keeps_along}
+use Rattle.csn_run.proofs.JobLemmas.{check_ends, refused_ends}
 use Rattle.csn_run.proofs.top.check.Goals as goal
 
 pub returns-in-Err-clause-ends : goal.returns-in-Err-clause-ends

@@ -1,7 +1,9 @@
-use Rattle.std.proofs.Common.{inl, inr}
-use Rattle.csn_run.specs.OutLine.{MigratesLine}
+use Rattle.std.proofs.Common.{inl, inr, refl}
+use Rattle.csn_run.specs.LineState.{nothing_kept}
+use Rattle.csn_run.specs.OutLine.{renewing, Works}
 use Rattle.csn_run.specs.Result.{migrating}
-use Rattle.csn_run.proofs.CommandLemmas.{answer_reads}
+use Rattle.csn_run.proofs.CommandLemmas.{answer_reads, two_read}
+use Rattle.csn_run.proofs.Following.{Watches, alone_follows, watches_close}
 use Rattle.csn_run.proofs.JobLemmas.{asked_migrate, lines_end}
 use Rattle.csn_run.proofs.top.perform.Goals as goal
 
@@ -36,4 +38,14 @@ returns-in-Answer-clause-no_file g c = λ words row none. absurd (none c.in-Answ
 
 pub returns-in-Migrate-clause-ends : goal.returns-in-Migrate-clause-ends
 returns-in-Migrate-clause-ends g c = λ words row.
-    lines_end MigratesLine words (g.B.Shelf.files c.args.shelf.now) migrating _ _ _ _ _ _ _ (asked_migrate words (g.B.Shelf.files c.args.shelf.now) (rw c.in-Migrate.is at row)) (λ line answer h. h) c.answer_lines.ensures.ok c.answer_lines.ensures.err
+    lines_end Watches (Works renewing) nothing_kept words (g.B.Shelf.files c.args.shelf.now) migrating _ _ _ _ _ _ _ (asked_migrate words (g.B.Shelf.files c.args.shelf.now) (rw c.in-Migrate.is at row)) (alone_follows _ _ (λ line answer h. h)) watches_close refl c.answer_lines.ensures.ok c.answer_lines.ensures.err
+
+pub returns-in-Segments-clause-ends : goal.returns-in-Segments-clause-ends
+returns-in-Segments-clause-ends g c = λ words row. c.answer_segments.ensures.ends words _ (rw c.in-Segments.is at row)
+
+pub returns-in-Segments-clause-touches : goal.returns-in-Segments-clause-touches
+returns-in-Segments-clause-touches g c = λ words row.
+    elim (c.answer_segments.ensures.touches words (g.B.Shelf.files c.args.shelf.now) (rw c.in-Segments.is at row)) [
+      | inl same ↦ inl same
+      | inr asked ↦ inr (two_read (rw c.in-Segments.is at row), asked.0, asked.1)
+    ]

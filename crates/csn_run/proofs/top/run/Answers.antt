@@ -1,4 +1,4 @@
-use Rattle.std.proofs.Common.{false, true, inl, inr, refl, ap, sym, ◌∙◌}
+use Rattle.std.proofs.Common.{inl, inr, refl, ap, sym, ◌∙◌}
 use Rattle.csn_io.proofs.Told.{rose_early, rose_late}
 use Rattle.csn_run.specs.declared.ended.Ended.TheVariants.{ReadFault, WriteFault, NoMemory}
 use Rattle.csn_run.specs.Command.{rule_row}

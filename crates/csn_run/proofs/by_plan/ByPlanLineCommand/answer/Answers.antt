@@ -1,7 +1,12 @@
+use Rattle.std.proofs.Common.{◌∷◌, ◌++◌, [], append_assoc, ap, refl, sym, ◌∙◌}
+use Rattle.csn_run.proofs.ProgressLemmas.{refusal_with_feed}
 use Rattle.csn_run.proofs.by_plan.ByPlanLineCommand.answer.Goals as goal
 
-pub returns-in-Show-clause-ok : goal.returns-in-Show-clause-ok
-returns-in-Show-clause-ok c = rw c.in-Show.is c.show_line.ensures.ok
-
-pub returns-in-Write-clause-ok : goal.returns-in-Write-clause-ok
-returns-in-Write-clause-ok c = rw c.in-Write.is c.write_line.ensures.ok
+pub returns-clause-ok : goal.returns-clause-ok
+returns-clause-ok c =
+    let told = c.in_ok-answered.ensures.ok in (
+      told.0 ++ 10 ∷ [],
+      c.in_ok-push.ensures.items ∙ ap (λ l. l ++ 10 ∷ []) told.1 ∙ append_assoc _ told.0 (10 ∷ []),
+      (told.0, told.2, refl, refl),
+      told.3 ∙ sym (refusal_with_feed told.0 []),
+    )

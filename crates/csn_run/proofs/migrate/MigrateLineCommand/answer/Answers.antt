@@ -1,16 +1,12 @@
-use Rattle.std.proofs.Common.{◌++◌, codes, refl, subst}
-use Rattle.std.specs.Fmt.{decimal}
-use Rattle.csn_treetext.specs.declared.version.Version.TheVariants.{First}
-use Rattle.csn_treetext.specs.Place.{IsFaultOf}
-use Rattle.csn_run.specs.OutLine.{migrates_tree, migrates_place}
+use Rattle.std.proofs.Common.{◌∷◌, ◌++◌, [], append_assoc, ap, refl, sym, ◌∙◌}
+use Rattle.csn_run.proofs.ProgressLemmas.{refusal_with_feed}
 use Rattle.csn_run.proofs.migrate.MigrateLineCommand.answer.Goals as goal
 
-pub returns-in_ok-answer_tree-in-Ok-clause-ok : goal.returns-in_ok-answer_tree-in-Ok-clause-ok
-returns-in_ok-answer_tree-in-Ok-clause-ok c =
-    let text = c.in_ok-answer_tree-in-Ok.ensures.ok in
-    (codes "ok " ++ text.0, text.2, migrates_tree c.in-Ok.tree text.0 c.in-Ok.ensures.ok text.1 refl, refl)
-
-pub returns-in_ok-answer_text_fault-in-Err-clause-ok : goal.returns-in_ok-answer_text_fault-in-Err-clause-ok
-returns-in_ok-answer_text_fault-in-Err-clause-ok c =
-    let fault = c.in_ok-answer_text_fault-in-Err.ensures.ok in
-    (codes "bad " ++ decimal fault.0, fault.2, migrates_place fault.0 (subst (IsFaultOf First c.args.line.now) fault.1 c.in-Err.ensures.refused) refl, refl)
+pub returns-clause-ok : goal.returns-clause-ok
+returns-clause-ok c =
+    let told = c.in_ok-answered.ensures.ok in (
+      told.0 ++ 10 ∷ [],
+      c.in_ok-push.ensures.items ∙ ap (λ l. l ++ 10 ∷ []) told.1 ∙ append_assoc _ told.0 (10 ∷ []),
+      (told.0, told.2, refl, refl),
+      told.3 ∙ sym (refusal_with_feed told.0 []),
+    )

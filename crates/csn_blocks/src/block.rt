@@ -1,0 +1,59 @@
+//! Blocks that are there as a whole.
+
+ghost use Rattle.std.specs.Prelude.{◌≡◌, ◌<◌, ◌≤◌};
+ghost use Rattle.csn_bits.specs.Octets.{most_bits};
+ghost use Rattle.csn_blocks.specs.Judging.{AreWithin, IsJudged, bits_in, bits_of};
+
+use csn_bits::Bits;
+use csn_certify::{Plan, Steps};
+use csn_judge::{Judge, Judged};
+use std::marker::Brand;
+use std::sync::ledger::{Blank, Ledger};
+
+/// Some bits of a block: the first so many of some octets.
+#[derive(Clone, Copy)]
+pub struct Piece<'a> {
+    pub octets: &'a [u8],
+    pub bits: u32,
+}
+
+/// Judges a block with a counter of steps.
+fn judge_with<L: Ledger>(plan: &Plan, pieces: &[Piece<'_>], blank: Blank) -> Judged
+    requires name { blank.name ≡ L.name }
+    requires parts { blank.parts ≡ L.parts }
+    requires some { 0 < blank.parts }
+    requires within { AreWithin pieces.now }
+    requires few { bits_in pieces.now ≤ most_bits }
+    ensures { IsJudged plan.now (bits_of pieces.now) result }
+{
+    let mut steps = Steps::<L>::new(blank);
+    let mut judge = Judge::new(plan);
+    for piece in pieces {
+        // behind a refusal a piece changes nothing
+        let _verdict = judge.feed(piece.octets, piece.bits, &mut steps);
+    }
+    judge.finish(&mut steps)
+}
+
+/// Judges a block whose bits stand in some pieces, one behind another: whether they are a string of the description, or
+/// how many can be followed. These are all bits where the block ends too early. It takes no memory.
+pub fn judge_pieces(plan: &Plan, pieces: &[Piece<'_>]) -> Judged
+    requires within { AreWithin pieces.now }
+    requires few { bits_in pieces.now ≤ most_bits }
+    ensures { IsJudged plan.now (bits_of pieces.now) result }
+{
+    judge_with::<Brand>(plan, pieces, Blank::new(1))
+}
+
+/// Judges the bits of a block.
+pub fn judge_block(plan: &Plan, block: &Bits) -> Judged
+    ensures { IsJudged plan.now block.now result }
+{
+    judge_pieces(
+        plan,
+        &[Piece {
+            octets: block.octets(),
+            bits: block.len(),
+        }],
+    )
+}

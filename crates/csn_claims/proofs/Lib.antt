@@ -1,0 +1,10 @@
+pub mod ShapeFacts
+pub mod Reaching
+pub mod Pieces
+pub mod NullableFacts
+pub mod EndsFacts
+pub mod StartFacts
+pub mod KeyFacts
+pub mod FollowFacts
+pub mod Decisions
+pub mod OneTree

@@ -1,0 +1,9 @@
+pub mod Claims
+pub mod Nullable
+pub mod Ends
+pub mod Starts
+pub mod Keys
+pub mod Reached
+pub mod Conflicts
+pub mod Holding
+pub mod Laws

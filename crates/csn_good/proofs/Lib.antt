@@ -1,0 +1,11 @@
+pub mod Digits
+pub mod EndsTold
+pub mod Arms
+pub mod Powers
+pub mod Denoting
+pub mod Tailing
+pub mod SetArms
+pub mod ReachArms
+pub mod FollowArms
+pub mod Denoted
+pub mod Holding

@@ -1,0 +1,6 @@
+use Rattle.csn_good.specs.ClaimedSets.{claims_of}
+use Rattle.csn_good.proofs.EndsTold.{Leading}
+use Rattle.csn_good.proofs.octets.through_lead.Given as goal
+
+abbrev pub invariant-loop-at : goal.invariant-loop-at
+invariant-loop-at l = Leading (claims_of l.c) l.parts l.at l.fn.from.has l.here.has l.ends.has

@@ -1,0 +1,10 @@
+pub mod ClaimedSets
+pub mod Patterns
+pub mod Good
+pub mod Octets
+pub mod Signs
+pub mod Tails
+pub mod Wanted
+pub mod Apart
+pub mod Told
+pub mod Laws

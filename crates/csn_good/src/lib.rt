@@ -1,0 +1,12 @@
+//! Whether a certificate is good for a description, and so leaves at most one tree to any bits.
+#![tactic(auto)]
+
+mod apart;
+mod claims;
+mod ending;
+mod following;
+pub mod laws;
+mod octets;
+mod reaching;
+mod sets;
+mod tail;
