@@ -4,3 +4,4 @@ mod Spelling
 mod Rows
 mod Members
 mod Nodes
+mod Writing

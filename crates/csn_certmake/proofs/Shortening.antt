@@ -8,7 +8,8 @@ use Rattle.csn_cert.specs.declared.pattern.Mark.{Mark}
 use Rattle.csn_cert.specs.declared.pattern.Mark.TheVariants.{Any}
 use Rattle.csn_cert.specs.declared.pattern.TheConstants.{MOST_MARKS}
 use Rattle.csn_cert.specs.PatternV.{PatternV}
-use Rattle.csn_certmake.specs.Patterns.{shortened, joined}
+use Rattle.csn_good.specs.Patterns.{shortened}
+use Rattle.csn_certmake.specs.Patterns.{joined}
 
 -- the first twelve of some marks, whole only where these are all, are the marks shortened
 pub shortened_by : (marks : List Mark) (whole told : Bool) (count : ℕ) (test : Bool) → nat_le (length marks) MOST_MARKS ≡ test → count ≡ min (length marks) MOST_MARKS → told ≡ (whole && test) → record { marks = take count marks; whole = told } ≡ shortened marks whole

@@ -7,7 +7,7 @@ use Rattle.csn_desc.specs.declared.symbol.Symbol.{Symbol}
 use Rattle.csn_desc.specs.declared.symbol.Symbol.TheVariants.{Zero, One, Low, High}
 use Rattle.csn_desc.specs.Spelled.{symbol_bit, spelled}
 use Rattle.csn_cert.specs.declared.pattern.Mark.{Mark}
-use Rattle.csn_certmake.specs.Patterns.{mark_of}
+use Rattle.csn_good.specs.Patterns.{mark_of}
 
 spelled_get : (run : List Symbol) (place at : ℕ) (s : Symbol) → slice_get run at ≡ Some s → slice_get (map mark_of (spelled run place)) at ≡ Some (mark_of (symbol_bit s (place + at)))
 spelled_get [] place at s is = absurd (cc)

@@ -1,1 +1,4 @@
 pub mod Patterns
+pub mod Digits
+pub mod Rows
+pub mod Claimed

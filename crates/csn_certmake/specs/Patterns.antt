@@ -1,40 +1,17 @@
 -- Patterns of single nodes, and of one part after another. (This project's own choice.)
-use Rattle.std.specs.Prelude.{◌≡◌, ℕ, zero, suc, ◌+◌, ◌*◌, ◌%◌, ◌<◌, ◌≤◌, ◌==◌, nat_le, if◌then◌else◌, replicate, flat_map, slice_get, Some, Bool, true, false, List, [], ◌∷◌, ◌++◌, length, take, map, Contains, slice_index_or, ◌↔◌}
+use Rattle.std.specs.Prelude.{◌≡◌, ℕ, zero, suc, ◌+◌, ◌*◌, ◌%◌, ◌<◌, ◌≤◌, if◌then◌else◌, replicate, flat_map, slice_get, Some, Bool, true, false, List, [], ◌∷◌, ◌++◌, length, map, Contains, slice_index_or, ◌↔◌}
 use Rattle.csn_desc.specs.declared.reading.Reading.{Reading}
-use Rattle.csn_desc.specs.declared.reading.Reading.TheVariants.{Received, Sent}
-use Rattle.csn_desc.specs.declared.symbol.Symbol.{Symbol}
 use Rattle.csn_desc.specs.declared.symbol.Symbol.TheVariants.{Low}
 use Rattle.csn_desc.specs.declared.node.Count.TheVariants.{Fixed, Counted}
 use Rattle.csn_desc.specs.declared.node.Count.{Count}
 use Rattle.csn_desc.specs.declared.node.Node.{Node}
 use Rattle.csn_desc.specs.declared.node.Node.TheVariants.{Lits, Spare, Pad, Null, Field, Seq, Choice, Times, Named}
-use Rattle.csn_desc.specs.Spelled.{symbol_bit, spelled}
-use Rattle.csn_cert.specs.declared.pattern.Mark.{Mark}
-use Rattle.csn_cert.specs.declared.pattern.Mark.TheVariants.{Zero, One, Any}
-use Rattle.csn_cert.specs.declared.pattern.TheConstants.{MOST_MARKS}
+use Rattle.csn_desc.specs.Spelled.{spelled}
+use Rattle.csn_cert.specs.declared.pattern.Mark.TheVariants.{Any}
 use Rattle.csn_cert.specs.PatternV.{PatternV}
 use Rattle.csn_cert.specs.PatternText.{ComesBefore}
 use Rattle.csn_cert.specs.CertificateV.{Rises}
-
--- the mark that stands for one bit
-abbrev pub mark_of : ℕ → Mark
-mark_of bit = if bit == 0 then Zero else One
-
--- a pattern of these marks: where they are more than a pattern has, of the first of them, cut
-abbrev pub shortened : List Mark → Bool → PatternV
-shortened marks whole =
-    if nat_le (length marks) MOST_MARKS
-    then record { marks = marks; whole = whole }
-    else record { marks = take MOST_MARKS marks; whole = false }
-
--- the empty pattern, cut: of what is not looked into
-abbrev pub unread : PatternV
-unread = record { marks = []; whole = false }
-
--- the mark of a spare bit at an octet position
-abbrev pub spare_mark : Reading → Symbol → ℕ → Mark
-spare_mark Received symbol octet = Any
-spare_mark Sent symbol octet = mark_of (symbol_bit symbol octet)
+use Rattle.csn_good.specs.Patterns.{mark_of, shortened, unread, spare_mark}
 
 -- two patterns one after the other
 abbrev pub joined : PatternV → PatternV → PatternV

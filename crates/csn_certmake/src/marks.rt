@@ -3,7 +3,7 @@
 ghost use Rattle.std.specs.Prelude.{◌≡◌, ◌≤◌, true, [], ◌∷◌, map, replicate};
 ghost use Rattle.csn_cert.specs.declared.pattern.Mark.TheVariants.{Any};
 ghost use Rattle.csn_desc.specs.Spelled.{symbol_bit, spelled};
-ghost use Rattle.csn_certmake.specs.Patterns.{mark_of, shortened, unread, spare_mark};
+ghost use Rattle.csn_good.specs.Patterns.{mark_of, shortened, unread, spare_mark};
 
 use csn_bits::pattern_bit;
 use csn_cert::{MOST_MARKS, Mark, Pattern};

@@ -2,6 +2,9 @@
 
 ghost use Rattle.std.specs.Prelude.{◌≡◌, ◌≤◌, [], ◌∷◌, length, flat_map, true, IfOk};
 ghost use Rattle.csn_desc.specs.Nodes.{parts_of};
+ghost use Rattle.csn_desc.specs.declared.desc.TheConstants.{MOST_NODES};
+ghost use Rattle.csn_look.specs.ReachV.{IsReachOf};
+ghost use Rattle.csn_certmake.specs.Rows.{kept_if, IsReachedPart, HaveRows};
 ghost use Rattle.csn_certmake.specs.Patterns.{continued, leaf_pattern, patterns_in, IsRow, AreRows, sequence_of, times_of, turns_of, choice_of, patterns_at, node_patterns};
 
 use crate::joining::{after, in_order};
@@ -15,9 +18,14 @@ use std::alloc::Global;
 
 /// The patterns of what each node may begin with, at each octet position at which it is reached. The nodes are gone
 /// through once, the last one first.
-pub(crate) fn patterns_of(alloc: Global, desc: &Desc, reach: &Reach) -> Result<Vec<Row>, NoMemory> {
-    let mut rows = no_rows(alloc, desc.len())?;
-    for i in (0..desc.len()).rev() {
+pub(crate) fn patterns_of(alloc: Global, desc: &Desc, reach: &Reach) -> Result<Vec<Row>, NoMemory>
+    requires { IsReachOf desc.now reach.now.reached }
+    ensures rows { IfOk result (λ rows. HaveRows desc.now rows.items) }
+    ensures few { length desc.now.nodes ≤ MOST_NODES }
+{
+    let count = desc.len();
+    let mut rows = no_rows(alloc, count)?;
+    for i in (0..count).rev() {
         let row = row_of(alloc, desc.reading(), desc.node(i), rows.as_slice())?;
         rows[i as usize] = reached_part(alloc, &row, &reach.reached(i))?;
     }
@@ -38,16 +46,24 @@ fn no_rows(alloc: Global, count: u16) -> Result<Vec<Row>, NoMemory>
 /// The patterns of a row at the octet positions of a set, and none elsewhere.
 fn reached_part(alloc: Global, row: &Row, reached: &OctetSet) -> Result<Row, NoMemory>
     requires { length row.now ≡ 8 }
+    ensures { IfOk result (IsReachedPart row.now reached.now) }
 {
     let mut part = Row::new(alloc);
     for octet in 0..8 {
-        if reached.has(octet) {
-            part.push(row.at(octet).to_vec(alloc)?)?;
-        } else {
-            part.push(Vec::new(alloc))?;
-        }
+        part.push(kept_if(alloc, reached.has(octet), row.at(octet))?)?;
     }
     Ok(part)
+}
+
+/// The patterns where the test says so, and else none.
+fn kept_if(alloc: Global, keep: bool, patterns: &[Pattern]) -> Result<Vec<Pattern>, NoMemory>
+    ensures { IfOk result (λ kept. kept.items ≡ kept_if keep patterns.now) }
+{
+    let mut kept = Vec::new(alloc);
+    if keep {
+        kept.extend_from_slice(patterns)?;
+    }
+    Ok(kept)
 }
 
 /// The patterns of a node at each octet position, from those of its parts.

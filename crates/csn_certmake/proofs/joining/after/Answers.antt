@@ -1,4 +1,4 @@
-use Rattle.std.proofs.Common.{◌≡◌, List, ap, sym, ◌∙◌, subst, flat_map, take, arith}
+use Rattle.std.proofs.Common.{List, ap, ◌∙◌, subst, flat_map, arith}
 use Rattle.std.proofs.lemmas.List.{take_all}
 use Rattle.csn_cert.specs.PatternV.{PatternV}
 use Rattle.csn_certmake.specs.Patterns.{continued, HasSame}

@@ -1,5 +1,3 @@
-use Rattle.std.proofs.Common.{◌≡◌, [], sym}
-use Rattle.std.specs.Prelude.{nat_eq}
 use Rattle.std.specs.Cmp.{on_equiv, on_total}
 use Rattle.std.specs.Cmp.Lexicographic.{nat_list_eq_equiv, nat_list_cmp_total, texts_ties}
 use Rattle.std.proofs.lemmas.List.Filters.{dedup_is}

@@ -1,4 +1,4 @@
-use Rattle.std.proofs.Common.{◌≡◌, ◌++◌, ◌-◌, ◌&&◌, [], List, ap, sym, ◌∙◌, take, length, min, arith}
+use Rattle.std.proofs.Common.{◌≡◌, ◌++◌, ◌-◌, ◌&&◌, List, ap, ◌∙◌, take, arith}
 use Rattle.std.specs.Prelude.{nat_le}
 use Rattle.std.proofs.lemmas.List.{take_all}
 use Rattle.csn_cert.specs.declared.pattern.Mark.{Mark}

@@ -1,4 +1,4 @@
-use Rattle.std.proofs.Common.{◌≡◌, List, ap, ◌∙◌, arith}
+use Rattle.std.proofs.Common.{List, ap, ◌∙◌, arith}
 use Rattle.csn_cert.specs.declared.pattern.Mark.{Mark}
 use Rattle.csn_cert.specs.PatternV.{PatternV}
 use Rattle.csn_certmake.proofs.Shortening.{any_is}

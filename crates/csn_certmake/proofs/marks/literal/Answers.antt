@@ -3,7 +3,7 @@ use Rattle.std.specs.Prelude.{nat_le}
 use Rattle.csn_desc.specs.Spelled.{spelled}
 use Rattle.csn_cert.specs.declared.pattern.Mark.{Mark}
 use Rattle.csn_cert.specs.PatternV.{PatternV}
-use Rattle.csn_certmake.specs.Patterns.{mark_of}
+use Rattle.csn_good.specs.Patterns.{mark_of}
 use Rattle.csn_certmake.proofs.Shortening.{shortened_by}
 use Rattle.csn_certmake.proofs.Spelling.{next_mark, length-spelled}
 use Rattle.csn_certmake.proofs.marks.literal.Goals as goal

@@ -1,6 +1,6 @@
 use Rattle.std.proofs.Common.{◌≡◌, take, map}
 use Rattle.csn_desc.specs.Spelled.{spelled}
-use Rattle.csn_certmake.specs.Patterns.{mark_of}
+use Rattle.csn_good.specs.Patterns.{mark_of}
 use Rattle.csn_certmake.proofs.marks.literal.Given as goal
 
 abbrev pub invariant-loop-at : goal.invariant-loop-at

@@ -1,4 +1,4 @@
-use Rattle.std.proofs.Common.{◌≡◌, ◌∷◌, [], ap, ◌∙◌, refl, arith}
+use Rattle.std.proofs.Common.{◌∷◌, [], ap, ◌∙◌, refl, arith}
 use Rattle.csn_certmake.specs.Patterns.{leaf_pattern}
 use Rattle.csn_certmake.proofs.Rows.{row_one, row_all}
 use Rattle.csn_certmake.proofs.pattern_table.alone.Goals as goal

@@ -1,4 +1,4 @@
-use Rattle.std.proofs.Common.{◌≡◌, List, subst, arith}
+use Rattle.std.proofs.Common.{List, subst, arith}
 use Rattle.csn_cert.specs.PatternV.{PatternV}
 use Rattle.csn_certmake.specs.Patterns.{choice_of, patterns_at, HasSame}
 use Rattle.csn_certmake.proofs.Rows.{row_more, row_all}

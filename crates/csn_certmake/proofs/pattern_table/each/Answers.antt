@@ -1,4 +1,4 @@
-use Rattle.std.proofs.Common.{ℕ, ◌≡◌, ◌++◌, ◌∷◌, [], ap, ◌∙◌, refl, arith}
+use Rattle.std.proofs.Common.{ℕ, ◌++◌, ◌∷◌, [], ap, ◌∙◌, refl, arith}
 use Rattle.csn_certmake.proofs.Rows.{row_one, row_all}
 use Rattle.csn_certmake.proofs.pattern_table.each.Goals as goal
 

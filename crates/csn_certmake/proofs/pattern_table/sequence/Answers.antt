@@ -1,4 +1,4 @@
-use Rattle.std.proofs.Common.{◌≡◌, ◌+◌, ◌-◌, [], ◌∷◌, List, ℕ, suc, sym, ap, ◌∙◌, subst, arith, length, drop, flat_map, slice_index_or}
+use Rattle.std.proofs.Common.{◌≡◌, ◌-◌, [], ◌∷◌, List, ℕ, suc, sym, ap, ◌∙◌, subst, arith, length, drop, flat_map, slice_index_or}
 use Rattle.std.proofs.lemmas.List.{drop_all}
 use Rattle.csn_cert.specs.PatternV.{PatternV}
 use Rattle.csn_certmake.specs.Patterns.{IsRow, sequence_of, before_all, patterns_in, patterns_at}

@@ -1,4 +1,4 @@
-use Rattle.std.proofs.Common.{◌≡◌, ◌+◌, ◌-◌, List, ℕ, suc, sym, subst, arith}
+use Rattle.std.proofs.Common.{◌≡◌, ◌+◌, ◌-◌, List, ℕ, suc, subst, arith}
 use Rattle.csn_cert.specs.PatternV.{PatternV}
 use Rattle.csn_certmake.specs.Patterns.{IsRow, times_of, patterns_in}
 use Rattle.csn_certmake.proofs.Members.{row_before, turns_stay}

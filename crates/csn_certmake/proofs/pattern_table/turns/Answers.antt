@@ -1,4 +1,4 @@
-use Rattle.std.proofs.Common.{ℕ, List, [], ◌∷◌, sym, subst, IfOk}
+use Rattle.std.proofs.Common.{ℕ, [], ◌∷◌, sym, subst, IfOk}
 use Rattle.csn_desc.specs.declared.node.Count.{Count}
 use Rattle.csn_cert.specs.PatternV.{PatternV}
 use Rattle.csn_certmake.specs.Patterns.{IsRow, turns_of, patterns_in}
