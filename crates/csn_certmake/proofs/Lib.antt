@@ -5,3 +5,4 @@ mod Rows
 mod Members
 mod Nodes
 mod Writing
+mod Later

@@ -1,10 +1,10 @@
 -- What lists have that are made of others, and rows made of rows with the same patterns.
-use Rattle.std.proofs.Common.{◌≡◌, ℕ, zero, suc, ◌+◌, ◌-◌, ◌%◌, ◌<◌, ◌≤◌, ⊎_elim, Bool, true, false, List, [], ◌∷◌, ◌++◌, length, map, flat_map, drop, refl, sym, ap, ◌∙◌, subst, arith, slice_index_or, get_or, slice_get, Some, drop-cons}
+use Rattle.std.proofs.Common.{◌≡◌, ℕ, zero, suc, ◌+◌, ◌%◌, ◌<◌, ◌≤◌, ⊎_elim, Bool, true, false, List, [], ◌∷◌, length, map, flat_map, drop, refl, sym, ap, ◌∙◌, subst, arith, slice_index_or, slice_get, Some, drop-cons}
 use Rattle.std.specs.List.{Contains}
 use Rattle.std.proofs.lemmas.List.Elements.{Contains-append_left, Contains-append_right, Contains-append_cases}
 use Rattle.std.proofs.lemmas.Option.{slice_get_within, get_or_from_slice_get}
 use Rattle.csn_cert.specs.PatternV.{PatternV}
-use Rattle.csn_certmake.specs.Patterns.{joined, continued, before_all, sequence_of, times_of, patterns_in, HasSame, IsRow}
+use Rattle.csn_certmake.specs.Patterns.{joined, continued, before_all, times_of, patterns_in, HasSame, IsRow}
 
 behind : {X : Type 0} (y : X) (xs : List X) (x : X) → Contains xs x → Contains (y ∷ xs) x
 behind y xs x has = (suc has.0, omega (arith, has.1), has.2)

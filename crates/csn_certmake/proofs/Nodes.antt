@@ -1,12 +1,10 @@
 -- The rows of nodes, from those of their parts.
-use Rattle.std.proofs.Common.{◌≡◌, ℕ, ◌<◌, List, [], ◌∷◌, length, sym, ap, ◌∙◌, subst, refl, Some, slice_get, get_or, slice_index_or, Result, IfOk}
-use Rattle.std.proofs.lemmas.Result.{IfOk-weaker}
-use Rattle.csn_bits.specs.declared.fault.NoMemory.{NoMemory}
+use Rattle.std.proofs.Common.{◌≡◌, ℕ, ◌<◌, List, [], ◌∷◌, length, sym, subst, refl, get_or, slice_index_or, Result, IfOk}
 use Rattle.csn_desc.specs.declared.reading.Reading.{Reading}
 use Rattle.csn_desc.specs.declared.node.Node.{Node}
 use Rattle.csn_desc.specs.Nodes.{parts_of}
 use Rattle.csn_cert.specs.PatternV.{PatternV}
-use Rattle.csn_certmake.specs.Patterns.{IsRow, AreRows, node_patterns, patterns_at, patterns_in}
+use Rattle.csn_certmake.specs.Patterns.{IsRow, AreRows, node_patterns, patterns_in}
 use Rattle.csn_certmake.proofs.Rows.{row_read}
 
 -- the rows of the parts of a node that is known

@@ -1,6 +1,5 @@
 -- Patterns in the order of their texts.
-use Rattle.std.proofs.Common.{◌≡◌, List, [], ◌∷◌}
-use Rattle.std.specs.List.{AllByRecursion}
+use Rattle.std.proofs.Common.{List, [], ◌∷◌}
 use Rattle.std.specs.List.Sorted.{IsStrictlySortedBy}
 use Rattle.std.specs.Ordering.{nat_cmp}
 use Rattle.std.specs.Cmp.Lexicographic.{slice_cmp}

@@ -1,5 +1,5 @@
 -- Rows of patterns that are made octet position by octet position.
-use Rattle.std.proofs.Common.{◌≡◌, ℕ, zero, suc, ◌+◌, ◌%◌, ◌<◌, ◌≤◌, ◌⊎◌, inl, inr, ⊎_elim, Bool, true, false, ◌&&◌, List, [], ◌∷◌, ◌++◌, length, map, refl, sym, ap, ◌∙◌, subst, arith, length-append, slice_index_or, get_or, slice_get, Some, take, append_assoc, append-nil}
+use Rattle.std.proofs.Common.{◌≡◌, ℕ, zero, suc, ◌+◌, ◌%◌, ◌<◌, ◌≤◌, ⊎_elim, Bool, true, false, ◌&&◌, List, [], ◌∷◌, ◌++◌, length, map, refl, sym, ap, ◌∙◌, subst, arith, length-append, slice_index_or, get_or, slice_get, Some, take, append_assoc, append-nil}
 use Rattle.std.proofs.lemmas.Bool.{cases_lt}
 use Rattle.std.proofs.lemmas.List.{get_or_append_left, get_or_push}
 use Rattle.csn_cert.specs.PatternV.{PatternV}
@@ -26,7 +26,7 @@ row_all of row n is so =
     }
 
 -- what holds of each list and of one more
-one_more : (Q : ℕ → List PatternV → Type 0) (row : List (List PatternV)) (patterns : List PatternV) (n : ℕ) → length row ≡ n → ((octet : ℕ) → octet < n → Q octet (patterns_in row octet)) → Q n patterns → (octet : ℕ) → octet < n + 1 → Q octet (patterns_in (row ++ patterns ∷ []) octet)
+pub one_more : (Q : ℕ → List PatternV → Type 0) (row : List (List PatternV)) (patterns : List PatternV) (n : ℕ) → length row ≡ n → ((octet : ℕ) → octet < n → Q octet (patterns_in row octet)) → Q n patterns → (octet : ℕ) → octet < n + 1 → Q octet (patterns_in (row ++ patterns ∷ []) octet)
 one_more Q row patterns n count each here octet low =
     ⊎_elim
     (λ (before : octet < n). subst (λ (l : List PatternV). Q octet l) (sym (get_or_append_left row (patterns ∷ []) [] octet (omega arith))) (each octet before))

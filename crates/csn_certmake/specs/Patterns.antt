@@ -1,5 +1,5 @@
 -- Patterns of single nodes, and of one part after another. (This project's own choice.)
-use Rattle.std.specs.Prelude.{◌≡◌, ℕ, zero, suc, ◌+◌, ◌*◌, ◌%◌, ◌<◌, ◌≤◌, if◌then◌else◌, replicate, flat_map, slice_get, Some, Bool, true, false, List, [], ◌∷◌, ◌++◌, length, map, Contains, slice_index_or, ◌↔◌}
+use Rattle.std.specs.Prelude.{◌≡◌, ℕ, zero, suc, ◌+◌, ◌*◌, ◌%◌, ◌<◌, ◌≤◌, if◌then◌else◌, replicate, flat_map, slice_get, Some, true, false, List, [], ◌∷◌, ◌++◌, length, map, Contains, slice_index_or, ◌↔◌}
 use Rattle.csn_desc.specs.declared.reading.Reading.{Reading}
 use Rattle.csn_desc.specs.declared.symbol.Symbol.TheVariants.{Low}
 use Rattle.csn_desc.specs.declared.node.Count.TheVariants.{Fixed, Counted}

@@ -16,7 +16,6 @@ use Rattle.csn_look.specs.Nullable.{Nullable}
 use Rattle.csn_look.specs.Ends.{InEnds}
 use Rattle.csn_look.specs.Starts.{InStart}
 use Rattle.csn_look.specs.Reached.{Reached, InFollow}
-use Rattle.csn_good.specs.ClaimedSets.{has_digit}
 use Rattle.csn_certmake.specs.Patterns.{patterns_in, patterns_at, node_patterns, HasSame}
 use Rattle.csn_certmake.specs.Digits.{DigitsAre, SaysFollow}
 
@@ -45,7 +44,7 @@ pub record HasItsRow (d : DescV) (rows : List (List (List PatternV))) (i : ℕ) 
 
 pub record HaveRows (d : DescV) (rows : List (List (List PatternV))) : Type 0 where
   pub same : length rows ≡ length d.nodes
-  pub rows : (i : ℕ) → i < length d.nodes → HasItsRow d rows i
+  pub each : (i : ℕ) → i < length d.nodes → HasItsRow d rows i
 
 -- ---- what is claimed
 
