@@ -6,3 +6,5 @@ mod Members
 mod Nodes
 mod Writing
 mod Later
+mod Growing
+mod Telling
