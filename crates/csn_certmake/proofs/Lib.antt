@@ -8,3 +8,5 @@ mod Writing
 mod Later
 mod Growing
 mod Telling
+mod Claiming
+mod Making

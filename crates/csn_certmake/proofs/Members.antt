@@ -9,7 +9,7 @@ use Rattle.csn_certmake.specs.Patterns.{joined, continued, before_all, times_of,
 behind : {X : Type 0} (y : X) (xs : List X) (x : X) → Contains xs x → Contains (y ∷ xs) x
 behind y xs x has = (suc has.0, omega (arith, has.1), has.2)
 
-from_flat : {X Y : Type 0} (g : X → List Y) (xs : List X) (p : Y) → Contains (flat_map g xs) p → (x : X) × Contains xs x × Contains (g x) p
+pub from_flat : {X Y : Type 0} (g : X → List Y) (xs : List X) (p : Y) → Contains (flat_map g xs) p → (x : X) × Contains xs x × Contains (g x) p
 from_flat g [] p has = absurd (omega (arith, has.1))
 from_flat g (x ∷ xs) p has =
     ⊎_elim
@@ -17,17 +17,17 @@ from_flat g (x ∷ xs) p has =
     (λ (later : Contains (flat_map g xs) p). let found = from_flat g xs p later in (found.0, behind x xs found.0 found.1, found.2))
     (Contains-append_cases (g x) (flat_map g xs) p has)
 
-to_flat : {X Y : Type 0} (g : X → List Y) (xs : List X) (k : ℕ) (x : X) (p : Y) → k < length xs → slice_index_or xs k x ≡ x → Contains (g x) p → Contains (flat_map g xs) p
+pub to_flat : {X Y : Type 0} (g : X → List Y) (xs : List X) (k : ℕ) (x : X) (p : Y) → k < length xs → slice_index_or xs k x ≡ x → Contains (g x) p → Contains (flat_map g xs) p
 to_flat g [] k x p low is has = absurd (omega arith)
 to_flat {Y = Y} g (y ∷ xs) zero x p low is has = Contains-append_left (g y) (flat_map g xs) p (subst (λ z. Contains (g z) p) (sym is) has)
 to_flat g (y ∷ xs) (suc k) x p low is has = Contains-append_right (g y) (flat_map g xs) p (to_flat g xs k x p (omega arith) is has)
 
-from_map : {X Y : Type 0} (f : X → Y) (xs : List X) (k : ℕ) (p : Y) → k < length (map f xs) → slice_index_or (map f xs) k p ≡ p → (x : X) × Contains xs x × (f x ≡ p)
+pub from_map : {X Y : Type 0} (f : X → Y) (xs : List X) (k : ℕ) (p : Y) → k < length (map f xs) → slice_index_or (map f xs) k p ≡ p → (x : X) × Contains xs x × (f x ≡ p)
 from_map f [] k p low is = absurd (omega arith)
 from_map f (x ∷ xs) zero p low is = (x, (0, omega arith, refl), is)
 from_map f (x ∷ xs) (suc k) p low is = (let found = from_map f xs k p (omega arith) is in (found.0, behind x xs found.0 found.1, found.2))
 
-to_map : {X Y : Type 0} (f : X → Y) (xs : List X) (k : ℕ) (x : X) → k < length xs → slice_index_or xs k x ≡ x → Contains (map f xs) (f x)
+pub to_map : {X Y : Type 0} (f : X → Y) (xs : List X) (k : ℕ) (x : X) → k < length xs → slice_index_or xs k x ≡ x → Contains (map f xs) (f x)
 to_map f [] k x low is = absurd (omega arith)
 to_map f (y ∷ xs) zero x low is = (0, omega arith, ap f is)
 to_map f (y ∷ xs) (suc k) x low is = behind (f y) (map f xs) (f x) (to_map f xs k x (omega arith) is)
