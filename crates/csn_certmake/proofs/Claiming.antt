@@ -37,17 +37,15 @@ claim_patterns d row i o None none tells = sym (none tells)
 claim_patterns d row i o (Some at) none tells = tells.1.patterns
 
 module _ (d : DescV) (c : List NodeV) (rows : List (List (List PatternV))) where
-  pub TellsAll : Type 0
+  abbrev pub TellsAll : Type 0
   TellsAll = (i : ℕ) → i < length d.nodes → (n : NodeV) × (slice_get c i ≡ Some n) × TellsNode d (slice_index_or rows i []) i n
 
   tells_claim : TellsAll → (i o : ℕ) → i < length d.nodes → o ≤ 7 → TellsClaim d (slice_index_or rows i []) i o (claimed c i o)
-  unfolding TellsAll
   tells_claim all i o inside low =
       let found = all i inside in
       subst (λ (n : Option NodeV). TellsClaim d (slice_index_or rows i []) i o (claimed_of n o)) (sym found.1) (found.2.claims o low)
 
   pub nullable_told : TellsAll → ClaimsNullable d c
-  unfolding TellsAll
   nullable_told all i inside = (let found = all i inside in subst (λ (n : Option NodeV). IsTrue (claims.is_nullable n) ↔ Nullable d i) (sym found.1) found.2.nullable)
 
   pub reached_told : TellsAll → ClaimsReached d c
@@ -60,7 +58,6 @@ module _ (d : DescV) (c : List NodeV) (rows : List (List (List PatternV))) where
   start_told all i o bit inside low small reached = claim_start d (slice_index_or rows i []) i o bit (claimed c i o) small reached (tells_claim all i o inside low)
 
   pub follow_told : TellsAll → ClaimsFollow d c
-  unfolding TellsAll
   follow_told all i o sign inside low =
       let found = all i inside in
       subst (λ (n : Option NodeV). IsTrue (claims.followed_by n o (bit_of_sign sign)) ↔ InFollow d i o (bit_of_sign sign)) (sym found.1) (found.2.follow o sign low)

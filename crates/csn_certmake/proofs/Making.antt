@@ -54,11 +54,10 @@ before_told rests octet first p has = by_whole first.whole refl
 
 module _ (c : List NodeV) (rows : List (List (List PatternV))) where
   -- the parts are claimed to have the patterns of their rows
-  pub HaveTheirs : List ℕ → Type 0
+  abbrev pub HaveTheirs : List ℕ → Type 0
   HaveTheirs parts = (j i o : ℕ) → slice_get parts j ≡ Some i → o ≤ 7 → claims.patterns_at c i o ≡ patterns_at rows i o
 
   sequence_has : (parts : List ℕ) (octet : ℕ) (p : PatternV) → HaveTheirs parts → octet ≤ 7 → PartsPatterns c parts octet p → Contains (sequence_of (patterns_at rows) parts octet) p
-  unfolding HaveTheirs
   sequence_has [] octet p have low (parts_none is) = alone (record { marks = []; whole = true }) p is
   sequence_has (i ∷ parts) octet p have low (parts_cut has cut) =
       let here : Contains (patterns_at rows i octet) p = subst (λ (l : List PatternV). Contains l p) (have 0 i octet refl low) has in
@@ -72,7 +71,6 @@ module _ (c : List NodeV) (rows : List (List (List PatternV))) where
       (sequence_has parts k others (λ j m o there few. have (suc j) m o there few) (omega arith) rest) is)
 
   sequence_made : (parts : List ℕ) (octet : ℕ) (p : PatternV) → HaveTheirs parts → octet ≤ 7 → Contains (sequence_of (patterns_at rows) parts octet) p → PartsPatterns c parts octet p
-  unfolding HaveTheirs
   sequence_made [] octet p have low has = parts_none (only (record { marks = []; whole = true }) p has)
   sequence_made (i ∷ parts) octet p have low has =
       let rests = sequence_of (patterns_at rows) parts in
@@ -85,11 +83,10 @@ module _ (c : List NodeV) (rows : List (List (List PatternV))) where
       by_case first here (is_cut cut is) rest = parts_cut (subst (λ (q : PatternV). Contains (claims.patterns_at c i octet) q) (sym is) here) (ap (λ q. q.whole) is ∙ cut)
       by_case first here (is_whole others whole there is) rest = parts_whole first others here whole (rest others there) is
 
-  HasTheirs : ℕ → Type 0
+  abbrev pub HasTheirs : ℕ → Type 0
   HasTheirs i = (o : ℕ) → o ≤ 7 → claims.patterns_at c i o ≡ patterns_at rows i o
 
   times_have : (n i octet : ℕ) (p : PatternV) → HasTheirs i → octet ≤ 7 → TimesPatterns c n i octet p → Contains (times_of (patterns_at rows i) n octet) p
-  unfolding HasTheirs
   times_have zero i octet p have low (times_none none is) = alone (record { marks = []; whole = true }) p is
   times_have zero i octet p have low (times_cut m is has cut) = absurd (omega (arith, is))
   times_have zero i octet p have low (times_whole m is first others has whole rest made) = absurd (omega (arith, is))
@@ -107,7 +104,6 @@ module _ (c : List NodeV) (rows : List (List (List PatternV))) where
       (times_have n i k others have (omega arith) (subst (λ (t : ℕ). TimesPatterns c t i k others) same rest)) made)
 
   times_made : (n i octet : ℕ) (p : PatternV) → HasTheirs i → octet ≤ 7 → Contains (times_of (patterns_at rows i) n octet) p → TimesPatterns c n i octet p
-  unfolding HasTheirs
   times_made zero i octet p have low has = times_none refl (only (record { marks = []; whole = true }) p has)
   times_made (suc n) i octet p have low has =
       let rests = times_of (patterns_at rows i) n in
@@ -134,7 +130,6 @@ module _ (c : List NodeV) (rows : List (List (List PatternV))) where
       (Contains-append_cases (patterns_at rows k octet) (choice_of (patterns_at rows) parts octet) p has)
 
   pub node_has : (reading : Reading) (n : Node) (octet : ℕ) (p : PatternV) → HaveTheirs (parts_of n) → octet ≤ 7 → NodePatterns reading c n octet p → Contains (node_patterns reading rows n octet) p
-  unfolding HaveTheirs HasTheirs
   node_has reading (Lits run) octet p have low (patterns_lits is) = alone (leaf_pattern reading (Lits run) octet) p is
   node_has reading (Spare s) octet p have low (patterns_spare is) = alone (leaf_pattern reading (Spare s) octet) p is
   node_has reading Pad octet p have low (patterns_pad is) = alone (leaf_pattern reading Pad octet) p is
@@ -152,7 +147,6 @@ module _ (c : List NodeV) (rows : List (List (List PatternV))) where
   node_has reading (Named label i) octet p have low (patterns_named has) = subst (λ (l : List PatternV). Contains l p) (have 0 i octet refl low) has
 
   pub node_made : (reading : Reading) (n : Node) (octet : ℕ) (p : PatternV) → HaveTheirs (parts_of n) → octet ≤ 7 → Contains (node_patterns reading rows n octet) p → NodePatterns reading c n octet p
-  unfolding HaveTheirs HasTheirs
   node_made reading (Lits run) octet p have low has = patterns_lits (only (leaf_pattern reading (Lits run) octet) p has)
   node_made reading (Spare s) octet p have low has = patterns_spare (only (leaf_pattern reading (Spare s) octet) p has)
   node_made reading Pad octet p have low has = patterns_pad (only (leaf_pattern reading Pad octet) p has)

@@ -2,6 +2,7 @@
 
 ghost use Rattle.std.specs.Prelude.{◌≡◌, ◌≤◌, [], ◌∷◌, length, flat_map, true, IfOk};
 ghost use Rattle.csn_desc.specs.Nodes.{parts_of};
+ghost use Rattle.csn_desc.specs.Formed.{IsDescription};
 ghost use Rattle.csn_desc.specs.declared.desc.TheConstants.{MOST_NODES};
 ghost use Rattle.csn_look.specs.ReachV.{IsReachOf};
 ghost use Rattle.csn_certmake.specs.Rows.{kept_if, IsReachedPart, HaveRows};
@@ -22,6 +23,7 @@ pub(crate) fn patterns_of(alloc: Global, desc: &Desc, reach: &Reach) -> Result<V
     requires { IsReachOf desc.now reach.now.reached }
     ensures rows { IfOk result (λ rows. HaveRows desc.now rows.items) }
     ensures few { length desc.now.nodes ≤ MOST_NODES }
+    ensures description { IsDescription desc.now }
 {
     let count = desc.len();
     let mut rows = no_rows(alloc, count)?;
