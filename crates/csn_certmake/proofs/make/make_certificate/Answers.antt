@@ -1,4 +1,4 @@
-use Rattle.std.proofs.Common.{◌≡◌, Result, Ok, Err, IfOk, length, ◌∙◌, sym, ap, subst, arith, List, ℕ, ◌<◌}
+use Rattle.std.proofs.Common.{◌≡◌, slice_get, Some, Result, Ok, Err, IfOk, length, ◌∙◌, sym, ap, subst, arith, List, ℕ, ◌<◌}
 use Rattle.std.specs.Prelude.{Contains}
 use Rattle.csn_desc.specs.Nodes.{DescV, parts_of}
 use Rattle.csn_desc.specs.Formed.{IsDescription}
@@ -12,7 +12,7 @@ use Rattle.csn_look.specs.ReachV.{ReachV}
 use Rattle.csn_certmake.specs.Rows.{IsKnown, TellsNodes, HaveRows}
 use Rattle.csn_certmake.specs.Claimed.{ClaimsNullable, ClaimsReached, ClaimsEnds, ClaimsStart, ClaimsFollow, ClaimsPatterns}
 use Rattle.csn_certmake.proofs.Claiming.{TellsAll, nullable_told, reached_told, ends_told, start_told, follow_told, patterns_told}
-use Rattle.csn_certmake.proofs.Making.{node_has, node_made}
+use Rattle.csn_certmake.proofs.Making.{HaveTheirs, node_has, node_made}
 use Rattle.csn_certmake.proofs.make.make_certificate.Goals as goal
 
 claimed_if : (P : List NodeV → Type 0) (r : Result (List NodeV) NoMemory) (look : LookV) (reach : ReachV) (rows : List (List (List PatternV))) (d : DescV) → ((c : List NodeV) → TellsAll d c rows → P c) → IsKnown d look reach → length rows ≡ length d.nodes → IfOk r (TellsNodes look reach rows) → IfOk r P
@@ -22,7 +22,8 @@ claimed_if P (Err e) look reach rows d tell known same tells = tt
 patterns_claimed : (d : DescV) (c : List NodeV) (rows : List (List (List PatternV))) → IsDescription d → HaveRows d rows → TellsAll d c rows → ClaimsPatterns d c
 patterns_claimed d c rows is have all i o n p at low reached =
     let inside = slice_get_within d.nodes i n at in
-    let theirs = λ (j m a : ℕ) there few. (let within : m < length d.nodes = parts_later d i n (λ (k : ℕ). k < length d.nodes) is at (λ k above high. high) j m there in patterns_told d c rows all m a within few ((have.each m within).none a few)) in
+    let later : (j m : ℕ) → slice_get (parts_of n) j ≡ Some m → m < length d.nodes = parts_later d i n (λ (k : ℕ). k < length d.nodes) is at (λ k above high. high) in
+    let theirs : HaveTheirs c rows (parts_of n) = λ j m a there few. patterns_told d c rows all m a (later j m there) few ((have.each m (later j m there)).none a few) in
     let here = patterns_told d c rows all i o inside low ((have.each i inside).none o low) in
     let made = (have.each i inside).made n o at low reached p in (
       λ has. node_made c rows d.reading n o p theirs low (made.0 (subst (λ (l : List PatternV). Contains l p) here has)),
