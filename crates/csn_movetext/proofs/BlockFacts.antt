@@ -23,11 +23,12 @@ use Rattle.csn_treetext.specs.Text.{text_of}
 use Rattle.csn_movetext.specs.declared.fault.Fed.{Fed}
 use Rattle.csn_movetext.specs.declared.fault.Fed.TheVariants.{Going, Refused, NoMemory}
 use Rattle.csn_movetext.specs.declared.fault.BlockFault.TheVariants as fault
+use Rattle.csn_movetext.specs.declared.fault.BlockFault.{BlockFault}
 use Rattle.csn_movetext.specs.Openings.{opening_in, AreOpenings}
 use Rattle.csn_movetext.specs.Writing.{WritingV, ready}
 use Rattle.csn_movetext.specs.Kept.{Extends}
 use Rattle.csn_movetext.specs.Track.{TrackV, Shown, Writes}
-use Rattle.csn_movetext.specs.Blocks.{BlockV, stands, nothing, is_going, answer_of, IsAnswer, JudgesSome, WritesFor, writes_on, writes_no_more, Continues, Ends, AddsText}
+use Rattle.csn_movetext.specs.Blocks.{BlockV, stands, nothing, is_going, answer_of, IsAnswer, JudgesSome, WritesFor, writes_on, writes_no_more, Continues, Ends, AddsText, IsFaultOf}
 use Rattle.csn_movetext.proofs.Written.{block_writes}
 use Rattle.csn_movetext.proofs.TreesFit.{tree_fits}
 use Rattle.csn_movetext.proofs.TreeParts.{node_parts}
@@ -49,22 +50,22 @@ stays_by d tells = record { same = same_openings d tells; more = extends d tells
 
 pub feed_stays : (old new : JudgeV) (before after : TrackV) (more : List ℕ) (says : Verdict) → old.refused ≡ None → JudgesSome Going old
     → Judges (λ around made. Tells old.desc Writes (opened old) made around before after) old new more says → Stays before after
-feed_stays old new before after more verdict.Going none (b, (moves, for)) judges = stays_by old.desc (judges b moves for).told
-feed_stays old new before after more (verdict.Refused place) none (b, (moves, for)) judges =
-    let told = (judges b moves for).told none in stays_by old.desc told.1.1
+feed_stays old new before after more verdict.Going none (b, moves, for) judges = stays_by old.desc (judges b moves for).told
+feed_stays old new before after more (verdict.Refused place) none (b, moves, for) judges =
+    let told = (judges b moves for).told none in stays_by old.desc told.2
 
 pub feed_judges : (old new : JudgeV) (before after : TrackV) (more : List ℕ) (says : Verdict) (short : Bool) → JudgesSome Going old
     → Judges (λ around made. Tells old.desc Writes (opened old) made around before after) old new more says → JudgesSome (answer_of says short) new
-feed_judges old new before after more verdict.Going false (b, (moves, for)) judges =
-    let on = judges b moves for in (b ++ more, (moves ++ on.made, on.judges))
+feed_judges old new before after more verdict.Going false (b, moves, for) judges =
+    let on = judges b moves for in (b ++ more, moves ++ on.made, on.judges)
 feed_judges old new before after more verdict.Going true some judges = tt
 feed_judges old new before after more (verdict.Refused place) short some judges = tt
 
 pub end_stays : (j : JudgeV) (before after : TrackV) (says : Judged) → j.refused ≡ None → JudgesSome Going j
     → JudgeEnds (λ around made. Tells j.desc Writes (opened j) made around before after) j says → Stays before after
-end_stays j before after judged.Ok none (b, (moves, for)) judges = stays_by j.desc (judges b moves for).told
-end_stays j before after (judged.Refused place) none (b, (moves, for)) judges =
-    let told = (judges b moves for).told none in stays_by j.desc told.1.1
+end_stays j before after judged.Ok none (b, moves, for) judges = stays_by j.desc (judges b moves for).told
+end_stays j before after (judged.Refused place) none (b, moves, for) judges =
+    let told = (judges b moves for).told none in stays_by j.desc told.2
 
 -- the bytes in front stay
 pub same_front : (start : ℕ) (old new : List ℕ) → start ≤ length old → Extends old new → take start new ≡ take start old
@@ -189,13 +190,13 @@ module _ (j : JudgeV) (before after : TrackV) (front : List ℕ) where
       let is = judges b moves for in strings j.desc 0 0 [] b is.block.tree is.block.means
 
   few_bits : {b : List ℕ} {moves : List Move} → j.refused ≡ None → j.seen ≤ 524288 → JudgesFor j b moves → length b ≤ 524288
-  few_bits going few (judges_on stack done none seen cut stands for goes no) = omega (arith, few, seen)
+  few_bits going few (judges_on stack done none seen cut stands for goes unread) = omega (arith, few, seen)
   few_bits going few (judges_no_more place refused at small) = let clash : None ≡ Some place = sym going ∙ refused in absurd (cc)
 
   pub ends_text : MeaningsAreBits → IsDescription j.desc → HasOneTree j.desc → AreOpenings j.desc (opening_in before.openings) → j.refused ≡ None → j.seen ≤ 524288
       → after.refused ≡ false → EndSays judged.Ok → Ends (stands j before Going front) (Ok after.kept.text)
   ends_text are_bits is one are none few going judges b (writes_no_more other refusal at small) = absurd (cc)
-  ends_text are_bits is one are none few going judges b (writes_on moves yes for told) =
+  ends_text are_bits is one are none few going judges b (writes_on moves on for told) =
       let string = judges b moves for in
       let tree : TreeV = string.block.tree in
       let all = tells-then j.desc told string.told in
@@ -213,3 +214,20 @@ module _ (j : JudgeV) (before after : TrackV) (front : List ℕ) where
           spelled = refl;
         };
       })
+
+-- ---- a block that comes at once
+
+pub whole_text : (old new : BlockV) (more : List ℕ) (fed : Fed) (out : List ℕ) → WritesFor old [] → Continues old new more fed → (fed ≡ NoMemory → ⊥) → Ends new (Ok out)
+    → AddsText new.desc more new.before out
+whole_text old new more Going out none fed there ends = ends more (fed [] none).writes
+whole_text old new more (Refused place) out none fed there ends = ends more (fed [] none).writes
+whole_text old new more NoMemory out none fed there ends = absurd (there refl)
+
+pub whole_fault : (old new : BlockV) (more : List ℕ) (fed : Fed) (why : BlockFault) → new.desc ≡ old.desc → WritesFor old [] → Continues old new more fed → (fed ≡ NoMemory → why ≡ fault.NoMemory)
+    → Ends new (Err why) → IsFaultOf new.desc more why
+whole_fault old new more Going why same none fed there ends = ends more (fed [] none).writes
+whole_fault old new more (Refused place) why same none fed there ends = ends more (fed [] none).writes
+whole_fault old new more NoMemory why same none fed there ends =
+    let P : BlockFault → Type 0 = λ y. IsFaultOf new.desc more y in
+    let Q : DescV → Type 0 = λ d. NFollow d 0 0 [] more in
+    subst P (sym (there refl)) (subst Q (sym same) (fed [] none))

@@ -1,7 +1,7 @@
 -- Openings that are made one after another.
-use Rattle.std.proofs.Common.{◌≡◌, ℕ, zero, suc, ◌+◌, ◌-◌, ◌<◌, ◌≤◌, List, [], ◌∷◌, ◌++◌, length, take, drop, map, ◌⊎◌, Option, Some, None, unwrap_or, refl, sym, ◌∙◌, subst, ap, arith, inl, inr, append_assoc, append-nil, length-append, length-drop, take_all}
+use Rattle.std.proofs.Common.{◌≡◌, ℕ, zero, suc, ◌+◌, ◌-◌, ◌<◌, ◌≤◌, List, [], ◌∷◌, ◌++◌, length, take, drop, map, ◌⊎◌, Option, Some, None, unwrap_or, refl, sym, ◌∙◌, subst, ap, arith, inl, inr, append_assoc, append-nil, length-append, length-drop}
 use Rattle.std.specs.Prelude.{slice_get}
-use Rattle.std.proofs.Math.Seq.{drop-append_seam}
+use Rattle.std.proofs.Math.Seq.{drop-append_seam, take-length}
 use Rattle.std.proofs.lemmas.Option.{slice_get_within, slice_get-get_or}
 use Rattle.std.proofs.lemmas.List.{take-append-le, drop-append-le}
 use Rattle.std.proofs.lemmas.Bool.{cases_lt}
@@ -42,7 +42,7 @@ last_bytes pool more place first last =
     ap (λ n. take n (drop place.start (pool ++ more))) wide
     ∙ ap (λ n. take (length more) (drop n (pool ++ more))) first
     ∙ ap (λ l. take (length more) l) (drop-append_seam pool more)
-    ∙ take_all more
+    ∙ take-length more
 
 -- one opening more
 pub pushed :

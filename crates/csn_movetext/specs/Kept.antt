@@ -55,11 +55,6 @@ pub record Flushed (before text b : List ℕ) (held bits : ℕ) : Type 0 where
   pub front_bits : IsBits front
   pub back_bits : IsBits back
 
--- whether a width is written before the bits
-abbrev pub IsTold : Option ℕ → Bool → Type 0
-IsTold None told = told ≡ false
-IsTold (Some width) told = (told ≡ true) × (1 ≤ width) × (width ≤ 64)
-
 -- `x` stands before the first octets of a leaf
 abbrev pub sign : Bool → List ℕ
 sign true = []

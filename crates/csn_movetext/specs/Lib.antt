@@ -3,6 +3,7 @@ pub mod Openings
 pub mod Numbers
 pub mod Pool
 pub mod Writing
+pub mod Told
 pub mod Kept
 pub mod Track
 pub mod Blocks

@@ -1,4 +1,4 @@
-ghost use Rattle.std.specs.Prelude.{◌≡◌, ℕ, ◌+◌, ◌*◌, ◌≤◌, List, [], length, take, Ok, Err, IfOk, IfErr};
+ghost use Rattle.std.specs.Prelude.{◌≡◌, ℕ, ◌+◌, ◌*◌, ◌≤◌, List, [], length, take, Ok, Err, IfOk, IfErr, IsErrAnd};
 ghost use Rattle.csn_bits.specs.Octets.{bits_of_octets};
 ghost use Rattle.csn_movetext.specs.Openings.{AreOpenings, opening_in};
 ghost use Rattle.csn_movetext.specs.Blocks.{WritesFor, credit, Continues, Ends};
@@ -91,6 +91,10 @@ impl<'a> BlockText<'a> {
         ensures text { IfOk result (λ out. Ends self.entry (Ok out.items)) }
         ensures why { IfErr result (λ unwritten. Ends self.entry (Err unwritten.why)) }
         ensures same { IfErr result (λ unwritten. unwritten.out.items ≡ self.entry.before) }
+        ensures refused { (place : ℕ) → self.entry.answer ≡ Fed.Refused place
+            → IsErrAnd result (λ unwritten. unwritten.why ≡ BlockFault.Refused place) }
+        ensures no_memory { self.entry.answer ≡ Fed.NoMemory
+            → IsErrAnd result (λ unwritten. unwritten.why ≡ BlockFault.NoMemory) }
         ensures steps { steps.new ≤ steps.old + credit self.entry }
     {
         csn_desc::laws::strings_are_followed();
@@ -117,7 +121,7 @@ impl<'a> BlockText<'a> {
 // The bytes that stood before a text, which is cut off.
 fn cut_back(track: TextTrack, start: usize, why: BlockFault) -> Unwritten
     ensures why { result.why ≡ why }
-    ensures out { result.out.items ≡ take start track.kept.text }
+    ensures out { result.out.items ≡ take start track.entry.kept.text }
 {
     let mut out = track.finish();
     out.truncate(start);

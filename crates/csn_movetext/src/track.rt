@@ -55,7 +55,7 @@ impl<'a> TextTrack<'a> {
 
     /// The bytes.
     pub fn finish(self) -> Vec<u8>
-        ensures { result.items ≡ self.kept.text }
+        ensures { result.items ≡ self.entry.kept.text }
     {
         self.writing.out
     }

@@ -1,5 +1,6 @@
 ghost use Rattle.std.specs.Prelude.{◌≡◌, ◌≤◌};
 ghost use Rattle.csn_movetext.specs.Openings.{leaf_width};
+ghost use Rattle.csn_movetext.specs.Told.{IsTold};
 
 use crate::digits::{push_number, push_octet};
 use csn_bits::NoMemory;
@@ -29,7 +30,7 @@ impl Writing {
     ghost use Rattle.csn_treetext.specs.Text.{leaf_text};
     ghost use Rattle.csn_treetext.specs.declared.version.Version.TheVariants.{Second};
     ghost use Rattle.csn_movetext.specs.Writing.{WritingV, entered, shut, passed, closed, left_node, gathering};
-    ghost use Rattle.csn_movetext.specs.Kept.{KeptV, kept_of, Shows, Flushed, IsTold, sign, Extends};
+    ghost use Rattle.csn_movetext.specs.Kept.{KeptV, kept_of, Shows, Flushed, sign, Extends};
 
     /// Nothing of a tree, behind these bytes.
     pub fn new(out: Vec<u8>) -> Writing
@@ -83,8 +84,10 @@ impl Writing {
     {
         match node {
             Node::Seq(_) | Node::Times { .. } | Node::Many(_) | Node::Trunc(_) => self.shut()?,
-            Node::Spare(_) | Node::Field { .. } => self.close(leaf_width(node).is_some())?,
-            Node::Pad | Node::Rest => self.close(false)?,
+            Node::Spare(_) => self.close(true)?,
+            Node::Field { .. } => self.close(is_told(node))?,
+            Node::Pad => self.close(false)?,
+            Node::Rest => self.close(false)?,
             Node::Lits(_)
             | Node::Null
             | Node::Choice(_)
@@ -200,6 +203,13 @@ impl Writing {
         }
         Ok(())
     }
+}
+
+// Whether the width of a leaf is written before its bits.
+fn is_told(node: &Node) -> bool
+    ensures { IsTold (leaf_width node.now) result }
+{
+    leaf_width(node).is_some()
 }
 
 /// The constant width of a leaf, where it is written before its bits.

@@ -1,6 +1,13 @@
-use Rattle.std.proofs.Common.{arith, ◌∙◌, subst, ap}
-use Rattle.csn_movetext.proofs.PoolFacts.{pushed, longer_within, pushed_within}
+use Rattle.std.proofs.Common.{refl, arith, ◌∙◌, sym, subst, ap, map, List, ◌++◌, ◌∷◌, []}
+use Rattle.csn_movetext.specs.Pool.{bytes_at}
+use Rattle.csn_movetext.proofs.PoolFacts.{pushed}
 use Rattle.csn_movetext.proofs.openings.Openings.push.Goals as goal
 
 pub returns : goal.returns
-returns c = ?
+returns c =
+    let longer = c.in_ok-extend_from_slice.ensures.items in
+    let more = c.in_ok-push.ensures.items in
+    ap (λ l. map (bytes_at _) l) more
+    ∙ pushed c.self.inside.pool.items c.args.opening.now _ c.self.inside.places.items _ c.self.invariant.within longer
+    (omega (arith, c.len-start.ensures, c.self.inside.pool.ok)) (omega (arith, c.len-end.ensures, c.extend_from_slice.new.self.ok))
+    ∙ ap (λ l. l ++ c.args.opening.now ∷ []) c.self.view_is
