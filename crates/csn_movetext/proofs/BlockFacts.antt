@@ -202,18 +202,20 @@ module _ (j : JudgeV) (before after : TrackV) (front : List ℕ) where
       let all = tells-then j.desc told string.told in
       let text : List ℕ = text_of Second tree in
       let shown = followed j.desc [] tt all going (ready front false) (ready (front ++ text) true) (nothing_shown before.openings front)
-          (block_writes j.desc (opening_in before.openings) are front false string.block.means string.block.walks) in
-      (text, all_written after (front ++ text) true shown,
-      record {
-        tree = tree;
-        means = string.block.means;
-        only = λ other there. one b other tree there string.block.means;
-        spelled = record {
-          fits = tree_fits j.desc is b tree string.block.means;
-          parts = node_parts j.desc are.labels are_bits string.block.means (few_bits none few for);
-          spelled = refl;
-        };
-      })
+      (block_writes j.desc (opening_in before.openings) are front false string.block.means string.block.walks) in (
+        text,
+        all_written after (front ++ text) true shown,
+        record {
+          tree = tree;
+          means = string.block.means;
+          only = λ other there. one b other tree there string.block.means;
+          spelled = record {
+            fits = tree_fits j.desc is b tree string.block.means;
+            parts = node_parts j.desc are.labels are_bits string.block.means (few_bits none few for);
+            spelled = refl;
+          };
+        },
+      )
 
 -- ---- a block that comes at once
 

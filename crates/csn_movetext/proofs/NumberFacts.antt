@@ -55,7 +55,7 @@ number_next parts k part old before get small i h = elim (cases_order i part) [
       let P : ℕ → Type 0 = λ x. Numbered parts (k + 1) old (set before part (Some k)) x in
       subst P (sym same) (number_given k get (slice_get-set_same before part (Some k) small))
   | inr apart ↦
-      let other : ¬ (i ≡ part) = λ e. elim apart [ | inl low ↦ omega (arith, e, low) | inr high ↦ omega (arith, e, high) ] in
+      let other : ¬ (i ≡ part) = λ e. elim apart [ inl low ↦ omega (arith, e, low) | inr high ↦ omega (arith, e, high) ] in
       number_else parts k part i old before (set before part (Some k)) get other (slice_get-set_other before part i (Some k) other) h
 ]
 

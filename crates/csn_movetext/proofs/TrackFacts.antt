@@ -161,9 +161,11 @@ told_gathered : (openings : List (List ℕ)) (old new : KeptV) (node : Node) (fr
 told_gathered openings old new node front bit [] is more all =
     (view openings new false, last_pending openings old new node front bit is more all, refl)
 told_gathered openings old new node front bit (next ∷ bits) is more all =
-    let P : List ℕ → Type 0 = λ l. (w : WritingV) → Shows old w → Shows new (gathering w l) in
-    (with_pending openings old (front ++ bit ∷ []), one_pending openings old node front bit is,
-    told_gathered openings old new node (front ++ bit ∷ []) next bits is more (subst P (sym (append_assoc front (bit ∷ []) (next ∷ bits))) all))
+    let P : List ℕ → Type 0 = λ l. (w : WritingV) → Shows old w → Shows new (gathering w l) in (
+      with_pending openings old (front ++ bit ∷ []),
+      one_pending openings old node front bit is,
+      told_gathered openings old new node (front ++ bit ∷ []) next bits is more (subst P (sym (append_assoc front (bit ∷ []) (next ∷ bits))) all),
+    )
 
 told_by_kind : (openings : List (List ℕ)) (old new : KeptV) (node : Node) (bit : ℕ) (bits : List ℕ) (literal : Bool) → is_literal node ≡ literal → Extends old.text new.text
     → TookBits literal (bit ∷ bits) old new → BitsTold Writes node (bit ∷ bits) (view openings old false) (view openings new false)

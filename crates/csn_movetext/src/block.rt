@@ -107,7 +107,11 @@ impl<'a> BlockText<'a> {
         } = self;
         let ended = match answer {
             Fed::Going => judge.finish_to(&mut track, steps),
-            Fed::Refused { place } => return Err(cut_back(track, start, BlockFault::Refused { place })),
+            Fed::Refused { place } => return Err(cut_back(
+                track,
+                start,
+                BlockFault::Refused { place },
+            )),
             Fed::NoMemory => return Err(cut_back(track, start, BlockFault::NoMemory)),
         };
         match ended {

@@ -16,3 +16,6 @@ pub use block::BlockText;
 pub use fault::{BlockFault, Fed, Unwritten};
 pub use openings::Openings;
 pub use write::write_block;
+
+#[cfg(test)]
+mod tests;

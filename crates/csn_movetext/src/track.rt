@@ -102,12 +102,7 @@ fn write_move(
 }
 
 // The innermost node takes the last `count` bits of a number. Those of a literal are in no text.
-fn take_bits(
-    writing: &mut Writing,
-    number: u64,
-    count: u32,
-    node: &Node,
-) -> Result<(), NoMemory>
+fn take_bits(writing: &mut Writing, number: u64, count: u32, node: &Node) -> Result<(), NoMemory>
     requires few { count ≤ 56 }
     ensures took { OnOk result (TookAll node.now (low_bits count number) (kept_of writing.old) (kept_of writing.new)) }
     ensures extends { Extends writing.old.out.items writing.new.out.items }

@@ -223,7 +223,11 @@ pub(crate) fn leaf_width(node: &Node) -> Option<u64>
             count: Count::Fixed(n),
         } => {
             let width = u64::from(*unit) * u64::from(*n);
-            if 1 <= width && width <= 64 { Some(width) } else { None }
+            if 1 <= width && width <= 64 {
+                Some(width)
+            } else {
+                None
+            }
         }
         _ => None,
     }

@@ -13,5 +13,5 @@ pub loop-i-preserved : goal.loop-i-preserved
 loop-i-preserved g c = elim c.match-node.branch [
   | in-Choice w ↦ rw w.numbers-is (numbers_next c.args.plan.now c.loop-i.i w.in-Choice.parts c.loop-i.numbers.items _ c.len-count.ensures.description
       (c.node.ensures.node ∙ ap Some w.in-Choice.is) w.number_parts.ensures.len w.number_parts.ensures.numbered c.loop-i.invariant)
-  | in_default w ↦ rw w.numbers-is (numbers_same c.args.plan.now c.loop-i.i c.node.result.now c.loop-i.numbers.items c.node.ensures.node (let h = w.in_default.not-Choice in ?) c.loop-i.invariant)
+  | in_default w ↦ rw w.numbers-is (numbers_same c.args.plan.now c.loop-i.i c.node.result.now c.loop-i.numbers.items c.node.ensures.node w.in_default.not-Choice c.loop-i.invariant)
 ]
