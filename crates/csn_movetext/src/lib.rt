@@ -16,6 +16,3 @@ pub use block::BlockText;
 pub use fault::{BlockFault, Fed, Unwritten};
 pub use openings::Openings;
 pub use write::write_block;
-
-#[cfg(test)]
-mod tests;
