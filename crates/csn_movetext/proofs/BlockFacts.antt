@@ -1,11 +1,10 @@
 -- The text of a block between two pieces of it, and at its end.
-use Rattle.std.proofs.Common.{◌≡◌, ℕ, ◌+◌, ◌<◌, ◌≤◌, Bool, true, false, List, [], ◌++◌, length, take, refl, sym, ap, subst, ◌∙◌, arith, length-append, Option, Some, None}
+use Rattle.std.proofs.Common.{◌≡◌, ℕ, ◌<◌, ◌≤◌, Bool, true, false, List, [], ◌++◌, length, take, refl, sym, ap, subst, ◌∙◌, arith, length-append, Some, None}
 use Rattle.std.specs.Prelude.{Ok, Err}
 use Rattle.std.proofs.lemmas.List.{take-append-le}
 use Rattle.csn_desc.specs.declared.moves.Move.{Move}
 use Rattle.csn_desc.specs.Nodes.{DescV}
 use Rattle.csn_desc.specs.TreeV.{TreeV}
-use Rattle.csn_desc.specs.Means.{NMeans}
 use Rattle.csn_desc.specs.Follows.{NFollow, IsPlace}
 use Rattle.csn_desc.specs.Formed.{IsDescription}
 use Rattle.csn_desc.specs.Laws.{PrefixesAreFollowed, StringsAreFollowed, MeaningsAreBits}
@@ -25,9 +24,9 @@ use Rattle.csn_movetext.specs.declared.fault.Fed.TheVariants.{Going, Refused, No
 use Rattle.csn_movetext.specs.declared.fault.BlockFault.TheVariants as fault
 use Rattle.csn_movetext.specs.declared.fault.BlockFault.{BlockFault}
 use Rattle.csn_movetext.specs.Openings.{opening_in, AreOpenings}
-use Rattle.csn_movetext.specs.Writing.{WritingV, ready}
+use Rattle.csn_movetext.specs.Writing.{ready}
 use Rattle.csn_movetext.specs.Kept.{Extends}
-use Rattle.csn_movetext.specs.Track.{TrackV, Shown, Writes}
+use Rattle.csn_movetext.specs.Track.{TrackV, Writes}
 use Rattle.csn_movetext.specs.Blocks.{BlockV, stands, nothing, is_going, answer_of, IsAnswer, JudgesSome, WritesFor, writes_on, writes_no_more, Continues, Ends, AddsText, IsFaultOf}
 use Rattle.csn_movetext.proofs.Written.{block_writes}
 use Rattle.csn_movetext.proofs.TreesFit.{tree_fits}

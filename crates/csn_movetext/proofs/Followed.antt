@@ -1,5 +1,5 @@
 -- A track along the moves of a block has the text that they write.
-use Rattle.std.proofs.Common.{◌≡◌, ℕ, ◌<◌, arith, Bool, true, false, List, [], ◌∷◌, ◌++◌, length, drop, refl, sym, ap, subst, ◌∙◌, append-nil, Option, Some, None}
+use Rattle.std.proofs.Common.{◌≡◌, ℕ, arith, Bool, true, false, List, [], ◌∷◌, ◌++◌, length, refl, sym, ap, subst, ◌∙◌, append-nil, Option, Some, None}
 use Rattle.std.specs.Prelude.{slice_get}
 use Rattle.std.specs.Option.{option_and_then}
 use Rattle.csn_desc.specs.declared.moves.Move.{Move}
@@ -9,8 +9,8 @@ use Rattle.csn_desc.specs.Nodes.{DescV}
 use Rattle.csn_judge.specs.Told.{Tells, tells_none, tells_enter, tells_bit, tells_leave}
 use Rattle.csn_movetext.specs.WithNodes.{with_nodes, inside, with_node}
 use Rattle.csn_movetext.specs.Openings.{opening_in}
-use Rattle.csn_movetext.specs.Writing.{WritingV, ready, gathering, behind, written_by}
-use Rattle.csn_movetext.specs.Kept.{KeptV, begun, IsFront, Shows, Extends}
+use Rattle.csn_movetext.specs.Writing.{WritingV, ready, behind, written_by}
+use Rattle.csn_movetext.specs.Kept.{begun, IsFront, Extends}
 use Rattle.csn_movetext.specs.Track.{TrackV, Shown, Writes}
 use Rattle.csn_movetext.specs.Blocks.{nothing}
 use Rattle.csn_movetext.proofs.Octets.{extends_then, extends_none}

@@ -1,5 +1,5 @@
 -- Openings that are made one after another.
-use Rattle.std.proofs.Common.{◌≡◌, ℕ, zero, suc, ◌+◌, ◌-◌, ◌<◌, ◌≤◌, List, [], ◌∷◌, ◌++◌, length, take, drop, map, ◌⊎◌, Option, Some, None, unwrap_or, refl, sym, ◌∙◌, subst, ap, arith, inl, inr, append_assoc, append-nil, length-append, length-drop}
+use Rattle.std.proofs.Common.{◌≡◌, ℕ, zero, suc, ◌+◌, ◌-◌, ◌<◌, List, [], ◌∷◌, ◌++◌, length, take, drop, map, ◌⊎◌, Option, Some, None, unwrap_or, refl, sym, ◌∙◌, subst, ap, arith, inl, inr, length-append, length-drop}
 use Rattle.std.specs.Prelude.{slice_get}
 use Rattle.std.proofs.Math.Seq.{drop-append_seam, take-length}
 use Rattle.std.proofs.lemmas.Option.{slice_get_within, slice_get-get_or}
@@ -13,7 +13,7 @@ use Rattle.csn_desc.proofs.Parents.{one_parent}
 use Rattle.csn_desc.proofs.Numbering.{span_inside, span_parts, part_from}
 use Rattle.csn_movetext.specs.declared.openings.Place.{Place}
 use Rattle.csn_movetext.specs.Pool.{bytes_at, IsWithin}
-use Rattle.csn_movetext.specs.Numbers.{IsAlternative, AreNumbers}
+use Rattle.csn_movetext.specs.Numbers.{AreNumbers}
 use Rattle.csn_movetext.specs.Openings.{opening_of, opening_in, number_at, HasLabel, AreOpenings}
 use Rattle.csn_movetext.proofs.NumberFacts.{parts_within}
 

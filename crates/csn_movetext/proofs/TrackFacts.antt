@@ -1,5 +1,5 @@
 -- What a move makes of a track.
-use Rattle.std.proofs.Common.{◌≡◌, ℕ, zero, suc, ◌<◌, arith, Bool, true, false, List, [], ◌∷◌, ◌++◌, refl, sym, ap, subst, ◌∙◌, append_assoc, append-nil, Option, Some, None}
+use Rattle.std.proofs.Common.{◌≡◌, ℕ, zero, suc, ◌<◌, arith, Bool, true, false, List, [], ◌∷◌, ◌++◌, refl, sym, ap, subst, ◌∙◌, append_assoc, append-nil, Some}
 use Rattle.std.specs.Prelude.{OnOk, Result, Ok, Err, is_err}
 use Rattle.csn_bits.specs.Numbers.{low_bits}
 use Rattle.csn_desc.specs.declared.moves.Move.{Move}
@@ -7,8 +7,7 @@ use Rattle.csn_desc.specs.declared.moves.Move.TheVariants.{Bit}
 use Rattle.csn_desc.specs.declared.node.Node.{Node}
 use Rattle.csn_desc.specs.declared.node.Node.TheVariants.{Lits, Spare, Pad, Null, Field, Rest, Seq, Choice, Times, Many, Trunc, Window, Named}
 use Rattle.csn_judge.specs.Told.{BitsTold}
-use Rattle.csn_movetext.specs.Writing.{WritingV, gathering, took, behind}
-use Rattle.csn_movetext.specs.Openings.{opening_in}
+use Rattle.csn_movetext.specs.Writing.{WritingV, gathering, took}
 use Rattle.csn_movetext.specs.Kept.{KeptV, Shows, Extends}
 use Rattle.csn_movetext.specs.Track.{TrackV, Shown, is_literal, TookBits, TookAll, Moves, Writes}
 use Rattle.csn_movetext.proofs.Octets.{extends_none}

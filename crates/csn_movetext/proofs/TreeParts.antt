@@ -1,5 +1,5 @@
 -- The trees of a description have labels that are labels and leaves that are bits.
-use Rattle.std.proofs.Common.{◌≡◌, ℕ, ◌+◌, ◌≤◌, List, [], ◌∷◌, ◌++◌, length, Some, subst, ap, arith, length-append}
+use Rattle.std.proofs.Common.{◌≡◌, ℕ, ◌≤◌, List, ◌++◌, length, Some, ap, arith, length-append}
 use Rattle.std.specs.Prelude.{slice_get}
 use Rattle.csn_bits.specs.Octets.{most_bits}
 use Rattle.csn_desc.specs.declared.node.Node.{Node}

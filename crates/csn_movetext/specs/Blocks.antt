@@ -1,5 +1,5 @@
 -- What the writer of a block's text stands for, between two pieces of the block. (This project's own choice.)
-use Rattle.std.specs.Prelude.{◌≡◌, ℕ, ◌<◌, ◌≤◌, Bool, true, false, List, [], ◌++◌, length, take, Option, Some, None, Result, Ok, Err}
+use Rattle.std.specs.Prelude.{◌≡◌, ℕ, ◌<◌, ◌≤◌, Bool, true, false, List, [], ◌++◌, length, take, Some, None, Result, Ok, Err}
 use Rattle.csn_desc.specs.declared.moves.Move.{Move}
 use Rattle.csn_desc.specs.Nodes.{DescV}
 use Rattle.csn_desc.specs.TreeV.{TreeV}
@@ -18,9 +18,7 @@ use Rattle.csn_movetext.specs.declared.fault.Fed.{Fed}
 use Rattle.csn_movetext.specs.declared.fault.Fed.TheVariants.{Going, Refused, NoMemory}
 use Rattle.csn_movetext.specs.declared.fault.BlockFault.{BlockFault}
 use Rattle.csn_movetext.specs.declared.fault.BlockFault.TheVariants as fault
-use Rattle.csn_movetext.specs.declared.fault.Unwritten.{Unwritten}
 use Rattle.csn_movetext.specs.Openings.{opening_in, AreOpenings}
-use Rattle.csn_movetext.specs.Kept.{KeptV, Extends}
 use Rattle.csn_movetext.specs.Track.{TrackV, Writes}
 
 -- the description, how many bits have come, the last answer, the bytes before the text of the block, the judge, and

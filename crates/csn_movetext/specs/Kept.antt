@@ -1,6 +1,6 @@
 -- How a text that is being written is kept: what is written, and the last bits of the leaf that is open as a number.
 -- (This project's own choice.)
-use Rattle.std.specs.Prelude.{◌≡◌, ℕ, ◌+◌, ◌%◌, ◌<◌, ◌≤◌, Bool, true, false, List, [], ◌∷◌, ◌++◌, length, Option, Some, None}
+use Rattle.std.specs.Prelude.{◌≡◌, ℕ, ◌+◌, ◌%◌, ◌<◌, Bool, true, false, List, [], ◌∷◌, ◌++◌, length}
 use Rattle.hex.specs.Hex.{encode_upper}
 use Rattle.csn_bits.specs.Octets.{IsBits, octets_of}
 use Rattle.csn_bits.specs.Numbers.{number_of}

@@ -4,7 +4,7 @@ use Rattle.std.specs.Prelude.{◌≡◌, refl, ℕ, ◌*◌, nat_le, ◌&&◌, i
 use Rattle.std.specs.Fmt.{decimal, digits}
 use Rattle.csn_desc.specs.declared.node.Count.TheVariants.{Fixed}
 use Rattle.csn_desc.specs.declared.node.Node.{Node}
-use Rattle.csn_desc.specs.declared.node.Node.TheVariants.{Lits, Spare, Pad, Null, Field, Rest, Seq, Choice, Times, Many, Trunc, Named}
+use Rattle.csn_desc.specs.declared.node.Node.TheVariants.{Lits, Spare, Null, Field, Seq, Choice, Times, Many, Trunc, Named}
 use Rattle.csn_desc.specs.Label.{IsLabel}
 use Rattle.csn_desc.specs.Nodes.{DescV, parts_of}
 use Rattle.csn_treetext.specs.declared.bounds.TheConstants.{MOST_SHORT}

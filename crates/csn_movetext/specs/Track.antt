@@ -1,5 +1,5 @@
 -- A track that writes the text of a tree: what it has, and what a move makes of that. (This project's own choice.)
-use Rattle.std.specs.Prelude.{◌≡◌, ℕ, ◌≤◌, Bool, true, false, List, [], ◌∷◌, ◌++◌, Option, Some, None}
+use Rattle.std.specs.Prelude.{◌≡◌, ℕ, Bool, true, false, List, Some}
 use Rattle.csn_desc.specs.declared.moves.Move.{Move}
 use Rattle.csn_desc.specs.declared.node.Node.{Node}
 use Rattle.csn_desc.specs.declared.node.Node.TheVariants.{Lits}

@@ -7,7 +7,7 @@ use Rattle.csn_desc.specs.declared.moves.Move.{Move}
 use Rattle.csn_desc.specs.declared.moves.Move.TheVariants.{Enter, Bit, Leave}
 use Rattle.csn_desc.specs.declared.node.Count.TheVariants.{Fixed}
 use Rattle.csn_desc.specs.declared.node.Node.{Node}
-use Rattle.csn_desc.specs.declared.node.Node.TheVariants.{Lits, Spare, Pad, Null, Field, Rest, Seq, Choice, Times, Many, Trunc, Named}
+use Rattle.csn_desc.specs.declared.node.Node.TheVariants.{Lits, Spare, Pad, Field, Rest, Seq, Times, Many, Trunc}
 use Rattle.csn_treetext.specs.declared.version.Version.TheVariants.{Second}
 use Rattle.csn_treetext.specs.Text.{leaf_text}
 use Rattle.csn_movetext.specs.Openings.{leaf_width, opening_in}

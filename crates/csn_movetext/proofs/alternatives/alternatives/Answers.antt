@@ -1,7 +1,6 @@
-use Rattle.std.proofs.Common.{◌≡◌, ℕ, ◌∙◌, sym, ap, subst, arith, length, Some}
-use Rattle.csn_movetext.specs.Numbers.{AreNumbers}
+use Rattle.std.proofs.Common.{◌∙◌, ap, arith, Some}
 use Rattle.csn_desc.specs.declared.node.Node.TheVariants.{Choice}
-use Rattle.csn_movetext.proofs.NumberFacts.{numbers_none, numbers_same, numbers_next, parts_within}
+use Rattle.csn_movetext.proofs.NumberFacts.{numbers_same, numbers_next, parts_within}
 use Rattle.csn_movetext.proofs.alternatives.alternatives.Goals as goal
 use Rattle.csn_movetext.proofs.alternatives.alternatives.Goals.{in-Choice, in_default}
 

@@ -1,4 +1,4 @@
-use Rattle.std.proofs.Common.{◌≡◌, ℕ, ◌∙◌, sym, ap, subst, arith, length, Some}
+use Rattle.std.proofs.Common.{◌≡◌, ◌∙◌, sym, ap, subst, arith, length, Some}
 use Rattle.std.proofs.lemmas.List.{length-set}
 use Rattle.csn_movetext.specs.Numbers.{Numbered}
 use Rattle.csn_movetext.proofs.NumberFacts.{number_next}

@@ -2,7 +2,7 @@ use Rattle.std.proofs.Common.{◌≡◌, ◌<◌, length, arith, ◌∙◌, sym,
 use Rattle.std.specs.Prelude.{slice_get}
 use Rattle.std.proofs.lemmas.Option.{slice_get-get_or}
 use Rattle.csn_movetext.specs.Openings.{opening_of}
-use Rattle.csn_movetext.proofs.PoolFacts.{AreBegun, begun_none, begun_next, are_openings}
+use Rattle.csn_movetext.proofs.PoolFacts.{AreBegun, begun_next, are_openings}
 use Rattle.csn_movetext.proofs.openings.openings_of_plan.Goals as goal
 
 pub loop-i-preserved : goal.loop-i-preserved

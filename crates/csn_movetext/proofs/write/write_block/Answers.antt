@@ -1,4 +1,4 @@
-use Rattle.std.proofs.Common.{◌≡◌, ℕ, List, take, refl, sym, subst, ap, ◌∙◌}
+use Rattle.std.proofs.Common.{◌≡◌, ℕ, List, take, refl, subst, ◌∙◌}
 use Rattle.csn_bits.specs.Octets.{bits_of_octets}
 use Rattle.csn_desc.specs.Nodes.{DescV}
 use Rattle.csn_movetext.specs.Blocks.{AddsText, IsFaultOf}

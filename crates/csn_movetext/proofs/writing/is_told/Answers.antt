@@ -1,11 +1,11 @@
-use Rattle.std.proofs.Common.{◌≡◌, ℕ, ◌*◌, ◌≤◌, nat_le, ◌&&◌, Bool, true, false, Some, None, is_some, refl, ap, ◌∙◌}
+use Rattle.std.proofs.Common.{◌≡◌, ℕ, ◌*◌, nat_le, ◌&&◌, Bool, true, false, Some, None, is_some, refl, ap, ◌∙◌}
 use Rattle.std.specs.Prelude.{if◌then◌else◌}
 use Rattle.std.proofs.lemmas.Bool.{leb-true}
 use Rattle.csn_desc.specs.declared.node.Count.TheVariants.{Fixed, Counted}
 use Rattle.csn_desc.specs.declared.node.Node.{Node}
 use Rattle.csn_desc.specs.declared.node.Node.TheVariants.{Lits, Spare, Pad, Null, Field, Rest, Seq, Choice, Times, Many, Trunc, Window, Named}
 use Rattle.csn_treetext.specs.declared.bounds.TheConstants.{MOST_SHORT}
-use Rattle.csn_movetext.specs.Openings.{told_width, leaf_width}
+use Rattle.csn_movetext.specs.Openings.{leaf_width}
 use Rattle.csn_movetext.specs.Told.{IsTold}
 use Rattle.csn_movetext.proofs.writing.is_told.Goals as goal
 

@@ -1,4 +1,4 @@
-use Rattle.std.proofs.Common.{◌≡◌, ℕ, List, Option, None, Ok, Err, take, sym, subst, ap, ◌∙◌}
+use Rattle.std.proofs.Common.{◌≡◌, ℕ, List, None, Ok, Err, take, sym, subst, ap, ◌∙◌}
 use Rattle.csn_judge.specs.Judging.{JudgeV}
 use Rattle.csn_judge.specs.declared.verdict.Judged.TheVariants as judged
 use Rattle.csn_movetext.specs.declared.fault.Fed.{Fed}

@@ -1,4 +1,4 @@
-use Rattle.std.proofs.Common.{refl, arith, ◌∙◌, sym, subst, ap, map, List, ◌++◌, ◌∷◌, []}
+use Rattle.std.proofs.Common.{arith, ◌∙◌, ap, map, ◌++◌, ◌∷◌, []}
 use Rattle.csn_movetext.specs.Pool.{bytes_at}
 use Rattle.csn_movetext.proofs.PoolFacts.{pushed}
 use Rattle.csn_movetext.proofs.openings.Openings.push.Goals as goal

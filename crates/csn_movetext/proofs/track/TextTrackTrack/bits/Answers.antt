@@ -1,4 +1,4 @@
-use Rattle.std.proofs.Common.{◌≡◌, Bool, true, false, sym, subst, ap, ◌∙◌}
+use Rattle.std.proofs.Common.{Bool, false, sym, subst, ap, ◌∙◌}
 use Rattle.csn_bits.specs.Numbers.{low_bits}
 use Rattle.csn_judge.specs.Told.{BitsTold}
 use Rattle.csn_movetext.specs.Kept.{KeptV, kept_of}

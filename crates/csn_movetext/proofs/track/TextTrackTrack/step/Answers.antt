@@ -1,4 +1,4 @@
-use Rattle.std.proofs.Common.{◌≡◌, Bool, true, false, sym, subst, ap, ◌∙◌}
+use Rattle.std.proofs.Common.{Bool, false, sym, subst, ap, ◌∙◌}
 use Rattle.csn_movetext.specs.Kept.{KeptV, kept_of}
 use Rattle.csn_movetext.specs.Track.{TrackV, Writes}
 use Rattle.csn_movetext.proofs.TrackFacts.{view, still, writes_move}

@@ -1,5 +1,3 @@
-use Rattle.std.proofs.Common.{◌≡◌, ◌*◌, ◌%◌, ◌^◌, arith, ap, sym, subst}
-use Rattle.csn_bits.specs.Numbers.{low_bits}
 use Rattle.csn_movetext.specs.Kept.{kept_of}
 use Rattle.csn_movetext.proofs.Gathering.{took_shows, flushed_shows, last_bits}
 use Rattle.csn_movetext.proofs.writing.Writing.take.Goals as goal
