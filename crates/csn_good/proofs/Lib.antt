@@ -9,3 +9,5 @@ pub mod ReachArms
 pub mod FollowArms
 pub mod Denoted
 pub mod Holding
+pub mod Meeting
+pub mod Conflicting
