@@ -11,3 +11,4 @@ pub mod Denoted
 pub mod Holding
 pub mod Meeting
 pub mod Conflicting
+pub mod Making

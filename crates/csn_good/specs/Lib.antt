@@ -7,4 +7,5 @@ pub mod Tails
 pub mod Wanted
 pub mod Apart
 pub mod Told
+pub mod Made
 pub mod Laws

@@ -6,6 +6,7 @@ mod claims;
 mod ending;
 mod following;
 pub mod laws;
+mod made;
 mod octets;
 mod reaching;
 mod sets;
