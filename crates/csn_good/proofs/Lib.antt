@@ -12,3 +12,5 @@ pub mod Holding
 pub mod Meeting
 pub mod Conflicting
 pub mod Making
+pub mod Covered
+pub mod Faulting

@@ -9,3 +9,5 @@ pub mod Apart
 pub mod Told
 pub mod Made
 pub mod Laws
+pub mod Covering
+pub mod Faults

@@ -1,4 +1,4 @@
-use Rattle.std.proofs.Common.{ℕ, ◌≡◌, ◌+◌, suc, subst, arith}
+use Rattle.std.proofs.Common.{◌≡◌, ◌+◌, suc, subst, arith}
 use Rattle.csn_good.specs.Patterns.{TimesPatterns}
 use Rattle.csn_good.specs.Made.{AreMade}
 use Rattle.csn_good.proofs.Making.{times_begin, times_on, times_stay}
