@@ -9,3 +9,8 @@ pub mod ReachArms
 pub mod FollowArms
 pub mod Denoted
 pub mod Holding
+pub mod Meeting
+pub mod Conflicting
+pub mod Making
+pub mod Covered
+pub mod Faulting

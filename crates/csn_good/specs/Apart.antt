@@ -1,10 +1,12 @@
 -- Facts on patterns that the private functions test for the rule of conflicts. No public contract cites these words.
-use Rattle.std.specs.Prelude.{◌≡◌, ℕ, ◌≤◌, ◌⊎◌, false, List, [], slice_get, Some, IsTrue}
+use Rattle.std.specs.Prelude.{◌≡◌, ℕ, ◌<◌, ◌≤◌, ◌⊎◌, false, List, [], slice_get, Some, IsTrue}
 use Rattle.csn_cert.specs.declared.pattern.Mark.{Mark}
 use Rattle.csn_cert.specs.declared.pattern.Mark.TheVariants.{Any}
 use Rattle.csn_cert.specs.PatternV.{PatternV}
 use Rattle.csn_cert.specs.CertificateV.{NodeV}
+use Rattle.csn_desc.specs.Nodes.{DescV}
 use Rattle.csn_claims.specs.Ends.{ManyEnd}
+use Rattle.csn_claims.specs.Conflicts.{IsNull}
 use Rattle.csn_good.specs.ClaimedSets.{patterns_at, claims_of}
 
 -- some bit is one of both marks
@@ -80,3 +82,18 @@ pub record BitBehind (c : List NodeV) (i : ℕ) : Type 0 where
   pub one : bit ≤ 1
   pub ends : IsTrue ((claims_of c).ends i from octet)
   pub follows : IsTrue ((claims_of c).follow i octet (Some bit))
+
+-- alternatives of choice i, the one before the other, leave it open in no place which is meant
+pub record AreApart (d : DescV) (c : List NodeV) (i left right : ℕ) : Type 0 where
+  pub one_null : IsNull d left → IsNull d right → ⊥
+  pub right_of_null : IsNull d left → Clashes c i right → ⊥
+  pub left_of_null : IsNull d right → Clashes c i left → ⊥
+  pub both_firm : ¬ IsNull d left → ¬ IsNull d right → Overlaps c i left right → ⊥
+
+-- the alternative takes no bits or is firm, and is apart from each later one
+pub record IsApart (d : DescV) (c : List NodeV) (i : ℕ) (parts : List ℕ) (place part : ℕ) : Type 0 where
+  pub firm : ¬ IsNull d part → IsFirmNode c part
+  pub later : (k other : ℕ) → place < k → slice_get parts k ≡ Some other → AreApart d c i part other
+
+abbrev pub EachApart : DescV → List NodeV → ℕ → List ℕ → Type 0
+EachApart d c i parts = (place part : ℕ) → slice_get parts place ≡ Some part → IsApart d c i parts place part

@@ -7,4 +7,7 @@ pub mod Tails
 pub mod Wanted
 pub mod Apart
 pub mod Told
+pub mod Made
 pub mod Laws
+pub mod Covering
+pub mod Faults

@@ -7,7 +7,7 @@ ghost use Rattle.csn_claims.specs.Conflicts.{IsNull};
 ghost use Rattle.csn_good.specs.ClaimedSets.{claims_of};
 ghost use Rattle.csn_good.specs.Good.{KeepsApart};
 ghost use Rattle.csn_good.specs.Octets.{has_octet, PartsWithin};
-ghost use Rattle.csn_good.specs.Apart.{MarksMeet, PatternsMeet, SomeMeets, PartsMeet, HasEmpty, IsFirmNode, Overlaps, ClashesAt, Clashes, TurnsClash, BitBehind};
+ghost use Rattle.csn_good.specs.Apart.{MarksMeet, PatternsMeet, SomeMeets, PartsMeet, HasEmpty, IsFirmNode, Overlaps, ClashesAt, Clashes, TurnsClash, BitBehind, AreApart, IsApart, EachApart};
 
 use crate::claims::{followed_by, may_end, nullable, starts_with};
 use crate::octets::{begins_of, through_many};
@@ -193,4 +193,86 @@ fn something_follows(c: &Certificate, i: u16) -> bool
         }
     }
     false
+}
+
+/// Whether two alternatives of choice `i`, the one before the other, do not leave it open which is meant.
+fn are_apart(desc: &Desc, c: &Certificate, i: u16, left: u16, right: u16) -> bool
+    requires number { length c.now ≡ length desc.now.nodes }
+    requires node { i < length c.now }
+    requires left { left < length c.now }
+    requires right { right < length c.now }
+    ensures { IsTrue result ↔ AreApart desc.now c.now i left right }
+{
+    if is_null(desc, left) {
+        !is_null(desc, right) && !clashes(c, i, right)
+    } else if is_null(desc, right) {
+        !clashes(c, i, left)
+    } else {
+        !overlap(c, i, left, right)
+    }
+}
+
+/// Whether the alternative at a place takes no bits or is firm, and is apart from each later one.
+fn alternative_is_apart(desc: &Desc, c: &Certificate, i: u16, parts: &Parts, place: u16) -> bool
+    requires number { length c.now ≡ length desc.now.nodes }
+    requires node { i < length c.now }
+    requires parts { PartsWithin parts.now (length c.now) }
+    requires place { place < length parts.now }
+    ensures { (part : ℕ) → slice_get parts.now place ≡ Some part → IsTrue result ↔ IsApart desc.now c.now i parts.now place part }
+{
+    let count = parts.len();
+    let alternative = parts.get(place);
+    if !is_null(desc, alternative) && !is_firm(c, alternative) {
+        return false;
+    }
+    for later in place + 1..count {
+        if !are_apart(desc, c, i, alternative, parts.get(later)) {
+            return false;
+        }
+    }
+    true
+}
+
+/// Whether the alternatives of choice `i` are apart.
+fn choice_is_apart(desc: &Desc, c: &Certificate, i: u16, parts: &Parts) -> bool
+    requires number { length c.now ≡ length desc.now.nodes }
+    requires node { i < length c.now }
+    requires parts { PartsWithin parts.now (length c.now) }
+    ensures { IsTrue result ↔ EachApart desc.now c.now i parts.now }
+{
+    for place in 0..parts.len() {
+        if !alternative_is_apart(desc, c, i, parts, place) {
+            return false;
+        }
+    }
+    true
+}
+
+/// Rule 8: node `i` has no conflict.
+pub(crate) fn keeps_apart(desc: &Desc, c: &Certificate, i: u16, node: &Node) -> bool
+    requires certificate { IsCertificate c.now }
+    requires number { length c.now ≡ length desc.now.nodes }
+    requires node { i < length c.now }
+    requires parts { PartsWithin (parts_of node.now) (length c.now) }
+    ensures { IsTrue result ↔ KeepsApart desc.now c.now i node.now }
+{
+    match node {
+        Node::Lits(_) => true,
+        Node::Spare(_) => true,
+        Node::Pad => !something_follows(c, i),
+        Node::Null => true,
+        Node::Field { unit: _, count: _ } => true,
+        Node::Rest => !something_follows(c, i),
+        Node::Seq(_) => true,
+        Node::Choice(parts) => choice_is_apart(desc, c, i, parts),
+        Node::Times { count: _, part } => !nullable(c, *part),
+        Node::Many(part) => is_firm(c, *part) && !turns_clash(c, i, *part),
+        Node::Trunc(_) => !something_follows(c, i),
+        Node::Window {
+            unit: _,
+            count: _,
+            part: _,
+        } => true,
+        Node::Named { label: _, part: _ } => true,
+    }
 }

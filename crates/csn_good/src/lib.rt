@@ -2,11 +2,16 @@
 #![tactic(auto)]
 
 mod apart;
+mod checking;
 mod claims;
 mod ending;
 mod following;
+mod keys;
 pub mod laws;
+mod made;
 mod octets;
 mod reaching;
 mod sets;
 mod tail;
+
+pub use checking::{Checked, check_certificate};

@@ -1,0 +1,47 @@
+use Rattle.std.proofs.Common.{◌↔◌, IsTrue, not, refl}
+use Rattle.csn_good.specs.Good.{KeepsApart}
+use Rattle.csn_good.proofs.Arms.{along, parts_within}
+use Rattle.csn_good.proofs.SetArms.{tells}
+use Rattle.csn_good.proofs.Conflicting.{not_told, is_false, choice_told, pad_apart, rest_apart, trunc_apart, pad_back, rest_back, trunc_back, times_apart, times_back, many_apart, many_back}
+use Rattle.csn_good.proofs.apart.keeps_apart.Goals as goal
+
+pub choice_is_apart-requires-clause-parts : goal.choice_is_apart-requires-clause-parts
+choice_is_apart-requires-clause-parts c = parts_within c.in-Choice.is c.requires.parts
+
+pub nullable-requires : goal.nullable-requires
+nullable-requires c = parts_within c.in-Times.is c.requires.parts 0 c.in-Times.part refl
+
+pub is_firm-requires : goal.is_firm-requires
+is_firm-requires c = parts_within c.in-Many.is c.requires.parts 0 c.in-Many.part refl
+
+pub turns_clash-requires-clause-part : goal.turns_clash-requires-clause-part
+turns_clash-requires-clause-part c = parts_within c.in-Many.is c.requires.parts 0 c.in-Many.part refl
+
+pub returns-in-Pad : goal.returns-in-Pad
+returns-in-Pad c = along (λ n. IsTrue (not c.something_follows.result) ↔ KeepsApart c.args.desc.now c.args.c.now c.args.i n) c.in-Pad.is (not_told c.something_follows.ensures (pad_apart c.args.desc.now c.args.c.now c.requires.certificate c.args.i) (pad_back c.args.desc.now c.args.c.now c.requires.certificate c.args.i))
+
+pub returns-in-Rest : goal.returns-in-Rest
+returns-in-Rest c = along (λ n. IsTrue (not c.something_follows-in-Rest.result) ↔ KeepsApart c.args.desc.now c.args.c.now c.args.i n) c.in-Rest.is (not_told c.something_follows-in-Rest.ensures (rest_apart c.args.desc.now c.args.c.now c.requires.certificate c.args.i) (rest_back c.args.desc.now c.args.c.now c.requires.certificate c.args.i))
+
+pub returns-in-Trunc : goal.returns-in-Trunc
+returns-in-Trunc c = along (λ n. IsTrue (not c.something_follows-in-Trunc.result) ↔ KeepsApart c.args.desc.now c.args.c.now c.args.i n) c.in-Trunc.is (not_told c.something_follows-in-Trunc.ensures (trunc_apart c.args.desc.now c.args.c.now c.requires.certificate c.args.i c.in-Trunc.field-0) (trunc_back c.args.desc.now c.args.c.now c.requires.certificate c.args.i c.in-Trunc.field-0))
+
+pub returns-in-Choice : goal.returns-in-Choice
+returns-in-Choice c = along (λ n. IsTrue c.choice_is_apart.result ↔ KeepsApart c.args.desc.now c.args.c.now c.args.i n) c.in-Choice.is (tells c.choice_is_apart.ensures (choice_told c.args.desc.now c.args.c.now c.requires.certificate c.args.i c.in-Choice.parts))
+
+pub returns-in-Times : goal.returns-in-Times
+returns-in-Times c = along (λ n. IsTrue (not c.nullable.result) ↔ KeepsApart c.args.desc.now c.args.c.now c.args.i n) c.in-Times.is (is_false c.nullable.ensures (times_apart c.args.desc.now c.args.c.now c.requires.certificate c.args.i c.in-Times.count c.in-Times.part) (times_back c.args.desc.now c.args.c.now c.requires.certificate c.args.i c.in-Times.count c.in-Times.part))
+
+pub returns-then-is_firm : goal.returns-then-is_firm
+returns-then-is_firm c =
+    along (λ n. IsTrue (not c.turns_clash.result) ↔ KeepsApart c.args.desc.now c.args.c.now c.args.i n) c.in-Many.is
+    (not_told c.turns_clash.ensures
+    (many_apart c.args.desc.now c.args.c.now c.requires.certificate c.args.i c.in-Many.part (c.is_firm.ensures.0 c.if-is_firm.true))
+    (λ keeps. (many_back c.args.desc.now c.args.c.now c.requires.certificate c.args.i c.in-Many.part keeps).1))
+
+pub returns-else-is_firm : goal.returns-else-is_firm
+returns-else-is_firm c =
+    along (λ n. IsTrue c.is_firm.result ↔ KeepsApart c.args.desc.now c.args.c.now c.args.i n) c.in-Many.is (
+      (λ h. let wrong = c.if-is_firm.false in absurd (cc)),
+      (λ keeps. c.is_firm.ensures.1 (many_back c.args.desc.now c.args.c.now c.requires.certificate c.args.i c.in-Many.part keeps).0),
+    )

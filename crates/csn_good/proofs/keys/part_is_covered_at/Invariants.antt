@@ -1,0 +1,10 @@
+use Rattle.std.proofs.Common.{◌≡◌, ◌<◌, ℕ, Some, slice_get}
+use Rattle.csn_cert.specs.PatternV.{PatternV}
+use Rattle.csn_good.specs.ClaimedSets.{patterns_at}
+use Rattle.csn_good.specs.Patterns.{IsCovered}
+use Rattle.csn_good.proofs.keys.part_is_covered_at.Given as goal
+
+abbrev pub invariant-loop-k : goal.invariant-loop-k
+invariant-loop-k l =
+    (n : ℕ) (p : PatternV) → n < l.k → slice_get (patterns_at l.c l.part l.octet) n ≡ Some p
+    → IsCovered l.c l.i l.octet p

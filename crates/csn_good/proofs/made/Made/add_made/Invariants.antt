@@ -1,0 +1,9 @@
+use Rattle.std.proofs.Common.{take}
+use Rattle.std.specs.Prelude.{◌↔◌, ◌⊎◌, Contains}
+use Rattle.csn_cert.specs.PatternV.{PatternV}
+use Rattle.csn_good.proofs.Making.{JoinsOne}
+use Rattle.csn_good.proofs.made.Made.add_made.Given as goal
+
+abbrev pub invariant-loop-rest : goal.invariant-loop-rest
+invariant-loop-rest l =
+    (p : PatternV) → Contains l.patterns p ↔ (Contains l.initial.patterns p ⊎ JoinsOne l.first (take l.rest-index l.rest-items) p)

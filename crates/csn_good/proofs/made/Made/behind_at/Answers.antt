@@ -1,0 +1,37 @@
+use Rattle.std.proofs.Common.{IsTrue, sym, ◌∙◌, arith}
+use Rattle.std.specs.Prelude.{is_some}
+use Rattle.csn_cert.specs.Growing.{claimed}
+use Rattle.csn_good.specs.ClaimedSets.{patterns_at}
+use Rattle.csn_good.specs.Made.{MadeAt}
+use Rattle.csn_good.proofs.Conflicting.{pattern_reached}
+use Rattle.csn_good.proofs.Making.{in_none, in_turn, next_makes, some_none, some_on, some_done, claimed_pattern, claimed_count}
+use Rattle.csn_good.proofs.made.Made.behind_at.Goals as goal
+
+pub returns-then-not-has : goal.returns-then-not-has
+returns-then-not-has c = λ p. (
+  (λ h. absurd (in_none c.new-patterns.ensures h)),
+  (λ h.
+      let there : IsTrue (is_some (claimed c.args.c.now c.args.i c.args.octet)) = pattern_reached c.args.c.now c.args.i c.args.octet h.first h.is_first in
+      let told = c.has.ensures in
+      let wrong = c.if-not-has.true in
+      absurd (cc)),
+)
+
+pub loop-k-init : goal.loop-k-init
+loop-k-init c = λ p. (
+  (λ h. absurd (in_none c.new-patterns.ensures h)),
+  (λ h. absurd (some_none (MadeAt c.args.self.now.at.items) c.args.octet (patterns_at c.args.c.now c.args.i c.args.octet) p h)),
+)
+
+pub loop-k-preserved : goal.loop-k-preserved
+loop-k-preserved c = λ p.
+    let there = sym c.has.ensures ∙ c.if-not-has.false in
+    let at = claimed_pattern (claimed c.args.c.now c.args.i c.args.octet) c.loop-k.k c.pattern_at.result there c.pattern_at.ensures in
+    next_makes (c.in_ok-add_made.ensures p) (c.loop-k.invariant p) (some_on (MadeAt c.args.self.now.at.items) c.args.octet (patterns_at c.args.c.now c.args.i c.args.octet) c.loop-k.k c.pattern_at.result p at)
+
+pub returns : goal.returns
+returns c = λ p.
+    let there = sym c.has.ensures ∙ c.if-not-has.false in
+    let count = claimed_count (claimed c.args.c.now c.args.i c.args.octet) c.patterns-k-end.result there c.patterns-k-end.ensures in
+    let over = c.loop-k-test.false in
+    in_turn (c.loop-k.invariant p) (some_done (MadeAt c.args.self.now.at.items) c.args.octet (patterns_at c.args.c.now c.args.i c.args.octet) c.loop-k.k p (omega arith))

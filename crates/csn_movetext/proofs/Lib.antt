@@ -1,0 +1,10 @@
+pub mod Written
+pub mod Octets
+pub mod Gathering
+pub mod NumberFacts
+pub mod PoolFacts
+pub mod TrackFacts
+pub mod Followed
+pub mod TreesFit
+pub mod TreeParts
+pub mod BlockFacts

@@ -1,0 +1,208 @@
+-- Openings that are made one after another.
+use Rattle.std.proofs.Common.{◌≡◌, ℕ, zero, suc, ◌+◌, ◌-◌, ◌<◌, List, [], ◌∷◌, ◌++◌, length, take, drop, map, ◌⊎◌, Option, Some, None, unwrap_or, refl, sym, ◌∙◌, subst, ap, arith, inl, inr, length-append, length-drop}
+use Rattle.std.specs.Prelude.{slice_get}
+use Rattle.std.proofs.Math.Seq.{drop-append_seam, take-length}
+use Rattle.std.proofs.lemmas.Option.{slice_get_within, slice_get-get_or}
+use Rattle.std.proofs.lemmas.List.{take-append-le, drop-append-le}
+use Rattle.std.proofs.lemmas.Bool.{cases_lt}
+use Rattle.csn_desc.specs.declared.node.Node.{Node}
+use Rattle.csn_desc.specs.declared.node.Node.TheVariants.{Choice, Lits, Spare, Pad, Null, Field, Rest, Seq, Times, Many, Trunc, Window, Named}
+use Rattle.csn_desc.specs.Nodes.{DescV, parts_of}
+use Rattle.csn_desc.specs.Formed.{IsDescription}
+use Rattle.csn_desc.proofs.Parents.{one_parent}
+use Rattle.csn_desc.proofs.Numbering.{span_inside, span_parts, part_from}
+use Rattle.csn_movetext.specs.declared.openings.Place.{Place}
+use Rattle.csn_movetext.specs.Pool.{bytes_at, IsWithin}
+use Rattle.csn_movetext.specs.Numbers.{AreNumbers}
+use Rattle.csn_movetext.specs.Openings.{opening_of, opening_in, number_at, HasLabel, AreOpenings}
+use Rattle.csn_movetext.proofs.NumberFacts.{parts_within}
+
+-- ---- the pool
+
+bytes_kept : (pool more : List ℕ) (place : Place) → IsWithin pool place → bytes_at (pool ++ more) place ≡ bytes_at pool place
+bytes_kept pool more place is =
+    ap (λ l. take (place.end - place.start) l) (drop-append-le place.start pool more (omega (arith, is.0, is.1)))
+    ∙ take-append-le (place.end - place.start) (drop place.start pool) more (omega (arith, is.0, is.1, length-drop place.start pool))
+
+bytes_all_kept : (pool more : List ℕ) (places : List Place) → ((i : ℕ) (place : Place) → slice_get places i ≡ Some place → IsWithin pool place)
+    → map (bytes_at (pool ++ more)) places ≡ map (bytes_at pool) places
+bytes_all_kept pool more [] are = refl
+bytes_all_kept pool more (place ∷ places) are =
+    ap (λ x. x ∷ map (bytes_at (pool ++ more)) places) (bytes_kept pool more place (are 0 place refl))
+    ∙ ap (λ l. bytes_at pool place ∷ l) (bytes_all_kept pool more places (λ i p at. are (suc i) p at))
+
+map-push : {X Y : Type 0} (f : X → Y) (xs : List X) (x : X) → map f (xs ++ x ∷ []) ≡ map f xs ++ f x ∷ []
+map-push f [] x = refl
+map-push f (y ∷ xs) x = ap (λ l. f y ∷ l) (map-push f xs x)
+
+last_bytes : (pool more : List ℕ) (place : Place) → place.start ≡ length pool → place.end ≡ length (pool ++ more) → bytes_at (pool ++ more) place ≡ more
+last_bytes pool more place first last =
+    let size = length-append pool more in
+    let wide : place.end - place.start ≡ length more = omega (arith, first, last, size) in
+    ap (λ n. take n (drop place.start (pool ++ more))) wide
+    ∙ ap (λ n. take (length more) (drop n (pool ++ more))) first
+    ∙ ap (λ l. take (length more) l) (drop-append_seam pool more)
+    ∙ take-length more
+
+-- one opening more
+pub pushed :
+    (pool more new : List ℕ) (places : List Place) (place : Place) → ((i : ℕ) (p : Place) → slice_get places i ≡ Some p → IsWithin pool p)
+    → new ≡ pool ++ more → place.start ≡ length pool → place.end ≡ length new
+    → map (bytes_at new) (places ++ place ∷ []) ≡ map (bytes_at pool) places ++ more ∷ []
+pushed pool more new places place are same first last =
+    ap (λ l. map (bytes_at l) (places ++ place ∷ [])) same
+    ∙ map-push (bytes_at (pool ++ more)) places place
+    ∙ ap (λ x. map (bytes_at (pool ++ more)) places ++ x ∷ []) (last_bytes pool more place first (last ∙ ap length same))
+    ∙ ap (λ l. l ++ more ∷ []) (bytes_all_kept pool more places are)
+
+-- places lie in longer bytes too
+pub longer_within : (pool more new : List ℕ) (places : List Place) → ((i : ℕ) (p : Place) → slice_get places i ≡ Some p → IsWithin pool p) → new ≡ pool ++ more
+    → (i : ℕ) (p : Place) → slice_get places i ≡ Some p → IsWithin new p
+longer_within pool more new places are same i p at =
+    let is = are i p at in (is.0, omega (arith, is.1, ap length same, length-append pool more))
+
+slice_get-push : {X : Type 0} (xs : List X) (x y : X) (i : ℕ) → slice_get (xs ++ x ∷ []) i ≡ Some y → (P : X → Type 0) → ((j : ℕ) (z : X) → slice_get xs j ≡ Some z → P z) → P x → P y
+slice_get-push [] x y zero at P others here = let same : x ≡ y = cc in subst P same here
+slice_get-push [] x y (suc i) at P others here = absurd (cc)
+slice_get-push (z ∷ xs) x y zero at P others here = let same : z ≡ y = cc in subst P same (others 0 z refl)
+slice_get-push (z ∷ xs) x y (suc i) at P others here = slice_get-push xs x y i at P (λ j w get. others (suc j) w get) here
+
+pub pushed_within :
+    (pool more new : List ℕ) (places : List Place) (place : Place) → ((i : ℕ) (p : Place) → slice_get places i ≡ Some p → IsWithin pool p)
+    → new ≡ pool ++ more → place.start ≡ length pool → place.end ≡ length new
+    → (i : ℕ) (p : Place) → slice_get (places ++ place ∷ []) i ≡ Some p → IsWithin new p
+pushed_within pool more new places place are same first last i p at =
+    slice_get-push places place p i at (IsWithin new) (longer_within pool more new places are same)
+    (omega (arith, first, last, ap length same, length-append pool more), omega (arith, last))
+
+-- ---- the openings of nodes
+
+-- the first nodes have their openings, and their labels are labels
+pub record AreBegun (d : DescV) (numbers : List (Option ℕ)) (upto : ℕ) (openings : List (List ℕ)) : Type 0 where
+  pub many : length openings ≡ upto
+  pub opened :
+      (i : ℕ) (number : Option ℕ) (n : Node) → i < upto → slice_get numbers i ≡ Some number → slice_get d.nodes i ≡ Some n
+      → slice_get openings i ≡ Some (opening_of number n)
+  pub labelled : (i : ℕ) (n : Node) → i < upto → slice_get d.nodes i ≡ Some n → HasLabel n
+
+pub begun_none : (d : DescV) (numbers : List (Option ℕ)) → AreBegun d numbers 0 []
+begun_none d numbers =
+    record {
+      many = refl;
+      opened = λ i number n small. absurd (omega (arith, small));
+      labelled = λ i n small. absurd (omega (arith, small));
+    }
+
+slice_get-before : {X : Type 0} (xs : List X) (x : X) (i : ℕ) → i < length xs → slice_get (xs ++ x ∷ []) i ≡ slice_get xs i
+slice_get-before [] x i small = absurd (omega (arith, small))
+slice_get-before (y ∷ xs) x zero small = refl
+slice_get-before (y ∷ xs) x (suc i) small = slice_get-before xs x i (omega (arith, small))
+
+slice_get-last : {X : Type 0} (xs : List X) (x : X) → slice_get (xs ++ x ∷ []) (length xs) ≡ Some x
+slice_get-last [] x = refl
+slice_get-last (y ∷ xs) x = slice_get-last xs x
+
+pub begun_next :
+    (d : DescV) (numbers : List (Option ℕ)) (k : ℕ) (number : Option ℕ) (n : Node) (old new : List (List ℕ)) → slice_get numbers k ≡ Some number → slice_get d.nodes k ≡ Some n
+    → HasLabel n → new ≡ old ++ opening_of number n ∷ [] → AreBegun d numbers k old → AreBegun d numbers (k + 1) new
+begun_next d numbers k number n old new given at label same are =
+    let P : List (List ℕ) → Type 0 = λ l. AreBegun d numbers (k + 1) l in
+    subst P (sym same)
+    (record {
+      many = length-append old (opening_of number n ∷ []) ∙ omega (arith, are.many);
+      opened = λ i other m small here there. elim (cases_lt i k) [
+        | inl low ↦ slice_get-before old (opening_of number n) i (omega (arith, low, are.many)) ∙ are.opened i other m low here there
+        | inr high ↦
+            let last : i ≡ k = omega (arith, small, high) in
+            let place : i ≡ length old = omega (arith, last, are.many) in
+            let one_number : Some number ≡ Some other = sym given ∙ ap (λ x. slice_get numbers x) (sym last) ∙ here in
+            let one_node : Some n ≡ Some m = sym at ∙ ap (λ x. slice_get d.nodes x) (sym last) ∙ there in
+            let number_same : number ≡ other = cc in
+            let node_same : n ≡ m = cc in
+            ap (λ x. slice_get (old ++ opening_of number n ∷ []) x) place
+            ∙ slice_get-last old (opening_of number n)
+            ∙ ap (λ x. Some (opening_of x n)) number_same
+            ∙ ap (λ x. Some (opening_of other x)) node_same
+      ];
+      labelled = λ i m small there. elim (cases_lt i k) [
+        | inl low ↦ are.labelled i m low there
+        | inr high ↦
+            let last : i ≡ k = omega (arith, small, high) in
+            let one_node : Some n ≡ Some m = sym at ∙ ap (λ x. slice_get d.nodes x) (sym last) ∙ there in
+            let node_same : n ≡ m = cc in
+            subst HasLabel node_same label
+      ];
+    })
+
+number_is : (n : Node) (k : ℕ) → ((parts : List ℕ) → ¬ (n ≡ Choice parts)) → number_at n k ≡ None
+number_is (Choice parts) k other = absurd (other parts refl)
+number_is (Lits run) k other = refl
+number_is (Spare symbol) k other = refl
+number_is Pad k other = refl
+number_is Null k other = refl
+number_is (Field unit count) k other = refl
+number_is Rest k other = refl
+number_is (Seq parts) k other = refl
+number_is (Times count part) k other = refl
+number_is (Many part) k other = refl
+number_is (Trunc parts) k other = refl
+number_is (Window unit count part) k other = refl
+number_is (Named label part) k other = refl
+
+pub choice_or : (n : Node) → ((parts : List ℕ) × (n ≡ Choice parts)) ⊎ ((parts : List ℕ) → ¬ (n ≡ Choice parts))
+choice_or (Choice parts) = inl (parts, refl)
+choice_or (Lits run) = inr (λ others e. cc)
+choice_or (Spare symbol) = inr (λ others e. cc)
+choice_or Pad = inr (λ others e. cc)
+choice_or Null = inr (λ others e. cc)
+choice_or (Field unit count) = inr (λ others e. cc)
+choice_or Rest = inr (λ others e. cc)
+choice_or (Seq parts) = inr (λ others e. cc)
+choice_or (Times count part) = inr (λ others e. cc)
+choice_or (Many part) = inr (λ others e. cc)
+choice_or (Trunc parts) = inr (λ others e. cc)
+choice_or (Window unit count part) = inr (λ others e. cc)
+choice_or (Named label part) = inr (λ others e. cc)
+
+module _ (d : DescV) (is : IsDescription d) (numbers : List (Option ℕ)) (are : AreNumbers d (length d.nodes) numbers) where
+  -- a part of a node that is no choice has no number
+  no_number : (c j i : ℕ) (n : Node) (found : Option ℕ) → slice_get d.nodes c ≡ Some n → slice_get (parts_of n) j ≡ Some i → ((parts : List ℕ) → ¬ (n ≡ Choice parts))
+      → slice_get numbers i ≡ Some found → found ≡ None
+  no_number c j i n None at get other there = refl
+  no_number c j i n (Some k) at get other there =
+      let a = are.only i k there in
+      let one = one_parent d c a.choice j k i n (Choice a.parts) is at a.there get a.part in
+      let twice : Some n ≡ Some (Choice a.parts) = sym at ∙ ap (λ x. slice_get d.nodes x) one.0 ∙ a.there in
+      let same : n ≡ Choice a.parts = cc in
+      absurd (other a.parts same)
+
+  part_number : (c j i : ℕ) (n : Node) → slice_get d.nodes c ≡ Some n → slice_get (parts_of n) j ≡ Some i → slice_get numbers i ≡ Some (number_at n j)
+  part_number c j i n at get = elim (choice_or n) [
+    | inl choice ↦
+        let P : Node → Type 0 = λ m. slice_get (parts_of m) j ≡ Some i in
+        are.given c j i choice.0 (slice_get_within d.nodes c n at) (at ∙ ap Some choice.1) (subst P choice.1 get)
+        ∙ ap (λ m. Some (number_at m j)) (sym choice.1)
+    | inr other ↦
+        let there = slice_get-get_or numbers i None (omega (arith, are.all, parts_within d c j i n is at get)) in
+        there ∙ ap Some (no_number c j i n _ at get other there ∙ sym (number_is n j other))
+  ]
+
+  no_parent : (found : Option ℕ) → slice_get numbers 0 ≡ Some found → found ≡ None
+  no_parent None there = refl
+  no_parent (Some k) there =
+      let a = are.only 0 k there in
+      let s = span_inside d.nodes a.choice is.numbered (omega arith) (slice_get_within d.nodes a.choice (Choice a.parts) a.there) in
+      let low = part_from d.nodes k 0 (span_parts d.nodes a.there s.span) a.part in
+      absurd (omega (arith, low))
+
+  pub are_openings : (openings : List (List ℕ)) → AreBegun d numbers (length d.nodes) openings → AreOpenings d (opening_in openings)
+  are_openings openings begun =
+      record {
+        parts = λ c j i n m at get here.
+            ap (λ o. unwrap_or o []) (begun.opened i (number_at n j) m (slice_get_within d.nodes i m here) (part_number c j i n at get) here);
+        root = λ m here.
+            let within = slice_get_within d.nodes 0 m here in
+            let there = slice_get-get_or numbers 0 None (omega (arith, are.all, within)) in
+            ap (λ o. unwrap_or o []) (begun.opened 0 None m within (there ∙ ap Some (no_parent _ there)) here);
+        labels = λ i part label at. begun.labelled i (Named label part) (slice_get_within d.nodes i (Named label part) at) at;
+      }

@@ -1,0 +1,23 @@
+use Rattle.std.proofs.Common.{◌≡◌, ◌<◌, length, arith, ◌∙◌, sym, subst, ap, ◌++◌, ◌∷◌, [], Some, get_or}
+use Rattle.std.specs.Prelude.{slice_get}
+use Rattle.std.proofs.lemmas.Option.{slice_get-get_or}
+use Rattle.csn_movetext.specs.Openings.{opening_of}
+use Rattle.csn_movetext.proofs.PoolFacts.{AreBegun, begun_next, are_openings}
+use Rattle.csn_movetext.proofs.openings.openings_of_plan.Goals as goal
+
+pub loop-i-preserved : goal.loop-i-preserved
+loop-i-preserved g c =
+    let small : c.loop-i.i < length c.in_ok-numbers.numbers.items = omega (arith, c.loop-i-test.true, c.len-i-end.ensures.len, c.in_ok-numbers.ensures.all) in
+    let given : slice_get c.in_ok-numbers.numbers.items c.loop-i.i ≡ Some c.index.result.now =
+    slice_get-get_or c.in_ok-numbers.numbers.items c.loop-i.i c.index.result.now small
+    ∙ ap (λ k. Some (get_or c.in_ok-numbers.numbers.items k c.index.result.now)) (sym c.from.ensures) ∙ ap Some (sym c.index.ensures) in
+    let text : c.as_slice.result.now ≡ opening_of c.index.result.now c.node-node.result.now =
+    c.as_slice.ensures.value ∙ c.in_ok-push_opening.ensures.text ∙ ap (λ l. l ++ opening_of c.index.result.now c.node-node.result.now) c.clear.ensures.items in
+    begun_next c.args.plan.now c.in_ok-numbers.numbers.items c.loop-i.i c.index.result.now c.node-node.result.now c.loop-i.openings c.push.new.self
+    given c.node-node.ensures.node c.in_ok-push_opening.ensures.label (c.in_ok-push.ensures ∙ ap (λ x. c.loop-i.openings ++ x ∷ []) text) c.loop-i.invariant
+
+pub returns : goal.returns
+returns g c =
+    let all : c.loop-i.i ≡ length c.args.plan.now.nodes = omega (arith, c.loop-i-test.false, c.loop-i.auto.i-end, c.len-i-end.ensures.len) in
+    are_openings c.args.plan.now c.len-i-end.ensures.description c.in_ok-numbers.numbers.items c.in_ok-numbers.ensures c.loop-i.openings
+    (subst (λ n. AreBegun c.args.plan.now c.in_ok-numbers.numbers.items n c.loop-i.openings) all c.loop-i.invariant)

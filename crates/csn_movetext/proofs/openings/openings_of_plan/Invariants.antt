@@ -1,0 +1,6 @@
+use Rattle.csn_movetext.proofs.PoolFacts.{AreBegun}
+use Rattle.csn_movetext.proofs.openings.openings_of_plan.Given as goal
+
+-- the first nodes have their openings
+abbrev pub invariant-loop-i : goal.invariant-loop-i
+invariant-loop-i g l = AreBegun l.plan l.numbers.items l.i l.openings

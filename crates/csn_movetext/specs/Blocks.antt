@@ -1,0 +1,142 @@
+-- What the writer of a block's text stands for, between two pieces of the block. (This project's own choice.)
+use Rattle.std.specs.Prelude.{◌≡◌, ℕ, ◌<◌, ◌≤◌, Bool, true, false, List, [], ◌++◌, length, take, Some, None, Result, Ok, Err}
+use Rattle.csn_desc.specs.declared.moves.Move.{Move}
+use Rattle.csn_desc.specs.Nodes.{DescV}
+use Rattle.csn_desc.specs.TreeV.{TreeV}
+use Rattle.csn_desc.specs.Means.{NMeans}
+use Rattle.csn_desc.specs.Follows.{NFollow, IsPlace}
+use Rattle.csn_desc.specs.Formed.{IsDescription}
+use Rattle.csn_certify.specs.Plans.{HasOneTree}
+use Rattle.csn_judge.specs.Judging as judge
+use Rattle.csn_judge.specs.Judging.{JudgeV, JudgesFor, opened}
+use Rattle.csn_judge.specs.Told.{Tells}
+use Rattle.csn_judge.specs.declared.verdict.Verdict.{Verdict}
+use Rattle.csn_judge.specs.declared.verdict.Verdict.TheVariants as verdict
+use Rattle.csn_treetext.specs.Place.{TreeText}
+use Rattle.csn_movetext.specs.declared.block.BlockText.TheInside.{Inside}
+use Rattle.csn_movetext.specs.declared.fault.Fed.{Fed}
+use Rattle.csn_movetext.specs.declared.fault.Fed.TheVariants.{Going, Refused, NoMemory}
+use Rattle.csn_movetext.specs.declared.fault.BlockFault.{BlockFault}
+use Rattle.csn_movetext.specs.declared.fault.BlockFault.TheVariants as fault
+use Rattle.csn_movetext.specs.Openings.{opening_in, AreOpenings}
+use Rattle.csn_movetext.specs.Track.{TrackV, Writes}
+
+-- the description, how many bits have come, the last answer, the bytes before the text of the block, the judge, and
+-- the track
+pub record BlockV : Type 0 where
+  pub desc : DescV
+  pub seen : ℕ
+  pub answer : Fed
+  pub before : List ℕ
+  pub judge : JudgeV
+  pub track : TrackV
+
+abbrev pub stands : JudgeV → TrackV → Fed → List ℕ → BlockV
+stands j track answer before =
+    record { desc = j.desc; seen = j.seen; answer = answer; before = before; judge = j; track = track }
+
+abbrev pub block_of : Inside → BlockV
+block_of b = stands b.judge b.track b.answer (take b.start b.track.kept.text)
+
+abbrev pub is_going : Fed → Bool
+is_going Going = true
+is_going (Refused place) = false
+is_going NoMemory = false
+
+-- what is answered by what the judge says, where memory was wanting or not
+abbrev pub answer_of : Verdict → Bool → Fed
+answer_of verdict.Going false = Going
+answer_of verdict.Going true = NoMemory
+answer_of (verdict.Refused place) short = Refused place
+
+-- the judge has refused exactly where this was the answer, or memory was wanting before
+abbrev pub IsAnswer : Fed → JudgeV → Type 0
+IsAnswer Going j = j.refused ≡ None
+IsAnswer (Refused place) j = j.refused ≡ Some place
+IsAnswer NoMemory j = j.refused ≡ None
+
+-- the judge stands for some bits, unless they were refused or memory was wanting
+abbrev pub JudgesSome : Fed → JudgeV → Type 0
+JudgesSome Going j = (b : List ℕ) × (moves : List Move) × JudgesFor j b moves
+JudgesSome (Refused place) j = Unit {0}
+JudgesSome NoMemory j = Unit {0}
+
+pub record IsBlockText (b : Inside) : Type 0 where
+  pub description : IsDescription b.judge.desc
+  pub one_tree : HasOneTree b.judge.desc
+  pub answer_is : IsAnswer b.answer b.judge
+  pub judges : JudgesSome b.answer b.judge
+  pub few : b.judge.seen ≤ 524288
+  pub openings : AreOpenings b.judge.desc (opening_in b.track.openings)
+  pub started : b.start ≤ length b.track.kept.text
+
+-- the steps that are paid for by the bits so far and not taken yet: the judge's
+abbrev pub credit : BlockV → ℕ
+credit b = judge.credit b.judge
+
+-- nothing of a tree is written behind these bytes
+abbrev pub nothing : List (List ℕ) → List ℕ → TrackV
+nothing openings before =
+    record {
+      openings = openings;
+      kept = record { text = before; left = false; long = false; held = 0; bits = 0 };
+      refused = false;
+      pending = [];
+    }
+
+-- the text has come along these bits, by the moves that the judge has made for them, and all of them can be followed;
+-- or they are refused. Where memory was wanting it stands for none.
+pub data WritesFor (w : BlockV) (b : List ℕ) : Type 0 where
+  writes_on :
+      (moves : List Move)
+      → w.answer ≡ Going → JudgesFor w.judge b moves
+      → Tells w.desc Writes [] moves (opened w.judge) (nothing w.track.openings w.before) w.track
+      → WritesFor w b
+  writes_no_more :
+      (place : ℕ) → w.answer ≡ Refused place → IsPlace w.desc b place → place < length b → WritesFor w b
+
+-- behind some more bits, which can be followed: it stands for all of them
+pub record IsFollowed (old new : BlockV) (b more : List ℕ) : Type 0 where
+  pub writes : WritesFor new (b ++ more)
+  pub followed : NFollow old.desc 0 0 [] (b ++ more)
+
+-- behind some more bits, which cannot be followed: the place is that of all of them, before their end, and where
+-- nothing was refused before, it lies in the bits that came last
+pub record IsRefused (old new : BlockV) (b more : List ℕ) (place : ℕ) : Type 0 where
+  pub writes : WritesFor new (b ++ more)
+  pub place_is : IsPlace old.desc (b ++ more) place
+  pub before_end : place < length (b ++ more)
+  pub not_followed : ¬ NFollow old.desc 0 0 [] (b ++ more)
+  pub in_piece : old.answer ≡ Going → length b ≤ place
+
+-- what is known behind some more bits, for all bits that it stood for. Where memory was wanting, they can be followed
+abbrev pub Continues : (old new : BlockV) (more : List ℕ) → Fed → Type 0
+Continues old new more Going = (b : List ℕ) → WritesFor old b → IsFollowed old new b more
+Continues old new more (Refused place) = (b : List ℕ) → WritesFor old b → IsRefused old new b more place
+Continues old new more NoMemory = (b : List ℕ) → WritesFor old b → NFollow old.desc 0 0 [] (b ++ more)
+
+-- bits that are a string: these bytes are the text of their tree, and they have no other
+pub record IsTextOfBlock (d : DescV) (b text : List ℕ) : Type 0 where
+  pub tree : TreeV
+  pub means : NMeans d 0 0 [] b tree
+  pub only : (other : TreeV) → NMeans d 0 0 [] b other → other ≡ tree
+  pub spelled : TreeText tree text
+
+-- bits that have no tree: the place is theirs
+pub record IsNoString (d : DescV) (b : List ℕ) (place : ℕ) : Type 0 where
+  pub place_is : IsPlace d b place
+  pub no_tree : (tree : TreeV) → ¬ NMeans d 0 0 [] b tree
+
+-- behind these bytes stands the text of the tree
+abbrev pub AddsText : DescV → List ℕ → List ℕ → List ℕ → Type 0
+AddsText d b before new = (text : List ℕ) × (new ≡ before ++ text) × IsTextOfBlock d b text
+
+-- why bits have no text. Where memory was wanting, they can be followed
+abbrev pub IsFaultOf : DescV → List ℕ → BlockFault → Type 0
+IsFaultOf d b (fault.Refused place) = IsNoString d b place
+IsFaultOf d b fault.NoMemory = NFollow d 0 0 [] b
+
+-- at the end of a block, for all bits that it stood for: their text stands behind the bytes before
+abbrev pub Ends : BlockV → Result (List ℕ) BlockFault → Type 0
+Ends w (Ok bytes) = (b : List ℕ) → WritesFor w b → AddsText w.desc b w.before bytes
+Ends w (Err why) = (b : List ℕ) → WritesFor w b → IsFaultOf w.desc b why

@@ -1,0 +1,10 @@
+pub mod WithNodes
+pub mod Openings
+pub mod Numbers
+pub mod Pool
+pub mod Writing
+pub mod Told
+pub mod Kept
+pub mod Track
+pub mod Blocks
+pub mod Laws

@@ -1,0 +1,133 @@
+ghost use Rattle.std.specs.Prelude.{◌≡◌, ℕ, ◌+◌, ◌*◌, ◌≤◌, List, [], length, take, Ok, Err, IfOk, IfErr, IsErrAnd};
+ghost use Rattle.csn_bits.specs.Octets.{bits_of_octets};
+ghost use Rattle.csn_movetext.specs.Openings.{AreOpenings, opening_in};
+ghost use Rattle.csn_movetext.specs.Blocks.{WritesFor, credit, Continues, Ends};
+
+use crate::fault::{BlockFault, Fed, Unwritten};
+use crate::openings::Openings;
+use crate::track::TextTrack;
+use csn_certify::{Plan, Steps};
+use csn_judge::{Judge, Judged};
+use std::marker::Model;
+use std::sync::ledger::Ledger;
+
+/// Writes the text of the tree that a block has by a certified description, behind some bytes, while the block comes in
+/// pieces.
+#[derive(Drop)]
+pub struct BlockText<'a> {
+    judge: Judge<'a>,
+    track: TextTrack<'a>,
+    /// Where the text begins.
+    start: usize,
+    /// The last answer.
+    answer: Fed,
+}
+
+impl<'a> Model for BlockText<'a> {
+    ghost use Rattle.csn_movetext.specs.Blocks.{BlockV, block_of, IsBlockText};
+
+    ghost Value = { BlockV };
+
+    ghost view = { block_of };
+
+    ghost invariant = { IsBlockText };
+}
+
+impl<'a> BlockText<'a> {
+    /// No bits so far, behind these bytes.
+    pub fn new(plan: &'a Plan, openings: &'a Openings, out: Vec<u8>) -> BlockText<'a>
+        requires { AreOpenings plan.now (opening_in openings.now) }
+        ensures writes { WritesFor result [] }
+        ensures desc { result.desc ≡ plan.now }
+        ensures before { result.before ≡ out.items }
+        ensures seen { result.seen ≡ 0 }
+        ensures answer { result.answer ≡ Fed.Going }
+        ensures credit { credit result ≡ 8 * length plan.now.nodes }
+    {
+        // its length tells that any bits have at most one tree
+        let _count = plan.len();
+        let start = out.len();
+        BlockText {
+            judge: Judge::new(plan),
+            track: TextTrack::new(openings, out),
+            start,
+            answer: Fed::Going,
+        }
+    }
+
+    /// How many bits have come, with those of the piece that was refused or took the last memory, and none
+    /// after it.
+    pub fn seen(&self) -> u32
+        ensures { result ≡ self.now.seen }
+    {
+        self.judge.seen()
+    }
+
+    /// The next bits of the block: the first `bits` bits of the piece. Behind a refusal, and where memory was
+    /// wanting, they change nothing, and the answer stays.
+    pub fn feed<L: Ledger>(&mut self, piece: &[u8], bits: u32, steps: &mut Steps<L>) -> Fed
+        requires within { bits ≤ 8 * length piece.now }
+        requires few { self.old.seen + bits ≤ 524288 }
+        ensures writes { Continues self.old self.new (take bits (bits_of_octets piece.now)) result }
+        ensures answer { self.new.answer ≡ result }
+        ensures desc { self.new.desc ≡ self.old.desc }
+        ensures before { self.new.before ≡ self.old.before }
+        ensures seen { self.old.answer ≡ Fed.Going → self.new.seen ≡ self.old.seen + bits }
+        ensures stays { ¬ (self.old.answer ≡ Fed.Going) → self.new ≡ self.old }
+        ensures steps { steps.new + credit self.new
+            ≤ steps.old + credit self.old + 8 * length self.old.desc.nodes * bits }
+    {
+        csn_desc::laws::prefixes_are_followed();
+        if !self.answer.is_going() {
+            return self.answer;
+        }
+        let verdict = self.judge.feed_to(piece, bits, &mut self.track, steps);
+        self.answer = Fed::of(verdict, self.track.is_refused());
+        self.answer
+    }
+
+    /// The block has ended: the text of its tree stands behind the bytes. Else there are the bytes alone.
+    pub fn finish<L: Ledger>(self, steps: &mut Steps<L>) -> Result<Vec<u8>, Unwritten>
+        ensures text { IfOk result (λ out. Ends self.entry (Ok out.items)) }
+        ensures why { IfErr result (λ unwritten. Ends self.entry (Err unwritten.why)) }
+        ensures same { IfErr result (λ unwritten. unwritten.out.items ≡ self.entry.before) }
+        ensures refused { (place : ℕ) → self.entry.answer ≡ Fed.Refused place
+            → IsErrAnd result (λ unwritten. unwritten.why ≡ BlockFault.Refused place) }
+        ensures no_memory { self.entry.answer ≡ Fed.NoMemory
+            → IsErrAnd result (λ unwritten. unwritten.why ≡ BlockFault.NoMemory) }
+        ensures steps { steps.new ≤ steps.old + credit self.entry }
+    {
+        csn_desc::laws::strings_are_followed();
+        csn_desc::laws::meanings_are_bits();
+        let BlockText {
+            judge,
+            mut track,
+            start,
+            answer,
+        } = self;
+        let ended = match answer {
+            Fed::Going => judge.finish_to(&mut track, steps),
+            Fed::Refused { place } => return Err(cut_back(
+                track,
+                start,
+                BlockFault::Refused { place },
+            )),
+            Fed::NoMemory => return Err(cut_back(track, start, BlockFault::NoMemory)),
+        };
+        match ended {
+            Judged::Refused { place } => Err(cut_back(track, start, BlockFault::Refused { place })),
+            Judged::Ok if track.is_refused() => Err(cut_back(track, start, BlockFault::NoMemory)),
+            Judged::Ok => Ok(track.finish()),
+        }
+    }
+}
+
+// The bytes that stood before a text, which is cut off.
+fn cut_back(track: TextTrack, start: usize, why: BlockFault) -> Unwritten
+    ensures why { result.why ≡ why }
+    ensures out { result.out.items ≡ take start track.entry.kept.text }
+{
+    let mut out = track.finish();
+    out.truncate(start);
+    Unwritten { why, out }
+}

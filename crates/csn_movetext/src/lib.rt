@@ -1,0 +1,18 @@
+//! The text of a tree, written as the moves of its block come: no tree is made, and no memory is taken but for the
+//! text.
+#![tactic(auto)]
+
+mod alternatives;
+mod block;
+mod digits;
+mod fault;
+pub mod laws;
+mod openings;
+mod track;
+mod write;
+mod writing;
+
+pub use block::BlockText;
+pub use fault::{BlockFault, Fed, Unwritten};
+pub use openings::Openings;
+pub use write::write_block;

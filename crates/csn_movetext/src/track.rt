@@ -1,0 +1,114 @@
+ghost use Rattle.std.specs.Prelude.{◌≤◌, OnOk};
+ghost use Rattle.csn_bits.specs.Numbers.{low_bits};
+ghost use Rattle.csn_movetext.specs.Kept.{Extends, kept_of};
+ghost use Rattle.csn_movetext.specs.Track.{Moves, TookAll};
+
+use crate::openings::Openings;
+use crate::writing::Writing;
+use csn_bits::NoMemory;
+use csn_desc::{Move, Node};
+use csn_judge::Track;
+use std::marker::Model;
+
+/// Writes the text of a tree along the moves of its block, while there is memory.
+#[derive(Drop)]
+pub(crate) struct TextTrack<'a> {
+    openings: &'a Openings,
+    writing: Writing,
+    refused: bool,
+}
+
+impl<'a> Model for TextTrack<'a> {
+    ghost use Rattle.std.specs.Prelude.{[]};
+    ghost use Rattle.csn_movetext.specs.Kept.{kept_of};
+    ghost use Rattle.csn_movetext.specs.Track.{TrackV};
+
+    ghost Value = { TrackV };
+
+    ghost view = { λ t. record { openings = t.openings.now; kept = kept_of t.writing; refused = t.refused; pending = [] } };
+}
+
+impl<'a> TextTrack<'a> {
+    ghost use Rattle.std.specs.Prelude.{◌≡◌, ◌<◌, ◌≤◌, [], ◌++◌, take, length, OnOk, OnErr};
+    ghost use Rattle.csn_bits.specs.Numbers.{low_bits};
+    ghost use Rattle.csn_judge.specs.Told.{BitsTold};
+    ghost use Rattle.csn_movetext.specs.Blocks.{nothing};
+    ghost use Rattle.csn_movetext.specs.Track.{Writes};
+
+    /// Nothing of a tree, behind these bytes.
+    pub fn new(openings: &'a Openings, out: Vec<u8>) -> TextTrack<'a>
+        ensures { result ≡ nothing openings.now out.items }
+    {
+        TextTrack {
+            openings,
+            writing: Writing::new(out),
+            refused: false,
+        }
+    }
+
+    /// Whether memory was refused.
+    pub fn is_refused(&self) -> bool
+        ensures { result ≡ self.now.refused }
+    {
+        self.refused
+    }
+
+    /// The bytes.
+    pub fn finish(self) -> Vec<u8>
+        ensures { result.items ≡ self.entry.kept.text }
+    {
+        self.writing.out
+    }
+}
+
+impl<'a> Track for TextTrack<'a> {
+    ghost use Rattle.csn_movetext.specs.Track.{Writes};
+
+    ghost takes = { Writes };
+
+    fn step(&mut self, step: Move, node: &Node) {
+        if self.refused {
+            return;
+        }
+        self.refused = write_move(&mut self.writing, self.openings, step, node).is_err();
+    }
+
+    fn bits(&mut self, number: u64, count: u32, node: &Node) {
+        if self.refused {
+            return;
+        }
+        if count > 0 {
+            self.refused = take_bits(&mut self.writing, number, count, node).is_err();
+        }
+    }
+}
+
+// One move, with the node that begins, that takes the bit, or that ends.
+fn write_move(
+    writing: &mut Writing,
+    openings: &Openings,
+    step: Move,
+    node: &Node,
+) -> Result<(), NoMemory>
+    ensures moves { OnOk result (Moves openings.now step node.now (kept_of writing.old) (kept_of writing.new)) }
+    ensures extends { Extends writing.old.out.items writing.new.out.items }
+{
+    match step {
+        Move::Enter(number) => writing.enter(openings.get(number)),
+        Move::Bit(bit) if bit > 1 => Err(NoMemory),
+        Move::Bit(bit) => take_bits(writing, u64::from(bit), 1, node),
+        Move::Leave => writing.leave(node),
+    }
+}
+
+// The innermost node takes the last `count` bits of a number. Those of a literal are in no text.
+fn take_bits(writing: &mut Writing, number: u64, count: u32, node: &Node) -> Result<(), NoMemory>
+    requires few { count ≤ 56 }
+    ensures took { OnOk result (TookAll node.now (low_bits count number) (kept_of writing.old) (kept_of writing.new)) }
+    ensures extends { Extends writing.old.out.items writing.new.out.items }
+{
+    match node {
+        Node::Lits(_) => Ok(()),
+        _ => writing.take(number, count),
+    }
+}

@@ -1,0 +1,147 @@
+-- The blocks of the generator, one more at a time.
+use Rattle.std.proofs.Common.{◌≡◌, ◌↔◌, ℕ, zero, suc, ◌+◌, ◌*◌, ◌<◌, ◌≤◌, Bool, true, false, if◌then◌else◌, IsTrue, List, [], ◌++◌, length, take, drop, refl, sym, ap, subst, ◌∙◌, arith, append_assoc, append-nil}
+use Rattle.std.specs.Int.{to_be_bytes, w64}
+use Rattle.std.proofs.Math.Seq.{drop-append_seam}
+use Rattle.std.proofs.lemmas.List.{take_all, length-take-le}
+use Rattle.csn_bits.specs.Octets.{bits_of_octets}
+use Rattle.csn_catalogue.specs.declared.entry.Entry.{Entry}
+use Rattle.csn_catalogue.specs.declared.entry.Entry.TheVariants.{Uplink, Downlink, Si1, Si3, Si4, Si13, Ia}
+use Rattle.csn_catalogue.specs.Samples.{sample_octets, field_at, field_width}
+use Rattle.csn_desc.specs.Nodes.{DescV}
+use Rattle.csn_soak.specs.declared.soaking.Soaked.{Soaked}
+use Rattle.csn_soak.specs.Generator.{number, sample_bits, sample_with, is_cut, block}
+use Rattle.csn_soak.specs.Soaking.{IsString, Counted, one_more, no_more, bits_in, IsSoaked}
+
+-- what stands behind the first bits of some bits, once all of them were gone through
+pub behind_all : {A : Type 0} (n m : ℕ) (all behind : List A) → n ≤ length all → length all ≤ m → take n all ++ behind ≡ take m all → behind ≡ drop n all
+behind_all {A} n m all behind within past is =
+    let P : ℕ → Type 0 = λ k. drop k (take n all ++ behind) ≡ behind in
+    let seam : P n = subst P (length-take-le n all within) (drop-append_seam (take n all) behind) in
+    sym seam ∙ ap (λ x. drop n x) (is ∙ take_all m all past)
+
+-- three pieces, one behind another
+pub three : (a b c : List ℕ) → a ++ (b ++ (c ++ [])) ≡ (a ++ b) ++ c
+three a b c = ap (λ x. a ++ (b ++ x)) (append-nil c) ∙ sym (append_assoc a b c)
+
+-- a number in the field does not change how many bits a sample has, nor its first one
+pub as_long : (entry : Entry) (x : ℕ) → length (sample_with entry x) ≡ 8 * length (sample_octets entry)
+as_long Uplink x = refl
+as_long Downlink x = refl
+as_long Si1 x = refl
+as_long Si3 x = refl
+as_long Si4 x = refl
+as_long Si13 x = refl
+as_long Ia x = refl
+
+pub first_stays : (entry : Entry) (x : ℕ) → take 1 (sample_with entry x) ≡ take 1 (sample_bits entry)
+first_stays Uplink x = refl
+first_stays Downlink x = refl
+first_stays Si1 x = refl
+first_stays Si3 x = refl
+first_stays Si4 x = refl
+first_stays Si13 x = refl
+first_stays Ia x = refl
+
+pub cut_long : (entry : Entry) (x : ℕ) → length (take 1 (sample_with entry x)) ≡ 1
+cut_long Uplink x = refl
+cut_long Downlink x = refl
+cut_long Si1 x = refl
+cut_long Si3 x = refl
+cut_long Si4 x = refl
+cut_long Si13 x = refl
+cut_long Ia x = refl
+
+pub some_octets : (entry : Entry) → 0 < length (sample_octets entry)
+some_octets Uplink = omega arith
+some_octets Downlink = omega arith
+some_octets Si1 = omega arith
+some_octets Si3 = omega arith
+some_octets Si4 = omega arith
+some_octets Si13 = omega arith
+some_octets Ia = omega arith
+
+pub narrow : (entry : Entry) → field_width entry ≤ 64
+narrow Uplink = omega arith
+narrow Downlink = omega arith
+narrow Si1 = omega arith
+narrow Si3 = omega arith
+narrow Si4 = omega arith
+narrow Si13 = omega arith
+narrow Ia = omega arith
+
+pub few_octets : (entry : Entry) → length (sample_octets entry) ≤ 22
+few_octets Uplink = omega arith
+few_octets Downlink = omega arith
+few_octets Si1 = omega arith
+few_octets Si3 = omega arith
+few_octets Si4 = omega arith
+few_octets Si13 = omega arith
+few_octets Ia = omega arith
+
+-- how a block is made of its sample
+made_if : (entry : Entry) (x : ℕ) (cut : Bool) → (if cut then take 1 (sample_bits entry) else sample_with entry x) ≡ (if cut then take 1 (sample_with entry x) else sample_with entry x)
+made_if entry x true = sym (first_stays entry x)
+made_if entry x false = refl
+
+pub made : (entry : Entry) (k : ℕ) → (if is_cut k then take 1 (sample_bits entry) else sample_with entry (number (suc k))) ≡ block entry k
+made entry k = made_if entry (number (suc k)) (is_cut k)
+
+long_if : (entry : Entry) (x : ℕ) (cut : Bool) → (if cut then 1 else 8 * length (sample_octets entry)) ≡ length (if cut then take 1 (sample_with entry x) else sample_with entry x)
+long_if entry x true = sym (cut_long entry x)
+long_if entry x false = sym (as_long entry x)
+
+pub long : (entry : Entry) (k : ℕ) → (if is_cut k then 1 else 8 * length (sample_octets entry)) ≡ length (block entry k)
+long entry k = long_if entry (number (suc k)) (is_cut k)
+
+short_if : (entry : Entry) (x : ℕ) (cut : Bool) → length (if cut then take 1 (sample_with entry x) else sample_with entry x) ≤ 176
+short_if entry x true = omega (arith, cut_long entry x)
+short_if entry x false = omega (arith, as_long entry x, few_octets entry)
+
+pub short : (entry : Entry) (k : ℕ) → length (block entry k) ≤ 176
+short entry k = short_if entry (number (suc k)) (is_cut k)
+
+pub few_bits : (entry : Entry) (n : ℕ) → bits_in entry n ≤ n * 176
+few_bits entry zero = omega arith
+few_bits entry (suc k) = omega (arith, few_bits entry k, short entry k)
+
+-- one more block
+module _ (d : DescV) (entry : Entry) where
+  count_more : (k : ℕ) (ok : Bool) (before : ℕ) → IsTrue ok ↔ IsString d (block entry k) → Counted (λ j. IsString d (block entry j)) k before
+      → Counted (λ j. IsString d (block entry j)) (suc k) (before + (if ok then 1 else 0))
+  count_more k true before tells so_far = one_more k before refl (omega arith) (tells.0 refl) so_far
+  count_more k false before tells so_far =
+      let same : before ≡ before + 0 = omega arith in
+      subst (λ n. Counted (λ j. IsString d (block entry j)) (suc k) n) same (no_more k refl (λ is. let no : false ≡ true = tells.1 is in cc) so_far)
+
+  pub more : (k : ℕ) (ok : Bool) (s t : Soaked) (bits : ℕ) → IsTrue ok ↔ IsString d (block entry k) → bits ≡ length (block entry k)
+      → t.ok ≡ s.ok + (if ok then 1 else 0) → t.refused ≡ s.refused + (if ok then 0 else 1) → t.bits ≡ s.bits + bits
+      → IsSoaked d entry k s → IsSoaked d entry (suc k) t
+  more k ok s t bits tells long is_ok is_refused is_bits so_far =
+      record {
+        ok = subst (λ n. Counted (λ j. IsString d (block entry j)) (suc k) n) (sym is_ok) (count_more k ok s.ok tells so_far.ok);
+        all = all_of ok is_ok is_refused;
+        bits = omega (arith, is_bits, long, so_far.bits);
+      }
+    where
+      all_of : (ok : Bool) → t.ok ≡ s.ok + (if ok then 1 else 0) → t.refused ≡ s.refused + (if ok then 0 else 1) → t.ok + t.refused ≡ suc k
+      all_of true a b = omega (arith, a, b, so_far.all)
+      all_of false a b = omega (arith, a, b, so_far.all)
+
+  -- what is found of the bits that a sample, a number and what stands behind the field make is found of the block
+  pub tells_of : (k : ℕ) (r : Bool) (octets : List ℕ) (at width x : ℕ) (behind : List ℕ) → octets ≡ sample_octets entry → at ≡ field_at entry
+      → width ≡ field_width entry → x ≡ number (suc k) → behind ≡ drop (at + width) (bits_of_octets octets)
+      → (IsTrue r ↔ IsString d (if is_cut k then take 1 (bits_of_octets octets)
+      else (take at (bits_of_octets octets) ++ take width (bits_of_octets (to_be_bytes w64 x)) ++ behind)))
+      → IsTrue r ↔ IsString d (block entry k)
+  tells_of k r octets at width x behind o a w n b tells =
+      let P : List ℕ → Type 0 = λ bits. IsTrue r ↔ IsString d bits in
+      let B : List ℕ → ℕ → ℕ → ℕ → List ℕ → List ℕ = λ octets at width x behind.
+      if is_cut k then take 1 (bits_of_octets octets)
+      else (take at (bits_of_octets octets) ++ take width (bits_of_octets (to_be_bytes w64 x)) ++ behind) in
+      let samples : List ℕ = bits_of_octets (sample_octets entry) in
+      subst P (made entry k)
+      (subst (λ y. P (B (sample_octets entry) (field_at entry) (field_width entry) y (drop (field_at entry + field_width entry) samples))) n
+      (subst (λ y. P (B (sample_octets entry) (field_at entry) y x (drop (field_at entry + y) samples))) w
+      (subst (λ y. P (B (sample_octets entry) y width x (drop (y + width) samples))) a
+      (subst (λ y. P (B y at width x (drop (at + width) (bits_of_octets y)))) o
+      (subst (λ y. P (B octets at width x y)) b tells)))))

@@ -1,0 +1,7 @@
+//! Blocks of an entry of the catalogue made by a generator, and judged.
+#![tactic(auto)]
+
+mod generator;
+mod soaking;
+
+pub use soaking::{MOST_BLOCKS, Soaked, soak};

@@ -1,0 +1,171 @@
+ghost use Rattle.std.specs.Prelude.{◌≡◌, ◌<◌, ◌≤◌, ◌+◌, ◌*◌, ◌++◌, ◌↔◌, IfOk, IsTrue, if◌then◌else◌, length, take, drop};
+ghost use Rattle.std.specs.Int.{to_be_bytes, w64};
+ghost use Rattle.csn_bits.specs.Octets.{bits_of_octets, most_bits};
+ghost use Rattle.csn_blocks.specs.Judging.{AreWithin, bits_in, bits_of};
+ghost use Rattle.csn_soak.specs.declared.soaking.TheConstants.{MOST_BLOCKS};
+ghost use Rattle.csn_soak.specs.Generator.{is_cut};
+ghost use Rattle.csn_soak.specs.Soaking.{IsSoaked, IsString};
+
+use crate::generator::next;
+use csn_bits::{Bits, BitsFault, NoMemory};
+use csn_blocks::{Piece, judge_pieces};
+use csn_catalogue::{Entry, Sample, sample_of};
+use csn_certify::Plan;
+use csn_judge::Judged;
+use std::alloc::Global;
+
+/// The most blocks of a run.
+pub const MOST_BLOCKS: u32 = 1_000_000;
+
+/// Each so many blocks one is cut to its first bit.
+const CUT_EVERY: u32 = 16;
+
+/// What came of some blocks.
+#[derive(Clone, Copy, Debug, Drop, PartialEq, Eq)]
+pub struct Soaked {
+    /// How many are strings of the entry.
+    pub ok: u32,
+    /// How many are not.
+    pub refused: u32,
+    /// How many bits all of them have.
+    pub bits: u32,
+}
+
+impl Soaked {
+    /// One more block, of so many bits.
+    fn add(&mut self, ok: bool, bits: u32)
+        requires few { self.old.ok + self.old.refused < MOST_BLOCKS }
+        requires short { self.old.bits + bits ≤ MOST_BLOCKS * 176 }
+        ensures ok { self.new.ok ≡ self.old.ok + (if ok then 1 else 0) }
+        ensures refused { self.new.refused ≡ self.old.refused + (if ok then 0 else 1) }
+        ensures bits { self.new.bits ≡ self.old.bits + bits }
+    {
+        if ok {
+            self.ok += 1;
+        } else {
+            self.refused += 1;
+        }
+        self.bits += bits;
+    }
+}
+
+/// The bits of a sample behind its field.
+fn behind_field(alloc: Global, sample: &Sample) -> Result<Bits, BitsFault>
+    requires within { sample.now.at + sample.now.width ≤ 8 * length sample.now.octets.now }
+    requires short { length sample.now.octets.now ≤ 22 }
+    ensures { IfOk result (λ behind. behind ≡ drop (sample.now.at + sample.now.width) (bits_of_octets sample.now.octets.now)) }
+{
+    let whole = Bits::from_octets(alloc, sample.octets, 8 * sample.octets.len() as u32)?;
+    let mut behind = Bits::new(alloc);
+    for at in sample.at + sample.width..whole.len() {
+        behind.push(whole.get(at))?;
+    }
+    Ok(behind)
+}
+
+/// Whether the bits of some pieces are a string.
+fn is_string(plan: &Plan, pieces: &[Piece<'_>]) -> bool
+    requires within { AreWithin pieces.now }
+    requires few { bits_in pieces.now ≤ most_bits }
+    ensures { IsTrue result ↔ IsString plan.now (bits_of pieces.now) }
+{
+    judge_pieces(plan, pieces) == Judged::Ok
+}
+
+/// Whether the sample with a number in its field is a string.
+fn is_string_with(plan: &Plan, sample: &Sample, behind: &Bits, number: u64) -> bool
+    requires within { sample.now.at + sample.now.width ≤ 8 * length sample.now.octets.now }
+    requires short { length sample.now.octets.now ≤ 22 }
+    requires width { sample.now.width ≤ 64 }
+    requires behind { length behind.now ≤ 176 }
+    ensures { IsTrue result ↔ IsString plan.now (take sample.now.at (bits_of_octets sample.now.octets.now)
+        ++ take sample.now.width (bits_of_octets (to_be_bytes w64 number)) ++ behind.now) }
+{
+    let pieces = [
+        Piece {
+            octets: sample.octets,
+            bits: sample.at,
+        },
+        Piece {
+            octets: &number.to_be_bytes(),
+            bits: sample.width,
+        },
+        Piece {
+            octets: behind.octets(),
+            bits: behind.len(),
+        },
+    ];
+    is_string(plan, &pieces)
+}
+
+/// Whether the first bit of the sample is a string.
+fn is_string_cut(plan: &Plan, sample: &Sample) -> bool
+    requires { 0 < length sample.now.octets.now }
+    ensures { IsTrue result ↔ IsString plan.now (take 1 (bits_of_octets sample.now.octets.now)) }
+{
+    let pieces = [Piece {
+        octets: sample.octets,
+        bits: 1,
+    }];
+    is_string(plan, &pieces)
+}
+
+/// Whether the block with this number, counted from 0, is cut to its first bit.
+fn is_cut(k: u32) -> bool
+    ensures { result ≡ is_cut k }
+{
+    k % CUT_EVERY == CUT_EVERY - 1
+}
+
+/// How many bits the block with this number has.
+fn length_of(sample: &Sample, k: u32) -> u32
+    requires { length sample.now.octets.now ≤ 22 }
+    ensures { result ≡ (if is_cut k then 1 else 8 * length sample.now.octets.now) }
+{
+    if is_cut(k) {
+        1
+    } else {
+        8 * sample.octets.len() as u32
+    }
+}
+
+/// Whether the block with this number is a string, in whose field another number stands.
+fn is_block_string(plan: &Plan, sample: &Sample, behind: &Bits, k: u32, number: u64) -> bool
+    requires some { 0 < length sample.now.octets.now }
+    requires within { sample.now.at + sample.now.width ≤ 8 * length sample.now.octets.now }
+    requires short { length sample.now.octets.now ≤ 22 }
+    requires width { sample.now.width ≤ 64 }
+    requires behind { length behind.now ≤ 176 }
+    ensures { IsTrue result ↔ IsString plan.now (if is_cut k then take 1 (bits_of_octets sample.now.octets.now)
+        else (take sample.now.at (bits_of_octets sample.now.octets.now)
+        ++ take sample.now.width (bits_of_octets (to_be_bytes w64 number)) ++ behind.now)) }
+{
+    if is_cut(k) {
+        is_string_cut(plan, sample)
+    } else {
+        is_string_with(plan, sample, behind, number)
+    }
+}
+
+/// Judges so many blocks of the generator by the plan of an entry.
+pub fn soak(alloc: Global, plan: &Plan, entry: Entry, blocks: u32) -> Result<Soaked, NoMemory>
+    requires { blocks ≤ MOST_BLOCKS }
+    ensures { IfOk result (IsSoaked plan.now entry blocks) }
+{
+    let sample = sample_of(entry);
+    let Ok(behind) = behind_field(alloc, &sample) else {
+        return Err(NoMemory);
+    };
+    let mut soaked = Soaked {
+        ok: 0,
+        refused: 0,
+        bits: 0,
+    };
+    let mut number = 1;
+    for k in 0..blocks {
+        number = next(number);
+        let ok = is_block_string(plan, &sample, &behind, k, number);
+        soaked.add(ok, length_of(&sample, k));
+    }
+    Ok(soaked)
+}
