@@ -37,13 +37,14 @@ loop-octet-preserved c =
           let reached : set.contains c.reached-reached.result octet ≡ true = sym c.has.ensures ∙ w.if-has.true in
           subst (λ (cert : List NodeV). NodeSo look reach row i (octet + 1) old cert) (sym w.c-is)
           (node_has look reach row i octet old here w.add_position.new.c p c.loop-octet.invariant w.in_ok-add_position.ensures refl
-          (λ d known.
-          (((c.reached-reached.ensures d known.reached) octet (omega (arith, c.loop-octet-test.true))).0 reached,
-          record {
-            ends = ends_told d i octet w.digits_of-ends.result w.ends.result w.digits_of-ends.ensures (w.ends.ensures d known.sets);
-            start = w.start_digits-start.ensures.start d known.sets;
-            patterns = sym (get_or_from_slice_get row octet w.at.result.now [] w.at.ensures);
-          })))
+          (λ d known. (
+            ((c.reached-reached.ensures d known.reached) octet (omega (arith, c.loop-octet-test.true))).0 reached,
+            record {
+              ends = ends_told d i octet w.digits_of-ends.result w.ends.result w.digits_of-ends.ensures (w.ends.ensures d known.sets);
+              start = w.start_digits-start.ensures.start d known.sets;
+              patterns = sym (get_or_from_slice_get row octet w.at.result.now [] w.at.ensures);
+            },
+          )))
       | else-has w ↦
           subst (λ (cert : List NodeV). NodeSo look reach row i (octet + 1) old cert) (sym w.c-is)
           (node_skips look reach row i octet old here c.loop-octet.invariant
