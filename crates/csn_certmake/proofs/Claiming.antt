@@ -1,15 +1,10 @@
 -- What the claims of all nodes tell, and the patterns that the equations of nodes make.
-use Rattle.std.proofs.Common.{◌≡◌, ℕ, zero, suc, ◌+◌, ◌*◌, ◌%◌, ◌<◌, ◌≤◌, Bool, true, false, List, [], ◌∷◌, ◌++◌, length, map, flat_map, refl, sym, ap, ◌∙◌, subst, arith, slice_get, slice_index_or, Some, None, find}
-use Rattle.std.specs.Prelude.{Option, IsTrue, is_some, ◌==◌, ◌↔◌, Contains}
-use Rattle.csn_desc.specs.declared.reading.Reading.{Reading}
-use Rattle.csn_desc.specs.declared.node.Node.{Node}
-use Rattle.csn_desc.specs.declared.node.Node.TheVariants.{Lits, Spare, Pad, Null, Field, Rest, Seq, Choice, Times, Many, Trunc, Window, Named}
-use Rattle.csn_desc.specs.declared.node.Count.TheVariants.{Fixed, Counted}
-use Rattle.csn_desc.specs.Nodes.{DescV, parts_of}
+use Rattle.std.proofs.Common.{◌≡◌, ℕ, ◌<◌, ◌≤◌, List, [], length, refl, sym, subst, arith, slice_get, slice_index_or, Some, None}
+use Rattle.std.specs.Prelude.{Option, IsTrue, is_some, ◌↔◌}
+use Rattle.csn_desc.specs.Nodes.{DescV}
 use Rattle.csn_cert.specs.PatternV.{PatternV}
 use Rattle.csn_cert.specs.CertificateV.{NodeV, PositionV}
 use Rattle.csn_cert.specs.Growing.{claimed_of, claimed}
-use Rattle.csn_look.specs.declared.symbol_set.Sign.{Sign}
 use Rattle.csn_look.specs.Signs.{bit_of_sign}
 use Rattle.csn_look.specs.Nullable.{Nullable}
 use Rattle.csn_look.specs.Ends.{InEnds}
@@ -17,7 +12,7 @@ use Rattle.csn_look.specs.Starts.{InStart}
 use Rattle.csn_look.specs.Reached.{Reached, InFollow}
 use Rattle.csn_good.specs.ClaimedSets as claims
 use Rattle.csn_certmake.specs.Patterns.{patterns_in}
-use Rattle.csn_certmake.specs.Rows.{TellsPosition, TellsClaim, TellsNode}
+use Rattle.csn_certmake.specs.Rows.{TellsClaim, TellsNode}
 use Rattle.csn_certmake.specs.Claimed.{ClaimsNullable, ClaimsReached, ClaimsEnds, ClaimsStart, ClaimsFollow}
 
 claim_reached : (d : DescV) (row : List (List PatternV)) (i o : ℕ) (claim : Option PositionV) → TellsClaim d row i o claim → IsTrue (is_some claim) ↔ Reached d i o

@@ -10,3 +10,9 @@ mod Growing
 mod Telling
 mod Claiming
 mod Making
+mod Words
+mod Told
+mod Keyed
+mod Carried
+mod Apart
+mod KeepsRules

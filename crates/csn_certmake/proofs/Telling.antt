@@ -1,5 +1,5 @@
 -- The claims of one node, octet position by octet position.
-use Rattle.std.proofs.Common.{◌≡◌, ◌≢◌, ℕ, zero, suc, ◌+◌, ◌<◌, ◌≤◌, ⊎_elim, Bool, true, false, List, [], ◌∷◌, ◌++◌, length, refl, sym, ap, ◌∙◌, subst, arith, length-append, slice_get, get_or, slice_index_or, Some, None, IfSome, find}
+use Rattle.std.proofs.Common.{◌≡◌, ◌≢◌, ℕ, ◌+◌, ◌<◌, ◌≤◌, ⊎_elim, Bool, true, false, List, [], ◌∷◌, ◌++◌, length, refl, sym, ap, ◌∙◌, subst, arith, length-append, slice_get, get_or, slice_index_or, Some, None, IfSome, find}
 use Rattle.std.specs.Prelude.{Option, IsTrue, ◌==◌, ◌↔◌}
 use Rattle.std.specs.List.{AllByRecursion}
 use Rattle.std.proofs.lemmas.Bool.{cases_lt}
@@ -20,7 +20,7 @@ use Rattle.csn_look.specs.Nullable.{Nullable}
 use Rattle.csn_look.specs.Ends.{InEnds}
 use Rattle.csn_look.specs.Reached.{Reached, InFollow}
 use Rattle.csn_certmake.specs.Digits.{DigitsAre, SaysFollow}
-use Rattle.csn_certmake.specs.Rows.{IsKnown, TellsPosition, TellsClaim, TellsNode, AddsNode, TellsNodes}
+use Rattle.csn_certmake.specs.Rows.{IsKnown, TellsPosition, TellsClaim, TellsNode, AddsNode}
 use Rattle.csn_certmake.proofs.Growing.{last_push, at_last_push}
 
 -- ---- where a claim is found

@@ -1,10 +1,9 @@
 -- Digits that are written one by one.
-use Rattle.std.proofs.Common.{◌≡◌, ℕ, suc, ◌+◌, ◌-◌, ◌*◌, ◌/◌, ◌%◌, ◌<◌, ◌≤◌, ⊎_elim, Bool, true, false, refl, sym, ap, ◌∙◌, subst, arith}
+use Rattle.std.proofs.Common.{◌≡◌, ℕ, suc, ◌+◌, ◌-◌, ◌*◌, ◌/◌, ◌%◌, ◌<◌, ◌≤◌, ⊎_elim, Bool, true, false, sym, ap, ◌∙◌, subst, arith}
 use Rattle.std.specs.Prelude.{◌^◌, ◌==◌, ◌↔◌, Option, Some, None, IsTrue}
 use Rattle.std.proofs.Math.Nat.{pow-succ', div-div-eq-div-mul}
 use Rattle.std.proofs.Math.Pow.{pow_mono}
 use Rattle.std.proofs.lemmas.Bool.{cases_lt}
-use Rattle.csn_look.specs.declared.symbol_set.Sign.{Sign}
 use Rattle.csn_look.specs.declared.symbol_set.Sign.TheVariants.{Zero, One, End}
 use Rattle.csn_good.specs.Signs.{sign_of}
 use Rattle.csn_good.specs.ClaimedSets.{has_digit}

@@ -4,7 +4,7 @@ use Rattle.std.specs.Prelude.{◌≡◌, ℕ, ◌<◌, ◌≤◌, ◌↔◌, Lis
 use Rattle.csn_desc.specs.declared.node.Node.{Node}
 use Rattle.csn_desc.specs.Nodes.{DescV}
 use Rattle.csn_cert.specs.PatternV.{PatternV}
-use Rattle.csn_cert.specs.CertificateV.{NodeV}
+use Rattle.csn_cert.specs.CertificateV.{NodeV, IsCertificate}
 use Rattle.csn_claims.specs.Claims.{Claims}
 use Rattle.csn_look.specs.declared.symbol_set.Sign.{Sign}
 use Rattle.csn_look.specs.Signs.{bit_of_sign}
@@ -48,3 +48,14 @@ module _ (d : DescV) (c : List NodeV) where
   ClaimsPatterns =
       (i o : ℕ) (n : Node) (p : PatternV) → slice_get d.nodes i ≡ Some n → o ≤ 7 → Reached d i o
       → Contains (patterns_at c i o) p ↔ NodePatterns d.reading c n o p
+
+  -- the certificate claims of each node what look-ahead knows of it
+  pub record ClaimsLookAhead : Type 0 where
+    pub certificate : IsCertificate c
+    pub number : length c ≡ length d.nodes
+    pub nullable : ClaimsNullable
+    pub reached : ClaimsReached
+    pub ends : ClaimsEnds
+    pub start : ClaimsStart
+    pub follow : ClaimsFollow
+    pub patterns : ClaimsPatterns

@@ -2,3 +2,4 @@ pub mod Patterns
 pub mod Digits
 pub mod Rows
 pub mod Claimed
+pub mod Laws

@@ -3,6 +3,7 @@
 
 mod digits;
 mod joining;
+pub mod laws;
 mod make;
 mod marks;
 mod pattern_table;

@@ -4,12 +4,14 @@ ghost use Rattle.std.specs.Prelude.{◌≡◌, ◌<◌, ◌≤◌, length, slice
 ghost use Rattle.csn_desc.specs.Nodes.{DescV};
 ghost use Rattle.csn_desc.specs.declared.desc.TheConstants.{MOST_NODES};
 ghost use Rattle.csn_cert.specs.PatternText.{ComesBefore};
-ghost use Rattle.csn_cert.specs.CertificateV.{Rises};
+ghost use Rattle.csn_cert.specs.CertificateV.{Rises, IsCertificate};
+ghost use Rattle.csn_good.specs.Good.{Good};
 ghost use Rattle.csn_cert.specs.Growing.{with_position, last_position};
 ghost use Rattle.csn_certmake.specs.Rows.{IsInOrder, AddsNode, TellsNodes};
 ghost use Rattle.csn_certmake.specs.Claimed.{ClaimsNullable, ClaimsReached, ClaimsEnds, ClaimsStart, ClaimsFollow, ClaimsPatterns};
 
 use crate::digits::{digits_of, follow_digits, start_digits};
+use crate::laws::look_ahead_is_good;
 use crate::pattern_table::patterns_of;
 use crate::row::Row;
 use csn_bits::NoMemory;
@@ -28,7 +30,9 @@ pub fn make_certificate(alloc: Global, plan: Plan) -> Result<Certificate, NoMemo
     ensures start { IfOk result (ClaimsStart plan) }
     ensures follow { IfOk result (ClaimsFollow plan) }
     ensures patterns { IfOk result (ClaimsPatterns plan) }
+    ensures good { IfOk result (Good plan) }
 {
+    look_ahead_is_good();
     let desc = plan.into_desc();
     let look = Look::new(alloc, &desc)?;
     let reach = Reach::new(alloc, &desc, &look)?;
@@ -48,12 +52,15 @@ fn certificate_of(
     requires reached { length reach.now.reached ≡ length rows.now }
     requires follow { length reach.now.follow ≡ length rows.now }
     requires ordered { (i : ℕ) → i < length rows.now → IsInOrder (slice_index_or rows.now i []) }
-    ensures { IfOk result (TellsNodes look.now reach.now rows.now) }
+    ensures nodes { IfOk result (TellsNodes look.now reach.now rows.now) }
+    ensures well_formed { IfOk result IsCertificate }
 {
     let mut c = Certificate::new(alloc);
     for node in 0..rows.len() {
         add_node(&mut c, look, reach, &rows[node], node as u16)?;
     }
+    // its length tells that it is well formed
+    let _count = c.len();
     Ok(c)
 }
 

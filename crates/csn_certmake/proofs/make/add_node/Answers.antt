@@ -1,15 +1,11 @@
-use Rattle.std.proofs.Common.{◌≡◌, ◌+◌, ℕ, [], List, Bool, refl, sym, ap, ◌∙◌, subst, arith, true, false}
-use Rattle.std.specs.Prelude.{IsTrue}
+use Rattle.std.proofs.Common.{◌≡◌, ◌+◌, [], List, refl, sym, ◌∙◌, subst, arith, true, false}
 use Rattle.std.proofs.lemmas.Option.{get_or_from_slice_get}
 use Rattle.std.specs.FinSet as set
-use Rattle.csn_desc.specs.Nodes.{DescV}
 use Rattle.csn_cert.specs.PatternV.{PatternV}
 use Rattle.csn_cert.specs.PatternText.{ComesBefore}
 use Rattle.csn_cert.specs.CertificateV.{NodeV, PositionV, Rises}
-use Rattle.csn_look.specs.Reached.{Reached}
 use Rattle.csn_certmake.specs.Patterns.{patterns_in}
-use Rattle.csn_certmake.specs.Rows.{IsKnown, TellsPosition}
-use Rattle.csn_certmake.proofs.Telling.{NodeSo, node_begun, node_there, position_below, node_skips, node_has, node_whole, ends_told}
+use Rattle.csn_certmake.proofs.Telling.{NodeSo, position_below, node_skips, node_has, ends_told}
 use Rattle.csn_certmake.proofs.make.add_node.Goals as goal
 use Rattle.csn_certmake.proofs.make.add_node.Goals.{then-has+in_ok-add_position, else-has}
 

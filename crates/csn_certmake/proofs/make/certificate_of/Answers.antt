@@ -1,4 +1,4 @@
-use Rattle.std.proofs.Common.{◌≡◌, ◌+◌, ◌++◌, ◌∷◌, [], length, ap, ◌∙◌, length-append, arith}
+use Rattle.std.proofs.Common.{◌+◌, ◌∷◌, [], length, ap, ◌∙◌, length-append, arith}
 use Rattle.csn_certmake.proofs.Rows.{row_read}
 use Rattle.csn_certmake.proofs.Telling.{nodes_more}
 use Rattle.csn_certmake.proofs.make.certificate_of.Goals as goal
