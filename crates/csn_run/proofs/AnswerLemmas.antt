@@ -1,6 +1,7 @@
 -- Texts of answers, behind what was written before.
 use Rattle.std.proofs.Common.{◌≡◌, ℕ, ◌+◌, ◌<◌, List, [], ◌∷◌, ◌++◌, length, take, Some, slice_get, refl, sym, ◌∙◌, ap, append_assoc, arith}
 use Rattle.std.proofs.lemmas.List.{flat_map_more}
+use Rattle.std.proofs.Math.Seq.{take-append_seam}
 use Rattle.std.specs.Fmt.{decimal}
 use Rattle.csn_resolve.proofs.Basics.Parts.{take_next}
 use Rattle.csn_run.specs.OutLine.{steps_text, path_text}
@@ -21,3 +22,8 @@ step_written old here between new path at step is so_far sign number =
 pub path_of_steps : (path : List ℕ) → 0 < length path → steps_text path ≡ path_text path
 path_of_steps [] some = absurd (omega (arith, some))
 path_of_steps (step ∷ steps) some = refl
+
+-- a text that is cut where another began behind it
+pub cut_back : (old between new tail : List ℕ) (n : ℕ) → between ≡ old ++ tail → new ≡ take n between → n ≡ length old → new ≡ old
+cut_back old between new tail n behind cut place =
+    cut ∙ ap (take n) behind ∙ ap (λ k. take k (old ++ tail)) place ∙ take-append_seam old tail

@@ -19,7 +19,6 @@ pub mod JobAnswers
 pub mod ResultExists
 pub mod OneResult
 pub mod MeantParts
-pub mod TreesFit
 pub mod ShownLines
 pub mod JoinedLines
 pub mod WrittenLines

@@ -14,9 +14,9 @@ use Rattle.csn_decode.specs.declared.verdict.DecodeFault.{DecodeFault}
 use Rattle.csn_decode.specs.declared.verdict.DecodeFault.TheVariants.{Refused as refused_at, NoMemory as no_memory}
 use Rattle.csn_desc.specs.Formed.{IsDescription}
 use Rattle.csn_treetext.specs.Fits.{Fits}
+use Rattle.csn_movetext.specs.Laws.{TreesFit}
 use Rattle.csn_run.specs.Lines.{is_refusal}
 use Rattle.csn_run.specs.OutLine.{fault_text, IsRefusalOf}
-use Rattle.csn_run.proofs.TreesFit.{tree_fits}
 
 each_refuses : (why : LineWhy) → true ≡ is_refusal (fault_text (fault_for why))
 each_refuses (BadDigit column) = refl
@@ -56,6 +56,8 @@ module _ (plan : DescV) (bits : List ℕ) (d : DecoderV) (same : d.desc ≡ plan
   fed_refusal followed new b more place e is = refusal_of (b ++ more) place e is.place_is (λ t h. is.not_followed (followed d.desc 0 0 [] (b ++ more) t h))
 
 -- the tree of a block by a description fits
-pub ended_fits : (plan : DescV) (bits : List ℕ) → IsDescription plan → (r : Result TreeV DecodeFault) → IfOk r (NMeans plan 0 0 [] bits) → IfOk r Fits
-ended_fits plan bits is (Ok tree) h = tree_fits plan is bits tree h
-ended_fits plan bits is (Err fault) h = tt
+pub ended_fits :
+    TreesFit → (plan : DescV) (bits : List ℕ) → IsDescription plan → (r : Result TreeV DecodeFault) → IfOk r (NMeans plan 0 0 [] bits)
+    → IfOk r Fits
+ended_fits fit plan bits is (Ok tree) h = fit plan bits tree is h
+ended_fits fit plan bits is (Err fault) h = tt

@@ -20,7 +20,6 @@ use Rattle.csn_run.specs.Compiled.{IsCompiled}
 use Rattle.csn_run.specs.OutLine.{IsShown, ShowsBlock, ShowsLine, shows_block, shows_tree, shows_place, shows_fault, fault_text, refusal_text}
 use Rattle.csn_run.proofs.FormLemmas.{shown_text, one_shown_text}
 use Rattle.csn_run.proofs.MeantParts.{string_parts}
-use Rattle.csn_run.proofs.TreesFit.{tree_fits}
 
 module _ (known : Known) (text : List ℕ) (rules : RulesV) (name : List ℕ) (reading : Reading) (d : DescV) (is : IsCompiled text name reading rules d) where
   pub shaped : AreShaped rules
@@ -46,7 +45,7 @@ module _ (known : Known) (text : List ℕ) (rules : RulesV) (name : List ℕ) (r
   -- the tree of a block has a text in each form
   tree_text : (form : TreeForm) (b : List ℕ) (t : TreeV) → length b ≤ 524288 → Strings rules name reading b t → (written : List ℕ) × IsShown form t written
   tree_text form b t few h =
-      shown_text form t (tree_fits d description b t (meant_by b t h))
+      shown_text form t (known.of_blocks.fit d b t description (meant_by b t h))
       (string_parts rules reading (known.of_texts.labelled text rules is.has_rules) known.of_blocks.are_bits name b t h few)
 
   pub no_block : (line block : List ℕ) (fault : BitsFault) → IsLineFault line fault → BlockLine line block → ⊥

@@ -7,6 +7,7 @@ use Rattle.csn_certify.specs.Laws.{BlocksHaveOneTree, CertifiedHasNoConflict, Fi
 use Rattle.csn_encode.specs.Laws.{FirstMisfitIsOne, MisfitsHaveNoBits, OneBlock, TreesFitOrMiss}
 use Rattle.csn_segment.specs.Laws.{MessagesAreShort}
 use Rattle.csn_treetext.specs.Laws as texts
+use Rattle.csn_movetext.specs.Laws.{TreesFit}
 use Rattle.csn_json.specs.Laws as json
 
 -- of block lines
@@ -39,6 +40,7 @@ pub record KnownOfBlocks : Type 0 where
   pub decided : MeaningIsDecided
   pub some_place : BlocksHaveAPlace
   pub one_tree : BlocksHaveOneTree
+  pub fit : TreesFit
 
 -- of the texts of trees
 pub record KnownOfTrees : Type 0 where

@@ -9,15 +9,15 @@ ghost use Rattle.csn_run.specs.OutLine.{AnswersBy, by_plan};
 use crate::command::RuleCommand;
 use crate::lines::{Answered, LINE_FEED, LineCommand};
 use crate::show::show_line;
+use crate::text_plan::TextPlan;
 use crate::write::write_line;
-use csn_certify::Plan;
 use std::alloc::{AllocError, Global};
 
 /// Answers a line by the plan of a rule.
 fn line_by_plan(
     alloc: Global,
     command: RuleCommand,
-    plan: &Plan,
+    plan: &TextPlan,
     line: &[u8],
     out: &mut Vec<u8>,
 ) -> Result<Answered, AllocError>
@@ -28,7 +28,7 @@ fn line_by_plan(
 {
     match command {
         RuleCommand::Show(form) => show_line(alloc, plan, form, line, out),
-        RuleCommand::Write(form) => write_line(alloc, plan, form, line, out),
+        RuleCommand::Write(form) => write_line(alloc, plan.plan(), form, line, out),
     }
 }
 
@@ -36,7 +36,7 @@ fn line_by_plan(
 #[derive(Drop)]
 pub struct ByPlan<'a> {
     pub command: RuleCommand,
-    pub plan: &'a Plan,
+    pub plan: &'a TextPlan,
 }
 
 impl LineCommand for ByPlan<'_> {

@@ -6,6 +6,7 @@ ghost use Rattle.csn_run.specs.Compiled.{IsCompiled, IsReason, Tells, certified_
 
 use crate::answers::push_numbers;
 use crate::ended::Ended;
+use crate::text_plan::TextPlan;
 use csn_certify::{CertifyFault, Conflict, Plan, certify};
 use csn_desc::Reading;
 use csn_grammar::{GrammarFault, read_rules};
@@ -28,8 +29,8 @@ pub enum NoPlan {
     Plan(CertifyFault),
 }
 
-/// The plan of a named rule of a text.
-pub fn compile(alloc: Global, text: &[u8], name: &[u8], reading: Reading) -> Result<Plan, NoPlan>
+/// The certified description of a named rule of a text.
+fn certified(alloc: Global, text: &[u8], name: &[u8], reading: Reading) -> Result<Plan, NoPlan>
     requires fits { length text.now ≤ MOST_DESCRIPTION }
     ensures plan { IfOk result (λ plan. (rules : RulesV) × IsCompiled text.now name.now reading rules plan) }
     ensures none { IfErr result (IsReason text.now name.now reading) }
@@ -45,6 +46,27 @@ pub fn compile(alloc: Global, text: &[u8], name: &[u8], reading: Reading) -> Res
     match certify(alloc, desc) {
         Ok(plan) => Ok(plan),
         Err(fault) => Err(NoPlan::Plan(fault)),
+    }
+}
+
+/// The plan of a named rule of a text, with the openings of its nodes.
+pub fn compile(
+    alloc: Global,
+    text: &[u8],
+    name: &[u8],
+    reading: Reading,
+) -> Result<TextPlan, NoPlan>
+    requires fits { length text.now ≤ MOST_DESCRIPTION }
+    ensures plan { IfOk result (λ plan. (rules : RulesV) × IsCompiled text.now name.now reading rules plan) }
+    ensures none { IfErr result (IsReason text.now name.now reading) }
+{
+    let plan = match certified(alloc, text, name, reading) {
+        Ok(plan) => plan,
+        Err(reason) => return Err(reason),
+    };
+    match TextPlan::new(alloc, plan) {
+        Ok(made) => Ok(made),
+        Err(_) => Err(NoPlan::Plan(CertifyFault::NoMemory)),
     }
 }
 
@@ -118,10 +140,10 @@ pub fn push_reason(reason: &NoPlan, out: &mut Vec<u8>) -> Result<Ended, AllocErr
 }
 
 /// Writes the line that tells how many nodes a certified description has, without a line feed.
-pub fn push_certified(plan: &Plan, out: &mut Vec<u8>) -> Result<Ended, AllocError>
+pub fn push_certified(plan: &TextPlan, out: &mut Vec<u8>) -> Result<Ended, AllocError>
     ensures ok { IfOk result (λ ended. (ended ≡ Ended.Done) × (out.new.items ≡ out.old.items ++ certified_line plan.now)) }
 {
     out.extend_from_slice(b"certified")?;
-    push_numbers(&[plan.len() as u32], out)?;
+    push_numbers(&[plan.plan().len() as u32], out)?;
     Ok(Ended::Done)
 }

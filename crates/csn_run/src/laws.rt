@@ -31,6 +31,7 @@ pub(crate) fn known()
     csn_treetext::laws::texts_are_decided();
     csn_treetext::laws::texts_are_of_one_tree();
     csn_treetext::laws::versions_share_trees();
+    csn_movetext::laws::trees_have_texts();
     csn_json::laws::texts_are_decided();
     csn_json::laws::texts_have_one_tree();
     csn_json::laws::trees_are_not_refused();

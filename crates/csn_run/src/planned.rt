@@ -17,8 +17,8 @@ use crate::compile::{MOST_DESCRIPTION, NoPlan, compile, push_certified, push_rea
 use crate::ended::Ended;
 use crate::fault::Fault;
 use crate::lines::LINE_FEED;
+use crate::text_plan::TextPlan;
 use csn_catalogue::{Entry, root_of};
-use csn_certify::Plan;
 use csn_desc::Reading;
 use csn_io::{Shelf, ShelfFault};
 use std::alloc::{AllocError, Global};
@@ -58,7 +58,7 @@ pub fn plan_of<B: Shelf>(
     alloc: Global,
     shelf: &mut B,
     rule: RuleWords<'_>,
-) -> Result<Plan, Unplanned>
+) -> Result<TextPlan, Unplanned>
     ensures plan { IfOk result (IsPlanned (B.files shelf.old) rule.entry) }
     ensures none { IfErr result (IsWhy (B.files shelf.old) rule.entry) }
     ensures read { result ≡ Err (Unplanned.File Fault.Read)
@@ -79,7 +79,7 @@ pub fn plan_of<B: Shelf>(
 }
 
 /// The plan of the rule of the catalogue that describes the blocks of an entry.
-pub fn plan_of_entry(alloc: Global, entry: Entry, reading: Reading) -> Result<Plan, NoPlan>
+pub fn plan_of_entry(alloc: Global, entry: Entry, reading: Reading) -> Result<TextPlan, NoPlan>
     ensures plan { IfOk result (λ plan. (rules : RulesV) × IsCompiled catalogue_text (entry_root entry) reading rules plan) }
     ensures none { IfErr result (IsReason catalogue_text (entry_root entry) reading) }
     ensures fits { length catalogue_text ≤ MOST_DESCRIPTION }
@@ -116,7 +116,7 @@ pub fn refuse(why: Unplanned, pending: &mut Vec<u8>) -> Result<Ended, Fault>
 }
 
 /// Writes the line that tells of a certified description.
-pub fn tell_certified(plan: &Plan, pending: &mut Vec<u8>) -> Result<Ended, Fault>
+pub fn tell_certified(plan: &TextPlan, pending: &mut Vec<u8>) -> Result<Ended, Fault>
     requires { pending.old.items ≡ [] }
     ensures ok { IfOk result (λ ended. (ended ≡ Ended.Done) × (pending.new.items ≡ certified_line plan.now ++ LINE_FEED ∷ [])) }
     ensures err { IfErr result (λ fault. (fault ≡ Fault.Memory) × (pending.new.items ≡ [])) }

@@ -6,11 +6,10 @@ ghost use Rattle.csn_run.specs.Lines.{is_refusal, is_refused};
 ghost use Rattle.csn_run.specs.OutLine.{AnswersJoinedBy, JoinsLine, joining, segment_fault};
 
 use crate::answers::push_number;
-use crate::command::TreeForm;
 use crate::lines::{Answered, LINE_FEED, LineCommand};
-use crate::show::{answer_fault, show_block};
+use crate::show::{answer_fault, show_text};
+use crate::text_plan::TextPlan;
 use csn_bits::Bits;
-use csn_certify::Plan;
 use csn_segment::{Joined, Joiner, SegmentWhy};
 use std::alloc::{AllocError, Global};
 
@@ -18,7 +17,7 @@ use std::alloc::{AllocError, Global};
 #[derive(Drop)]
 pub struct Segments<'a> {
     pub joiner: Joiner,
-    pub plan: &'a Plan,
+    pub plan: &'a TextPlan,
 }
 
 /// How many bits an octet has.
@@ -40,7 +39,7 @@ fn fault_number(why: SegmentWhy) -> u32
 /// Answers a block by what the joiner gives for it.
 fn answer_joined(
     alloc: Global,
-    plan: &Plan,
+    plan: &TextPlan,
     joined: &Joined,
     out: &mut Vec<u8>,
 ) -> Result<Answered, AllocError>
@@ -54,7 +53,7 @@ fn answer_joined(
             let Ok(bits) = Bits::from_octets(alloc, octets, OCTET * octets.len() as u32) else {
                 return Err(AllocError);
             };
-            show_block(alloc, plan, TreeForm::Text, &bits, out)
+            show_text(plan, &bits, out)
         }
         Joined::Waiting { rti } => {
             out.extend_from_slice(b"wait ")?;
@@ -73,7 +72,7 @@ fn answer_joined(
 fn segments_line(
     alloc: Global,
     joiner: &mut Joiner,
-    plan: &Plan,
+    plan: &TextPlan,
     line: &[u8],
     out: &mut Vec<u8>,
 ) -> Result<Answered, AllocError>

@@ -12,10 +12,12 @@ use crate::answers::{answer_tree, push_number};
 use crate::command::TreeForm;
 use crate::laws::known;
 use crate::lines::Answered;
+use crate::text_plan::TextPlan;
 use csn_bits::{Bits, BitsFault};
 use csn_certify::{Plan, Steps};
 use csn_decode::{DecodeFault, Decoder, Fed};
 use csn_desc::Tree;
+use csn_movetext::BlockFault;
 use std::alloc::{AllocError, Global};
 use std::marker::Brand;
 use std::sync::ledger::{Blank, Ledger};
@@ -42,6 +44,17 @@ fn answer_no_tree(fault: DecodeFault, bits: &Bits, out: &mut Vec<u8>) -> Result<
     match fault {
         DecodeFault::Refused { place } => answer_refusal(place, bits, out),
         DecodeFault::NoMemory => Err(AllocError),
+    }
+}
+
+/// Writes the answer to a block whose tree has no text, since there is none.
+fn answer_no_text(fault: BlockFault, bits: &Bits, out: &mut Vec<u8>) -> Result<(), AllocError>
+    ensures ok { OnOk result ((place : ℕ) × (fault ≡ BlockFault.Refused place) × (out.new.items ≡ out.old.items ++ refusal_text place bits.now)) }
+    ensures err { OnErr result ((tail : List ℕ) × (out.new.items ≡ out.old.items ++ tail)) }
+{
+    match fault {
+        BlockFault::Refused { place } => answer_refusal(place, bits, out),
+        BlockFault::NoMemory => Err(AllocError),
     }
 }
 
@@ -79,6 +92,7 @@ fn decode<L: Ledger>(
     ensures refused { IfErr result (IsRefusalOf plan.now bits.now) }
 {
     csn_desc::laws::strings_are_followed();
+    csn_movetext::laws::trees_have_texts();
     // its length tells that it is that of a description
     let _count = plan.len();
     let mut steps = Steps::<L>::new(blank);
@@ -90,22 +104,41 @@ fn decode<L: Ledger>(
     }
 }
 
-/// Answers a block by its tree, in a form.
-pub fn show_block(
+/// Answers a block by the text of its tree, which is written behind `ok ` as the block is judged, and cut back where the
+/// block is refused.
+pub fn show_text(plan: &TextPlan, bits: &Bits, out: &mut Vec<u8>) -> Result<Answered, AllocError>
+    ensures ok { IfOk result (λ answered. (answer : List ℕ) × (out.new.items ≡ out.old.items ++ answer)
+        × ShowsBlockBy TreeForm.Text plan.now bits.now answer × (is_refused answered ≡ is_refusal answer)) }
+    ensures err { OnErr result ((tail : List ℕ) × (out.new.items ≡ out.old.items ++ tail)) }
+{
+    known();
+    let start = out.len();
+    out.extend_from_slice(b"ok ")?;
+    match plan.write(bits, out) {
+        Ok(()) => Ok(Answered::Given),
+        Err(fault) => {
+            out.truncate(start);
+            answer_no_text(fault, bits, out)?;
+            Ok(Answered::Refused)
+        }
+    }
+}
+
+/// Answers a block by its tree as JSON.
+fn show_json(
     alloc: Global,
     plan: &Plan,
-    form: TreeForm,
     bits: &Bits,
     out: &mut Vec<u8>,
 ) -> Result<Answered, AllocError>
     ensures ok { IfOk result (λ answered. (answer : List ℕ) × (out.new.items ≡ out.old.items ++ answer)
-        × ShowsBlockBy form plan.now bits.now answer × (is_refused answered ≡ is_refusal answer)) }
+        × ShowsBlockBy TreeForm.Json plan.now bits.now answer × (is_refused answered ≡ is_refusal answer)) }
     ensures err { OnErr result ((tail : List ℕ) × (out.new.items ≡ out.old.items ++ tail)) }
 {
     known();
     match decode::<Brand>(alloc, plan, bits, Blank::new(1)) {
         Ok(tree) => {
-            answer_tree(alloc, form, &tree, out)?;
+            answer_tree(alloc, TreeForm::Json, &tree, out)?;
             Ok(Answered::Given)
         }
         Err(fault) => {
@@ -118,7 +151,7 @@ pub fn show_block(
 /// Answers a line by the tree of its block, in a form.
 pub fn show_line(
     alloc: Global,
-    plan: &Plan,
+    plan: &TextPlan,
     form: TreeForm,
     line: &[u8],
     out: &mut Vec<u8>,
@@ -135,5 +168,8 @@ pub fn show_line(
             return Ok(Answered::Refused);
         }
     };
-    show_block(alloc, plan, form, &bits, out)
+    match form {
+        TreeForm::Text => show_text(plan, &bits, out),
+        TreeForm::Json => show_json(alloc, plan.plan(), &bits, out),
+    }
 }

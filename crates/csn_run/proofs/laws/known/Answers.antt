@@ -27,6 +27,7 @@ returns c =
         decided = c.following_is_decided.ensures.meant;
         some_place = c.blocks_have_one_place.ensures.some;
         one_tree = c.blocks_have_one_tree.ensures;
+        fit = c.trees_have_texts.ensures.fits;
       };
       of_trees = record {
         decided = c.texts_are_decided-2.ensures.decided;

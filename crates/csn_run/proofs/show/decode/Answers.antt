@@ -20,4 +20,4 @@ returns-in-Refused-clause-refused g c =
 pub returns-in-Going-clause-fits : goal.returns-in-Going-clause-fits
 returns-in-Going-clause-fits g c =
     let fed = c.in-Going.ensures.decodes _ c.new-decoder.ensures.decodes in
-    ended_fits c.args.plan.now c.args.bits.now c.len-count.ensures.description _ (ended_tree c.args.plan.now c.args.bits.now _ (c.in-Going.ensures.desc ∙ c.new-decoder.ensures.desc) _ _ (rw c.len.ensures.count c.octets.ensures.bits) fed.decodes c.finish.ensures.ends)
+    ended_fits c.trees_have_texts.ensures.fits c.args.plan.now c.args.bits.now c.len-count.ensures.description _ (ended_tree c.args.plan.now c.args.bits.now _ (c.in-Going.ensures.desc ∙ c.new-decoder.ensures.desc) _ _ (rw c.len.ensures.count c.octets.ensures.bits) fed.decodes c.finish.ensures.ends)

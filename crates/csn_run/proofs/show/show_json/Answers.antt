@@ -2,7 +2,7 @@ use Rattle.std.proofs.Common.{◌++◌, codes, refl, subst}
 use Rattle.csn_decode.specs.declared.verdict.DecodeFault.{DecodeFault}
 use Rattle.csn_run.specs.OutLine.{refusal_text, IsRefusalOf, shows_tree, shows_place}
 use Rattle.csn_run.proofs.ShownLines.{string_of, meant_by, place_of}
-use Rattle.csn_run.proofs.show.show_block.Goals as goal
+use Rattle.csn_run.proofs.show.show_json.Goals as goal
 
 pub answer_tree-requires : goal.answer_tree-requires
 answer_tree-requires c = c.in-Ok.ensures.fits

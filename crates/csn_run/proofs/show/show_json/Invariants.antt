@@ -1,4 +1,4 @@
-use Rattle.csn_run.proofs.show.show_block.Given as goal
+use Rattle.csn_run.proofs.show.show_json.Given as goal
 
 -- the steps are counted on a ledger of their own
 abbrev pub ghosts-decode : goal.ghosts-decode

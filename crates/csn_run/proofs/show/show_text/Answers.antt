@@ -1,0 +1,30 @@
+use Rattle.std.proofs.Common.{◌≡◌, ◌++◌, ◌∙◌, codes, length, refl, ap, subst, append_assoc, arith}
+use Rattle.csn_movetext.specs.declared.fault.BlockFault.{BlockFault}
+use Rattle.csn_movetext.specs.Blocks.{IsFaultOf}
+use Rattle.csn_run.specs.OutLine.{refusal_text, shows_tree, shows_place}
+use Rattle.csn_run.proofs.AnswerLemmas.{cut_back}
+use Rattle.csn_run.proofs.ShownLines.{string_of, meant_by, place_of}
+use Rattle.csn_run.proofs.show.show_text.Goals as goal
+
+pub returns-in-Ok-clause-ok : goal.returns-in-Ok-clause-ok
+returns-in-Ok-clause-ok c =
+    let added = c.in-Ok.ensures.text in (
+      codes "ok " ++ added.0,
+      added.1 ∙ ap (λ l. l ++ added.0) c.in_ok-extend_from_slice.ensures.items ∙ append_assoc _ (codes "ok ") added.0,
+      λ file rules name reading is. shows_tree added.2.tree added.0 (string_of c.known.ensures file rules name reading _ is _ _ added.2.means) added.2.spelled refl,
+      refl,
+    )
+
+pub returns-in_ok-answer_no_text-in-Err-clause-ok : goal.returns-in_ok-answer_no_text-in-Err-clause-ok
+returns-in_ok-answer_no_text-in-Err-clause-ok c =
+    let told = c.in_ok-answer_no_text-in-Err.ensures.ok in
+    let start : c.len-start.result ≡ length c.args.out.now.items = omega (arith, c.len-start.ensures, c.args.out.now.ok) in
+    let same : c.truncate.new.self.items ≡ c.args.out.now.items =
+    cut_back _ _ _ (codes "ok ") _ (c.in-Err.ensures.same ∙ c.in_ok-extend_from_slice.ensures.items) c.truncate.ensures.items start in
+    let P : BlockFault → Type 0 = λ f. IsFaultOf c.args.plan.now c.args.bits.now f in
+    let refusal = subst P told.1 c.in-Err.ensures.why in (
+      refusal_text told.0 c.args.bits.now,
+      told.2 ∙ ap (λ l. l ++ refusal_text told.0 c.args.bits.now) same,
+      λ file rules name reading is. shows_place told.0 (λ t string. refusal.no_tree t (meant_by c.known.ensures file rules name reading _ is _ t string)) (place_of c.known.ensures file rules name reading _ is _ _ refusal.place_is) refl,
+      refl,
+    )
