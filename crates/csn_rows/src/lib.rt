@@ -20,6 +20,8 @@ mod segmented;
 #[cfg(test)]
 mod shown;
 #[cfg(test)]
+mod soaked;
+#[cfg(test)]
 mod tests;
 #[cfg(test)]
 mod written;

@@ -2,9 +2,10 @@
 use Rattle.std.proofs.Common.{◌≡◌, ◌↔◌, inl, ℕ, List, [], ◌∷◌, Option, None, IsSome, subst}
 use Rattle.csn_desc.specs.declared.reading.Reading.{Reading}
 use Rattle.csn_run.specs.declared.command.RuleCommand.{RuleCommand}
-use Rattle.csn_run.specs.Command.{IsCommand, IsOverRule, IsAnswer, IsMigrate, NamesFile, ReadsLines}
+use Rattle.csn_catalogue.specs.declared.entry.Entry.{Entry}
+use Rattle.csn_run.specs.Command.{IsCommand, IsOverRule, IsAnswer, IsMigrate, IsSoak, NamesFile, ReadsLines, leaves_check, leaves_soak}
 use Rattle.csn_run.specs.declared.command.Command.{Command}
-use Rattle.csn_run.proofs.OneResult.{one_rule, over, not_both, not_migrate, not_two}
+use Rattle.csn_run.proofs.OneResult.{one_rule, over, answers, not_both, not_migrate, migrate_not_three, not_two, not_three, two_not_three}
 
 -- words that no command stands for are no row
 pub no_row : (words : List (List ℕ)) (command : Option Command) → (IsSome command ↔ IsCommand words) → command ≡ None → IsCommand words → ⊥
@@ -15,17 +16,24 @@ pub one_file : {words : List (List ℕ)} {file name : List ℕ} {reading : Readi
 one_file row other names = (one_rule (over row).row (over names.2).row).file_is
 
 pub answer_reads : {words : List (List ℕ)} {file name : List ℕ} {reading : Reading} (command : RuleCommand) → IsAnswer command words file name reading → ReadsLines words
-answer_reads command row file name reading check = not_both command check row
+answer_reads command row (leaves_check file name reading check) = not_both command check row
+answer_reads command row (leaves_soak entry n soak) = not_three (answers command row) soak.words_are
 
 pub migrate_reads : {words : List (List ℕ)} → IsMigrate words → ReadsLines words
-migrate_reads is file name reading check = not_migrate (over (inl check)) is
+migrate_reads is (leaves_check file name reading check) = not_migrate (over (inl check)) is
+migrate_reads is (leaves_soak entry n soak) = migrate_not_three is soak.words_are
 
 pub migrate_names : {words : List (List ℕ)} → IsMigrate words → (file : List ℕ) → NamesFile words file → ⊥
 migrate_names is file names = not_migrate (over names.2) is
 
 -- words of two read lines, and name no file
 pub two_read : {words : List (List ℕ)} {first second : List ℕ} → words ≡ first ∷ second ∷ [] → ReadsLines words
-two_read is file name reading check = not_two (over (inl check)) is
+two_read is (leaves_check file name reading check) = not_two (over (inl check)) is
+two_read is (leaves_soak entry n soak) = two_not_three is soak.words_are
 
 pub two_name : {words : List (List ℕ)} {first second : List ℕ} → words ≡ first ∷ second ∷ [] → (file : List ℕ) → NamesFile words file → ⊥
 two_name is file names = not_two (over names.2) is
+
+-- and neither do words of three
+pub soak_names : {words : List (List ℕ)} {entry : Entry} {n : ℕ} → IsSoak words entry n → (file : List ℕ) → NamesFile words file → ⊥
+soak_names is file names = not_three (over names.2) is.words_are

@@ -3,6 +3,7 @@ use Rattle.std.proofs.Common.{◌≡◌, ℕ, ◌+◌, ◌<◌, ◌≤◌, ◌�
 use Rattle.std.specs.List.{AllByRecursion}
 use Rattle.std.specs.Option.{option_map}
 use Rattle.std.proofs.lemmas.List.{length-take, take_all}
+use Rattle.csn_catalogue.specs.declared.entry.Entry.{Entry}
 use Rattle.csn_catalogue.specs.declared.entry.Entry.TheVariants.{Downlink}
 use Rattle.csn_catalogue.specs.Entries.{entry_root}
 use Rattle.csn_catalogue.specs.Text.{catalogue_text}
@@ -10,6 +11,9 @@ use Rattle.csn_replay.specs.Watched.{reports}
 use Rattle.csn_segment.specs.Joining.{JoinsFor}
 use Rattle.csn_run.specs.OutLine.{Segments, Joins}
 use Rattle.csn_desc.specs.declared.reading.Reading.{Reading}
+use Rattle.csn_desc.specs.declared.reading.Reading.TheVariants.{Sent}
+use Rattle.csn_soak.specs.declared.soaking.Soaked.{Soaked}
+use Rattle.csn_soak.specs.Soaking.{IsSoaked}
 use Rattle.csn_desc.specs.Nodes.{DescV}
 use Rattle.csn_grammar.specs.declared.fault.GrammarFault.TheVariants.{Syntax, NoMemory as no_memory_for_rules}
 use Rattle.csn_resolve.specs.declared.fault.ResolveFault.{ResolveFault}
@@ -33,12 +37,12 @@ use Rattle.csn_run.specs.declared.planned.Unplanned.TheVariants.{File, Text}
 use Rattle.csn_run.specs.LineState.{LineState, Kept, closing, closing_of}
 use Rattle.csn_run.specs.Progress.{AnswersAll, Stops}
 use Rattle.csn_run.specs.declared.command.RuleCommand.{RuleCommand}
-use Rattle.csn_run.specs.Command.{IsCheck, IsAnswer, IsMigrate, IsSegments, IsOverRule}
-use Rattle.csn_run.specs.Compiled.{RuleOf, rule_of_entry, IsCompiled, HasNoPlan, no_rules, rules_refused, not_certified, IsReason, Tells, certified_line}
+use Rattle.csn_run.specs.Command.{IsCheck, IsAnswer, IsMigrate, IsSegments, IsSoak, IsOverRule, over_downlink, over_soaked, leaves_check, leaves_soak}
+use Rattle.csn_run.specs.Compiled.{RuleOf, rule_of_entry, IsCompiled, HasNoPlan, no_rules, rules_refused, not_certified, IsReason, Tells, certified_line, soaked_line}
 use Rattle.csn_run.specs.Planned.{IsPlanned, IsWhy, Refuses}
 use Rattle.csn_run.specs.Job.{IsDescription, IsBeforeLines, Asked, EndedBefore, JobEnds, unread, before_lines, all_lines, some_lines}
 use Rattle.csn_run.proofs.Following.{Follows, all_follow, stops_follow}
-use Rattle.csn_run.specs.Result.{LineJob, by_rule, migrating, Steps, beginning, segmenting, asks_by_rule, asks_migrate, asks_segments, HasJob, Compiles, of_file, of_catalogue, long_text, no_plan, no_job, checked, end_of}
+use Rattle.csn_run.specs.Result.{LineJob, by_rule, migrating, Steps, beginning, segmenting, asks_by_rule, asks_migrate, asks_segments, HasJob, Compiles, of_file, of_catalogue, long_text, no_plan, no_job, checked, soaked, end_of}
 
 -- ---- what the words ask for over told files
 
@@ -81,7 +85,7 @@ pub ended_checked :
     (words : List (List ℕ)) (files : Option (List ℕ → Option (List ℕ))) (rule : RuleWords) (d : DescV)
     → IsCheck words rule.file.now rule.name.now rule.reading → IsPlanned files rule d
     → EndedBefore words files (certified_line d ++ 10 ∷ []) Done
-ended_checked words None rule d row is = inr (refl, λ reads. reads rule.file.now rule.name.now rule.reading row)
+ended_checked words None rule d row is = inr (refl, λ reads. reads (leaves_check rule.file.now rule.name.now rule.reading row))
 ended_checked words (Some files) rule d row is =
     checked rule.file.now rule.name.now is.text rule.reading is.rules d row (whole_file files rule.file.now is.text is.fetched) is.fetched.fits is.compiled refl refl
 
@@ -163,7 +167,11 @@ module _ (words : List (List ℕ)) (rule : RuleWords) (row : IsOverRule words ru
 
 -- what `segments` compiles
 pub segments_compile : (words : List (List ℕ)) (files : List ℕ → Option (List ℕ)) (reading : Reading) → IsSegments words reading → Compiles words files (rule_of_entry reading Downlink ∷ [])
-segments_compile words files reading row = of_catalogue (Downlink ∷ []) reading (row, refl) refl
+segments_compile words files reading row = of_catalogue (Downlink ∷ []) reading (over_downlink row refl) refl
+
+-- what `soak` compiles
+pub soak_compiles : (words : List (List ℕ)) (files : List ℕ → Option (List ℕ)) (entry : Entry) (n : ℕ) → IsSoak words entry n → Compiles words files (rule_of_entry Sent entry ∷ [])
+soak_compiles words files entry n row = of_catalogue (entry ∷ []) Sent (over_soaked entry n row refl refl) refl
 
 pub asked_segments :
     (words : List (List ℕ)) (files : Option (List ℕ → Option (List ℕ))) (reading : Reading) (rules : RulesV) (d : DescV) → IsSegments words reading
@@ -212,6 +220,18 @@ check_ends words files rule d left taken waits (Ok ended) row is ok err =
     let Q : List ℕ → Type 0 = λ w. EndedBefore words files w Done in
     before_lines (subst P (sym ok.0) (subst Q (sym ok.1) (ended_checked words files rule d row is))) refl refl
 check_ends words files rule d left taken waits (Err fault) row is ok err = unread refl refl err.1 (inr (ap Err err.0))
+
+-- the job of `soak` is over with its counts
+pub soak_ends :
+    (words : List (List ℕ)) (files : Option (List ℕ → Option (List ℕ))) (entry : Entry) (n : ℕ) (rules : RulesV) (d : DescV) (counts : Soaked) (left taken : Option (List ℕ)) (waits : List ℕ) (end : Result Ended Fault)
+    → IsSoak words entry n → length catalogue_text ≤ MOST_DESCRIPTION → IsCompiled catalogue_text (entry_root entry) Sent rules d → IsSoaked d entry n counts
+    → IfOk end (λ ended. (ended ≡ Done) × (waits ≡ soaked_line n counts ++ 10 ∷ [])) → IfErr end (λ fault. (fault ≡ Memory) × (waits ≡ []))
+    → JobEnds words files left left taken taken waits end
+soak_ends words None entry n rules d counts left taken waits (Ok ended) row fits is from ok err =
+    before_lines (inr (ok.0, λ reads. reads (leaves_soak entry n row))) refl refl
+soak_ends words (Some files) entry n rules d counts left taken waits (Ok ended) row fits is from ok err =
+    before_lines (soaked entry n rules d counts row fits is from ok.1 ok.0) refl refl
+soak_ends words files entry n rules d counts left taken waits (Err fault) row fits is from ok err = unread refl refl err.1 (inr (ap Err err.0))
 
 -- why rules that are refused give no plan
 pub resolved_reason :

@@ -23,3 +23,4 @@ pub mod ShownLines
 pub mod JoinedLines
 pub mod WrittenLines
 pub mod OneTree
+pub mod SoakedBlocks

@@ -2,7 +2,9 @@
 use Rattle.std.proofs.Common.{◌≡◌, ℕ, ◌≤◌, inl, inr, List, [], ◌∷◌, ◌++◌, length, map, codes, Option, Some, refl, sym, ◌∙◌, ap, subst, arith}
 use Rattle.std.specs.List.{AllByRecursion}
 use Rattle.std.specs.Prelude.{slice_index}
+use Rattle.csn_catalogue.specs.declared.entry.Entry.{Entry}
 use Rattle.csn_catalogue.specs.declared.entry.Entry.TheVariants.{Downlink}
+use Rattle.csn_catalogue.specs.Entries.{entry_root}
 use Rattle.csn_catalogue.specs.Text.{catalogue_text}
 use Rattle.csn_desc.specs.declared.reading.Reading.{Reading}
 use Rattle.csn_desc.specs.declared.reading.Reading.TheVariants.{Received, Sent}
@@ -20,11 +22,13 @@ use Rattle.csn_run.specs.declared.command.TreeForm.TheVariants.{Text, Json}
 use Rattle.csn_run.specs.declared.ended.Ended.{Ended}
 use Rattle.csn_run.specs.declared.compile.TheConstants.{MOST_DESCRIPTION}
 use Rattle.csn_run.specs.Known.{KnownOfTexts}
-use Rattle.csn_run.specs.Command.{word_of, command_word, NamesRule, NamesReading, IsCheck, IsAnswer, IsMigrate, IsOverRule}
-use Rattle.csn_run.specs.Compiled.{RuleOf, rule_of_entry, line_of, conflict_line, certified_line, IsCompiled, HasNoPlan, no_rules, rules_refused, not_certified}
-use Rattle.csn_run.specs.Result.{LineJob, by_rule, segmenting, AsksFor, asks_by_rule, asks_migrate, asks_segments, AnswersInput, HasJob, Compiles, of_file, of_catalogue, HasNoJob, long_text, no_plan, EndsBefore, no_job, checked, no_line, lines}
+use Rattle.csn_run.specs.Command.{word_of, command_word, NamesRule, NamesReading, IsCheck, IsAnswer, IsMigrate, IsSoak, IsOverRule, IsOverEntries, over_downlink, over_soaked}
+use Rattle.csn_run.specs.Compiled.{RuleOf, rule_of_entry, line_of, conflict_line, certified_line, soaked_line, IsCompiled, HasNoPlan, no_rules, rules_refused, not_certified}
+use Rattle.csn_run.specs.Result.{LineJob, by_rule, segmenting, AsksFor, asks_by_rule, asks_migrate, asks_segments, AnswersInput, HasJob, Compiles, of_file, of_catalogue, HasNoJob, long_text, no_plan, EndsBefore, no_job, checked, soaked, no_line, lines}
 use Rattle.csn_run.specs.Laws.{LinesHaveOneAnswer, RunsHaveOneResult}
+use Rattle.csn_soak.specs.Soaking.{IsSoaked}
 use Rattle.csn_run.proofs.OneInput.{Written, one_input}
+use Rattle.csn_run.proofs.SoakedBlocks.{one_soak, one_soaked}
 
 -- ---- what the words name
 
@@ -99,6 +103,19 @@ pub not_two : {words : List (List ℕ)} {file name first second : List ℕ} {rea
 not_two {words} {file} {name} {first} {second} {reading} rule is =
     let all : rule.command ∷ file ∷ name ∷ word_of reading ∷ [] ≡ first ∷ second ∷ [] = sym rule.row.words_are ∙ is in cc
 
+-- nor of three
+pub not_three : {words : List (List ℕ)} {file name first second third : List ℕ} {reading : Reading} → OverRule words file name reading → words ≡ first ∷ second ∷ third ∷ [] → ⊥
+not_three {words} {file} {name} {first} {second} {third} {reading} rule is =
+    let all : rule.command ∷ file ∷ name ∷ word_of reading ∷ [] ≡ first ∷ second ∷ third ∷ [] = sym rule.row.words_are ∙ is in cc
+
+pub two_not_three : {words : List (List ℕ)} {one other first second third : List ℕ} → words ≡ one ∷ other ∷ [] → words ≡ first ∷ second ∷ third ∷ [] → ⊥
+two_not_three {words} {one} {other} {first} {second} {third} is has =
+    let all : one ∷ other ∷ [] ≡ first ∷ second ∷ third ∷ [] = sym is ∙ has in cc
+
+pub migrate_not_three : {words : List (List ℕ)} {first second third : List ℕ} → IsMigrate words → words ≡ first ∷ second ∷ third ∷ [] → ⊥
+migrate_not_three {words} {first} {second} {third} row is =
+    let all : codes "migrate" ∷ [] ≡ first ∷ second ∷ third ∷ [] = sym row ∙ is in cc
+
 pub migrate_alone : {words : List (List ℕ)} {first second : List ℕ} → IsMigrate words → words ≡ first ∷ second ∷ [] → ⊥
 migrate_alone {words} {first} {second} row is =
     let all : codes "migrate" ∷ [] ≡ first ∷ second ∷ [] = sym row ∙ is in cc
@@ -120,6 +137,25 @@ first_of e = cc
 rest_of : {rule other : RuleOf} {rest others : List RuleOf} → rule ∷ rest ≡ other ∷ others → rest ≡ others
 rest_of e = cc
 
+-- a command over a rule is none over entries
+not_entries : {words : List (List ℕ)} {file name : List ℕ} {reading reading' : Reading} {entries : List Entry} → OverRule words file name reading → IsOverEntries words entries reading' → ⊥
+not_entries rule (over_downlink row is) = not_two rule row
+not_entries rule (over_soaked entry n row is sent) = not_three rule row.words_are
+
+migrate_no_entries : {words : List (List ℕ)} {reading : Reading} {entries : List Entry} → IsMigrate words → IsOverEntries words entries reading → ⊥
+migrate_no_entries row (over_downlink row' is) = migrate_alone row row'
+migrate_no_entries row (over_soaked entry n row' is sent) = migrate_not_three row row'.words_are
+
+-- words name one list of entries
+one_entries :
+    {words : List (List ℕ)} {entries others : List Entry} {reading reading' : Reading}
+    → IsOverEntries words entries reading → IsOverEntries words others reading' → (entries ≡ others) × (reading ≡ reading')
+one_entries (over_downlink row is) (over_downlink row' is') = (is ∙ sym is', same_reading row row')
+one_entries (over_downlink row is) (over_soaked entry n row' is' sent) = absurd (two_not_three row row'.words_are)
+one_entries (over_soaked entry n row is sent) (over_downlink row' is') = absurd (two_not_three row' row.words_are)
+one_entries (over_soaked entry n row is sent) (over_soaked entry' n' row' is' sent') =
+    (is ∙ ap (λ e. e ∷ []) (one_soak row row').0 ∙ sym is', sent ∙ sym sent')
+
 -- a run of the words compiles one list of rules
 pub one_list_compiles : (words : List (List ℕ)) (files : List ℕ → Option (List ℕ)) (all others : List RuleOf) → Compiles words files all → Compiles words files others → all ≡ others
 one_list_compiles words files all others (of_file file name text reading row held is) (of_file file' name' text' reading' row' held' is') =
@@ -129,10 +165,11 @@ one_list_compiles words files all others (of_file file name text reading row hel
     let rules : rule_of text name reading ≡ rule_of text' name' reading' =
     ap (λ t. rule_of t name reading) texts ∙ ap (λ n. rule_of text' n reading) same.name_is ∙ ap (λ r. rule_of text' name' r) same.reading_is in
     is ∙ ap (λ r. r ∷ []) rules ∙ sym is'
-one_list_compiles words files all others (of_file file name text reading row held is) (of_catalogue entries reading' row' is') = absurd (not_two (over row) row'.0)
-one_list_compiles words files all others (of_catalogue entries reading row is) (of_file file' name' text' reading' row' held' is') = absurd (not_two (over row') row.0)
+one_list_compiles words files all others (of_file file name text reading row held is) (of_catalogue entries reading' row' is') = absurd (not_entries (over row) row')
+one_list_compiles words files all others (of_catalogue entries reading row is) (of_file file' name' text' reading' row' held' is') = absurd (not_entries (over row') row)
 one_list_compiles words files all others (of_catalogue entries reading row is) (of_catalogue entries' reading' row' is') =
-    is ∙ ap (λ r. map (rule_of_entry r) entries) (same_reading row.0 row'.0) ∙ ap (map (rule_of_entry reading')) (row.1 ∙ sym row'.1) ∙ sym is'
+    let same = one_entries row row' in
+    is ∙ ap (λ r. map (rule_of_entry r) entries) same.1 ∙ ap (map (rule_of_entry reading')) same.0 ∙ sym is'
 
 -- where all rules have a job, each has one
 pub holds_at : (front : List RuleOf) (rule : RuleOf) (behind : List RuleOf) → AllByRecursion HasJob (front ++ rule ∷ behind) → HasJob rule
@@ -248,6 +285,14 @@ module _ (known : KnownOfTexts) where
         → Compiles words files (rule_of text name reading ∷ []) × AllByRecursion HasJob (rule_of text name reading ∷ [])
     checked_compiles {file} {name} {text} {reading} {rules} {d} row held fits compiled = (of_file file name text reading row held refl, ((fits, rules, d, compiled), tt))
 
+    -- and that of `soak` has one
+    pub soaked_compiles :
+        {entry : Entry} {n : ℕ} {rules : RulesV} {d : DescV} → IsSoak words entry n → length catalogue_text ≤ MOST_DESCRIPTION
+        → IsCompiled catalogue_text (entry_root entry) Sent rules d
+        → Compiles words files (rule_of_entry Sent entry ∷ []) × AllByRecursion HasJob (rule_of_entry Sent entry ∷ [])
+    soaked_compiles {entry} {n} {rules} {d} row fits compiled =
+        (of_catalogue (entry ∷ []) Sent (over_soaked entry n row refl refl) refl, ((fits, rules, d, compiled), tt))
+
     one_before : (w v : List ℕ) (e f : Ended) → EndsBefore words files w e → EndsBefore words files v f → Written w e v f
     one_before w v e f (no_job front rule behind compiles has none) (no_job front' rule' behind' compiles' has' none') =
         let same = one_first front front' rule rule' behind behind' w v e f (one_list_compiles words files _ _ compiles compiles') has has' none none' in
@@ -261,6 +306,23 @@ module _ (known : KnownOfTexts) where
         let P : RuleOf → Type 0 = λ r. IsCompiled r.text r.name r.reading rules d in
         let one = one_compiled (subst P same compiled) compiled' in
         (is ∙ ap (λ x. certified_line x ++ 10 ∷ []) one ∙ sym is', end ∙ sym end')
+    one_before w v e f (no_job front rule behind compiles has none) (soaked entry n rules d counts row fits compiled from is end) =
+        let all = soaked_compiles row fits compiled in absurd (all_or_none front rule behind _ compiles all.0 all.1 none)
+    one_before w v e f (soaked entry n rules d counts row fits compiled from is end) (no_job front rule behind compiles has none) =
+        let all = soaked_compiles row fits compiled in absurd (all_or_none front rule behind _ compiles all.0 all.1 none)
+    one_before w v e f (checked file name text reading rules d row held fits compiled is end) (soaked entry n rules' d' counts row' fits' compiled' from is' end') =
+        absurd (not_three (over (inl row)) row'.words_are)
+    one_before w v e f (soaked entry n rules' d' counts row' fits' compiled' from is' end') (checked file name text reading rules d row held fits compiled is end) =
+        absurd (not_three (over (inl row)) row'.words_are)
+    one_before w v e f (soaked entry n rules d counts row fits compiled from is end) (soaked entry' n' rules' d' counts' row' fits' compiled' from' is' end') =
+        let same = one_soak row row' in
+        let P : Entry → Type 0 = λ x. IsCompiled catalogue_text (entry_root x) Sent rules d in
+        let one = one_compiled (subst P same.0 compiled) compiled' in
+        let Q : Entry → Type 0 = λ x. IsSoaked d x n counts in
+        let R : ℕ → Type 0 = λ m. IsSoaked d entry' m counts in
+        let S : DescV → Type 0 = λ x. IsSoaked x entry' n' counts in
+        let all = one_soaked (subst S one (subst R same.1 (subst Q same.0 from))) from' in
+        (is ∙ ap (λ m. soaked_line m counts ++ 10 ∷ []) same.1 ∙ ap (λ s. soaked_line n' s ++ 10 ∷ []) all ∙ sym is', end ∙ sym end')
 
     -- ---- which job the words ask for
 
@@ -288,10 +350,10 @@ module _ (known : KnownOfTexts) where
         let here = checked_compiles (inr (command, row)) held fits compiled in
         subst (λ (l : List RuleOf). AllByRecursion HasJob l) (one_list_compiles words files _ all here.0 compiles) here.1
     jobs_compile job all (asks_migrate row is) (of_file file name text reading row' held is') = absurd (not_migrate (over row') row)
-    jobs_compile job all (asks_migrate row is) (of_catalogue entries reading row' is') = absurd (migrate_alone row row'.0)
+    jobs_compile job all (asks_migrate row is) (of_catalogue entries reading row' is') = absurd (migrate_no_entries row row')
     jobs_compile job all (asks_segments reading rules d row fits compiled is) compiles =
         let here : AllByRecursion HasJob (rule_of_entry reading Downlink ∷ []) = ((fits, rules, d, compiled), tt) in
-        subst (λ (l : List RuleOf). AllByRecursion HasJob l) (one_list_compiles words files (rule_of_entry reading Downlink ∷ []) all (of_catalogue (Downlink ∷ []) reading (row, refl) refl) compiles) here
+        subst (λ (l : List RuleOf). AllByRecursion HasJob l) (one_list_compiles words files (rule_of_entry reading Downlink ∷ []) all (of_catalogue (Downlink ∷ []) reading (over_downlink row refl) refl) compiles) here
 
     -- a run that comes to no line has no job over lines
     pub before_or_job : {w : List ℕ} {e : Ended} (job : LineJob) → EndsBefore words files w e → AsksFor words files job → ⊥
@@ -299,6 +361,9 @@ module _ (known : KnownOfTexts) where
     before_or_job job (checked file name text reading rules d row held fits compiled is end) (asks_by_rule command file' name' text' reading' rules' d' row' held' fits' compiled' is') = not_both command row row'
     before_or_job job (checked file name text reading rules d row held fits compiled is end) (asks_migrate row' is') = not_migrate (over (inl row)) row'
     before_or_job job (checked file name text reading rules d row held fits compiled is end) (asks_segments reading' rules' d' row' fits' compiled' is') = not_two (over (inl row)) row'
+    before_or_job job (soaked entry n rules d counts row fits compiled from is end) (asks_by_rule command file' name' text' reading' rules' d' row' held' fits' compiled' is') = not_three (answers command row') row.words_are
+    before_or_job job (soaked entry n rules d counts row fits compiled from is end) (asks_migrate row' is') = migrate_not_three row' row.words_are
+    before_or_job job (soaked entry n rules d counts row fits compiled from is end) (asks_segments reading' rules' d' row' fits' compiled' is') = two_not_three row' row.words_are
 
 pub one_result : KnownOfTexts → LinesHaveOneAnswer → RunsHaveOneResult
 one_result known one_in_job words files input w v e f (no_line before) (no_line before') = one_before known words files w v e f before before'

@@ -5,7 +5,11 @@ use Rattle.std.proofs.lemmas.List.{append-nil}
 use Rattle.std.specs.List.{AllByRecursion}
 use Rattle.csn_catalogue.specs.declared.entry.Entry.{Entry}
 use Rattle.csn_catalogue.specs.declared.entry.Entry.TheVariants.{Downlink}
+use Rattle.csn_catalogue.specs.Entries.{entry_root}
+use Rattle.csn_catalogue.specs.Text.{catalogue_text}
 use Rattle.csn_desc.specs.declared.reading.Reading.{Reading}
+use Rattle.csn_desc.specs.declared.reading.Reading.TheVariants.{Sent}
+use Rattle.csn_desc.specs.Laws.{MeaningIsDecided}
 use Rattle.csn_desc.specs.Nodes.{DescV}
 use Rattle.csn_grammar.specs.RulesV.{RulesV}
 use Rattle.csn_grammar.specs.Place.{HasRules}
@@ -15,15 +19,16 @@ use Rattle.csn_run.specs.declared.ended.Ended.{Ended}
 use Rattle.csn_run.specs.declared.ended.Ended.TheVariants.{Done, BadDescription, NotCertified, TooLong}
 use Rattle.csn_run.specs.declared.compile.TheConstants.{MOST_DESCRIPTION}
 use Rattle.csn_run.specs.Known.{KnownOfTexts}
-use Rattle.csn_run.specs.Command.{IsOverRule, IsOverEntries, rule_row, entries_row, migrate_row}
-use Rattle.csn_run.specs.Compiled.{RuleOf, rule_of_entry, line_of, conflict_line, certified_line, HasNoPlan, no_rules, rules_refused, not_certified}
+use Rattle.csn_run.specs.Command.{IsOverRule, IsOverEntries, over_downlink, over_soaked, rule_row, entries_row, migrate_row}
+use Rattle.csn_run.specs.Compiled.{RuleOf, rule_of_entry, line_of, conflict_line, certified_line, soaked_line, HasNoPlan, no_rules, rules_refused, not_certified}
 use Rattle.csn_run.specs.Laws.{IsDecided, LinesHaveAnswers, RunsHaveResults}
-use Rattle.csn_run.specs.Result.{LineJob, by_rule, migrating, segmenting, AsksFor, asks_by_rule, asks_migrate, asks_segments, HasJob, Compiles, of_file, of_catalogue, HasNoJob, long_text, no_plan, no_job, checked, Result, no_line, lines}
+use Rattle.csn_run.specs.Result.{LineJob, by_rule, migrating, segmenting, AsksFor, asks_by_rule, asks_migrate, asks_segments, HasJob, Compiles, of_file, of_catalogue, HasNoJob, long_text, no_plan, no_job, checked, soaked, Result, no_line, lines}
 use Rattle.csn_look.specs.declared.word.TheConstants.{MOST_WORD}
 use Rattle.csn_certify.specs.declared.conflict.Conflict.{Conflict}
 use Rattle.csn_certify.specs.Conflicts.{Certified, IsFirstConflict}
 use Rattle.csn_run.proofs.Extends.{some_answers}
 use Rattle.csn_run.proofs.OneResult.{rule_of}
+use Rattle.csn_run.proofs.SoakedBlocks.{each_soaked}
 
 held_text : (o : Option (List ℕ)) → IsSome o → (text : List ℕ) × (o ≡ Some text)
 held_text None h = absurd (cc)
@@ -33,7 +38,7 @@ all_append : (front : List RuleOf) (rule : RuleOf) → AllByRecursion HasJob fro
 all_append [] rule has job = (job, tt)
 all_append (first ∷ front) rule has job = (has.0, all_append front rule has.1 job)
 
-module _ (known : KnownOfTexts) (each_in_job : LinesHaveAnswers) (words : List (List ℕ)) (files : List ℕ → Option (List ℕ)) (input : List ℕ) where
+module _ (known : KnownOfTexts) (decides : MeaningIsDecided) (each_in_job : LinesHaveAnswers) (words : List (List ℕ)) (files : List ℕ → Option (List ℕ)) (input : List ℕ) where
   abbrev HasResult : Type 0
   HasResult = (written : List ℕ) × (ended : Ended) × Result words files input written ended
 
@@ -97,14 +102,24 @@ module _ (known : KnownOfTexts) (each_in_job : LinesHaveAnswers) (words : List (
         compiled (inr answer) job = job_result (by_rule answer.0 job.1 name reading) (asks_by_rule answer.0 file name text reading job.1 job.2 answer.1 held job.0 job.3 refl)
 
     entries_result : (entries : List Entry) (reading : Reading) → IsOverEntries words entries reading → HasResult
-    entries_result entries reading row = elim (first_told [] (rule_of_entry reading Downlink ∷ []) (of_catalogue (Downlink ∷ []) reading (row.0, refl) refl) tt) [
+    entries_result entries reading (over_downlink row is) = elim (first_told [] (rule_of_entry reading Downlink ∷ []) (of_catalogue (Downlink ∷ []) reading (over_downlink row refl) refl) tt) [
       | inl result ↦ result
-      | inr all ↦ job_result (segmenting all.0.1 reading) (asks_segments reading all.0.1 all.0.2 row.0 all.0.0 all.0.3 refl)
+      | inr all ↦ job_result (segmenting all.0.1 reading) (asks_segments reading all.0.1 all.0.2 row all.0.0 all.0.3 refl)
     ]
+    entries_result entries reading (over_soaked entry n row is sent) = elim (first_told [] (rule_of_entry Sent entry ∷ []) (of_catalogue (entry ∷ []) Sent (over_soaked entry n row refl refl) refl) tt) [
+      | inl result ↦ result
+      | inr all ↦ counted all.0
+    ]
+      where
+        counted : HasJob (rule_of_entry Sent entry) → HasResult
+        counted job =
+            let is = known.descriptions job.1 Sent (entry_root entry) job.2 (known.shaped catalogue_text job.1 job.3.has_rules) job.3.resolved in
+            let counts = each_soaked decides job.2 is entry n in
+            (soaked_line n counts.0 ++ 10 ∷ [], Done, no_line (soaked entry n job.1 job.2 counts.0 row job.0 job.3 counts.1 refl refl))
 
-pub some_result : KnownOfTexts → LinesHaveAnswers → RunsHaveResults
-some_result known each_in_job words files input (rule_row file name reading row) held decided =
+pub some_result : KnownOfTexts → MeaningIsDecided → LinesHaveAnswers → RunsHaveResults
+some_result known decides each_in_job words files input (rule_row file name reading row) held decided =
     let text = held_text (files file) (held file (name, reading, row)) in
-    rule_result known each_in_job words files input decided file name text.0 reading row text.1
-some_result known each_in_job words files input (entries_row entries reading row) held decided = entries_result known each_in_job words files input decided entries reading row
-some_result known each_in_job words files input (migrate_row row) held decided = job_result known each_in_job words files input migrating (asks_migrate row refl)
+    rule_result known decides each_in_job words files input decided file name text.0 reading row text.1
+some_result known decides each_in_job words files input (entries_row entries reading row) held decided = entries_result known decides each_in_job words files input decided entries reading row
+some_result known decides each_in_job words files input (migrate_row row) held decided = job_result known decides each_in_job words files input migrating (asks_migrate row refl)

@@ -22,3 +22,11 @@ two_members [] a b low high p q = absurd (omega arith)
 two_members (w ∷ []) a b low high p q = absurd (omega arith)
 two_members (w ∷ x ∷ []) a b low high p q = cc
 two_members (w ∷ x ∷ y ∷ rest) a b low high p q = absurd (omega arith)
+
+-- a list of three members is these three
+pub three_members : {A : Type 0} (xs : List A) (a b c : A) → 3 ≤ length xs → length xs < 4 → a ≡ get_or xs 0 a → b ≡ get_or xs 1 b → c ≡ get_or xs 2 c → xs ≡ a ∷ b ∷ c ∷ []
+three_members [] a b c low high p q r = absurd (omega arith)
+three_members (w ∷ []) a b c low high p q r = absurd (omega arith)
+three_members (w ∷ x ∷ []) a b c low high p q r = absurd (omega arith)
+three_members (w ∷ x ∷ y ∷ []) a b c low high p q r = cc
+three_members (w ∷ x ∷ y ∷ z ∷ rest) a b c low high p q r = absurd (omega arith)

@@ -1,15 +1,18 @@
 -- The command table. It is this project's own choice.
-use Rattle.std.specs.Prelude.{◌≡◌, ◌≢◌, ◌⊎◌, ℕ, List, [], ◌∷◌, codes}
+use Rattle.std.specs.Prelude.{◌≡◌, ◌≢◌, ◌<◌, ◌≤◌, ◌⊎◌, ℕ, List, [], ◌∷◌, codes}
+use Rattle.std.specs.Fmt.{decimal}
 use Rattle.csn_catalogue.specs.declared.entry.Entry.{Entry}
 use Rattle.csn_catalogue.specs.declared.entry.Entry.TheVariants.{Downlink}
+use Rattle.csn_catalogue.specs.Entries.{entry_word}
 use Rattle.csn_desc.specs.declared.reading.Reading.{Reading}
 use Rattle.csn_desc.specs.declared.reading.Reading.TheVariants.{Received, Sent}
+use Rattle.csn_soak.specs.declared.soaking.TheConstants.{MOST_BLOCKS}
 use Rattle.csn_run.specs.declared.command.RuleWords.{RuleWords}
 use Rattle.csn_run.specs.declared.command.TreeForm.TheVariants.{Text, Json}
 use Rattle.csn_run.specs.declared.command.RuleCommand.{RuleCommand}
 use Rattle.csn_run.specs.declared.command.RuleCommand.TheVariants.{Show, Write}
 use Rattle.csn_run.specs.declared.command.Command.{Command}
-use Rattle.csn_run.specs.declared.command.Command.TheVariants.{Check, Answer, Migrate, Segments}
+use Rattle.csn_run.specs.declared.command.Command.TheVariants.{Check, Answer, Migrate, Segments, Soak}
 
 -- a word that can be an argument: it is not empty, and does not begin with `-`
 abbrev pub IsArgument : List ℕ → Type 0
@@ -54,14 +57,21 @@ NamesReading command words reading = words ≡ command ∷ word_of reading ∷ [
 abbrev pub IsSegments : List (List ℕ) → Reading → Type 0
 IsSegments = NamesReading (codes "segments")
 
+-- `soak ENTRY N`
+pub record IsSoak (words : List (List ℕ)) (entry : Entry) (n : ℕ) : Type 0 where
+  pub words_are : words ≡ codes "soak" ∷ entry_word entry ∷ decimal n ∷ []
+  pub some : 0 < n
+  pub few : n ≤ MOST_BLOCKS
+
 -- the words are a command over this rule of the description in this file
 abbrev pub IsOverRule : List (List ℕ) → List ℕ → List ℕ → Reading → Type 0
 IsOverRule words file name reading =
     IsCheck words file name reading ⊎ ((command : RuleCommand) × IsAnswer command words file name reading)
 
 -- the words are a command over the rules of these entries of the catalogue, in their order
-abbrev pub IsOverEntries : List (List ℕ) → List Entry → Reading → Type 0
-IsOverEntries words entries reading = IsSegments words reading × (entries ≡ Downlink ∷ [])
+pub data IsOverEntries (words : List (List ℕ)) (entries : List Entry) (reading : Reading) : Type 0 where
+  over_downlink : IsSegments words reading → entries ≡ Downlink ∷ [] → IsOverEntries words entries reading
+  over_soaked : (entry : Entry) (n : ℕ) → IsSoak words entry n → entries ≡ entry ∷ [] → reading ≡ Sent → IsOverEntries words entries reading
 
 -- the words are a row of the command table
 pub data IsCommand (words : List (List ℕ)) : Type 0 where
@@ -69,9 +79,14 @@ pub data IsCommand (words : List (List ℕ)) : Type 0 where
   entries_row : (entries : List Entry) (reading : Reading) → IsOverEntries words entries reading → IsCommand words
   migrate_row : IsMigrate words → IsCommand words
 
--- no command but `check` leaves the input alone
+-- the words are a command that leaves the input alone
+pub data LeavesInput (words : List (List ℕ)) : Type 0 where
+  leaves_check : (file name : List ℕ) (reading : Reading) → IsCheck words file name reading → LeavesInput words
+  leaves_soak : (entry : Entry) (n : ℕ) → IsSoak words entry n → LeavesInput words
+
+-- all other commands read its lines
 abbrev pub ReadsLines : List (List ℕ) → Type 0
-ReadsLines words = (file name : List ℕ) (reading : Reading) → ¬ IsCheck words file name reading
+ReadsLines words = ¬ LeavesInput words
 
 -- the words name a file
 abbrev pub NamesFile : List (List ℕ) → List ℕ → Type 0
@@ -87,3 +102,4 @@ IsRowOf words (Check rule) = AreRuleWords (codes "check") words rule
 IsRowOf words (Answer command rule) = AreRuleWords (command_word command) words rule
 IsRowOf words Migrate = IsMigrate words
 IsRowOf words (Segments reading) = IsSegments words reading
+IsRowOf words (Soak entry blocks) = IsSoak words entry blocks

@@ -18,6 +18,7 @@ use Rattle.csn_look.specs.declared.word.TheConstants.{MOST_WORD}
 use Rattle.csn_certify.specs.declared.conflict.Conflict.{Conflict}
 use Rattle.csn_certify.specs.declared.conflict.Conflict.TheVariants.{TwoEmpty, NotFirm, Overlap, EmptyClash, LoopClash, NotLast}
 use Rattle.csn_certify.specs.Conflicts.{Certified, IsFirstConflict}
+use Rattle.csn_soak.specs.declared.soaking.Soaked.{Soaked}
 use Rattle.csn_grammar.specs.declared.fault.GrammarFault.TheVariants.{Syntax, NoMemory as no_memory_for_rules}
 use Rattle.csn_resolve.specs.declared.fault.ResolveFault.TheVariants.{Refused, NoMemory as no_memory_for_nodes}
 use Rattle.csn_certify.specs.declared.certifying.CertifyFault.TheVariants.{Conflict as has_conflict, NoMemory as no_memory_for_plan}
@@ -73,6 +74,12 @@ conflict_line conflict = line_of (codes "conflict") (numbers_of conflict) ++ spa
 -- the line that tells of a certified description how many nodes it has
 abbrev pub certified_line : DescV → List ℕ
 certified_line d = line_of (codes "certified") (length d.nodes ∷ [])
+
+-- the line that tells what came of so many blocks of the generator
+abbrev pub soaked_line : ℕ → Soaked → List ℕ
+soaked_line blocks soaked =
+    line_of (codes "blocks") (blocks ∷ []) ++ line_of (codes " ok") (soaked.ok ∷ [])
+    ++ line_of (codes " refused") (soaked.refused ∷ []) ++ line_of (codes " bits") (soaked.bits ∷ [])
 
 -- the rule of the text has this description, and it is certified
 pub record IsCompiled (text name : List ℕ) (reading : Reading) (rules : RulesV) (d : DescV) : Type 0 where

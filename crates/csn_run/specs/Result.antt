@@ -8,18 +8,21 @@ use Rattle.csn_catalogue.specs.declared.entry.Entry.TheVariants.{Downlink}
 use Rattle.csn_catalogue.specs.Entries.{entry_root}
 use Rattle.csn_catalogue.specs.Text.{catalogue_text}
 use Rattle.csn_desc.specs.declared.reading.Reading.{Reading}
+use Rattle.csn_desc.specs.declared.reading.Reading.TheVariants.{Sent}
 use Rattle.csn_desc.specs.Nodes.{DescV}
 use Rattle.csn_desc.specs.TreeV.{TreeV}
 use Rattle.csn_grammar.specs.RulesV.{RulesV}
 use Rattle.csn_grammar.specs.Place.{HasRules}
 use Rattle.csn_grammar.specs.Strings.{Strings}
+use Rattle.csn_soak.specs.declared.soaking.Soaked.{Soaked}
+use Rattle.csn_soak.specs.Soaking.{IsSoaked}
 use Rattle.csn_run.specs.declared.ended.Ended.{Ended}
 use Rattle.csn_run.specs.declared.ended.Ended.TheVariants.{Done, SomeRefused, Usage, BadDescription, NotCertified, ReadFault, WriteFault, NoMemory, TooLong}
 use Rattle.csn_run.specs.declared.lines.TheConstants.{LINE_FEED, MOST_INPUT}
 use Rattle.csn_run.specs.declared.compile.TheConstants.{MOST_DESCRIPTION}
 use Rattle.csn_run.specs.declared.command.RuleCommand.{RuleCommand}
-use Rattle.csn_run.specs.Command.{IsCheck, IsAnswer, IsMigrate, IsSegments, IsOverRule, IsOverEntries}
-use Rattle.csn_run.specs.Compiled.{RuleOf, rule_of_entry, IsCompiled, HasNoPlan, certified_line}
+use Rattle.csn_run.specs.Command.{IsCheck, IsAnswer, IsMigrate, IsSegments, IsSoak, IsOverRule, IsOverEntries}
+use Rattle.csn_run.specs.Compiled.{RuleOf, rule_of_entry, IsCompiled, HasNoPlan, certified_line, soaked_line}
 use Rattle.csn_run.specs.Lines.{between_feeds}
 use Rattle.csn_run.specs.LineState.{LineState, nothing_yet, closing, AnswersAlone}
 use Rattle.csn_run.specs.OutLine.{AnswersByRule, MigratesLine, Segments}
@@ -91,7 +94,7 @@ HasJob rule =
     × IsCompiled rule.text rule.name rule.reading rules d
 
 -- what a run writes, and how it ends, where it comes to no line of the input and the files that its words name are
--- there: by the first of what it compiles that is not certified, or for `check` where all is well
+-- there: by the first of what it compiles that is not certified, or where all is well and the command reads none
 pub data EndsBefore (words : List (List ℕ)) (files : List ℕ → Option (List ℕ)) (written : List ℕ) (ended : Ended) : Type 0 where
   no_job : (front : List RuleOf) (rule : RuleOf) (behind : List RuleOf) → Compiles words files (front ++ rule ∷ behind)
       → AllByRecursion HasJob front → HasNoJob rule.text rule.name rule.reading written ended
@@ -99,6 +102,9 @@ pub data EndsBefore (words : List (List ℕ)) (files : List ℕ → Option (List
   checked : (file name text : List ℕ) (reading : Reading) (rules : RulesV) (d : DescV) → IsCheck words file name reading
       → files file ≡ Some text → length text ≤ MOST_DESCRIPTION → IsCompiled text name reading rules d
       → written ≡ certified_line d ++ LINE_FEED ∷ [] → ended ≡ Done → EndsBefore words files written ended
+  soaked : (entry : Entry) (n : ℕ) (rules : RulesV) (d : DescV) (counts : Soaked) → IsSoak words entry n
+      → length catalogue_text ≤ MOST_DESCRIPTION → IsCompiled catalogue_text (entry_root entry) Sent rules d → IsSoaked d entry n counts
+      → written ≡ soaked_line n counts ++ LINE_FEED ∷ [] → ended ≡ Done → EndsBefore words files written ended
 
 -- what a run writes, and how it ends, where each file that its words name is there: it comes to no line,
 -- or answers the lines of the input

@@ -1,9 +1,15 @@
-ghost use Rattle.std.specs.Prelude.{◌≡◌, ◌↔◌, IsTrue, IsSome, IfSome, List, ℕ, codes, map};
+ghost use Rattle.std.specs.Prelude.{◌≡◌, ◌<◌, ◌≤◌, ◌↔◌, IsTrue, IsSome, IfSome, List, ℕ, codes, map};
+ghost use Rattle.std.specs.Fmt.{decimal};
 ghost use Rattle.std.specs.String.{string_bytes};
+ghost use Rattle.csn_catalogue.specs.declared.entry.Entry.{Entry};
 ghost use Rattle.csn_desc.specs.declared.reading.Reading.{Reading};
-ghost use Rattle.csn_run.specs.Command.{AreRuleWords, IsArgument, IsCommand, IsMigrate, IsRowOf, NamesReading, NamesRule, word_of};
+ghost use Rattle.csn_soak.specs.declared.soaking.TheConstants.{MOST_BLOCKS};
+ghost use Rattle.csn_run.specs.Command.{AreRuleWords, IsArgument, IsCommand, IsMigrate, IsRowOf, IsSoak, NamesReading, NamesRule, word_of};
 
+use csn_catalogue::{Entry, entry_of};
 use csn_desc::Reading;
+use csn_soak::MOST_BLOCKS;
+use itoa::Buffer;
 
 /// The words that name a rule of a description and a reading, behind a command.
 #[derive(Clone, Copy)]
@@ -42,6 +48,8 @@ pub enum Command<'a> {
     Migrate,
     /// Joins the blocks in the input to control messages of the downlink, and shows these.
     Segments(Reading),
+    /// Judges so many blocks of an entry of the catalogue from the generator. The input is not read.
+    Soak(Entry, u32),
 }
 
 fn is_argument(word: &str) -> bool
@@ -101,6 +109,39 @@ fn reading_words(command: &str, words: &[String]) -> Option<Reading>
     }
 }
 
+/// The number of blocks that a word tells.
+fn blocks_of(word: &str) -> Option<u32>
+    ensures told { IfSome result (λ n. (word.now ≡ decimal n) × (0 < n) × (n ≤ MOST_BLOCKS)) }
+    ensures none { (n : ℕ) → word.now ≡ decimal n → 0 < n → n ≤ MOST_BLOCKS → IsSome result }
+{
+    let Ok(blocks) = word.parse::<u32>() else {
+        return None;
+    };
+    let mut buffer = Buffer::new();
+    if 0 < blocks && blocks <= MOST_BLOCKS && buffer.format(blocks) == word {
+        Some(blocks)
+    } else {
+        None
+    }
+}
+
+/// The entry and the number of blocks that the words `soak ENTRY N` name, where these are such words.
+fn soak_words(words: &[String]) -> Option<(Entry, u32)>
+    ensures names { IfSome result (λ asked. IsSoak (map string_bytes words.now) asked.0 asked.1) }
+    ensures none { (entry : Entry) (n : ℕ) → IsSoak (map string_bytes words.now) entry n → IsSome result }
+{
+    let [first, entry, blocks] = words else {
+        return None;
+    };
+    let entry = entry_of(entry.as_bytes())?;
+    let blocks = blocks_of(blocks.as_str())?;
+    if first.as_str() == "soak" {
+        Some((entry, blocks))
+    } else {
+        None
+    }
+}
+
 fn is_migrate(words: &[String]) -> bool
     ensures { IsTrue result ↔ IsMigrate (map string_bytes words.now) }
 {
@@ -120,6 +161,9 @@ pub fn command_of(words: &[String]) -> Option<Command<'_>>
     }
     if let Some(reading) = reading_words("segments", words) {
         return Some(Command::Segments(reading));
+    }
+    if let Some((entry, blocks)) = soak_words(words) {
+        return Some(Command::Soak(entry, blocks));
     }
     if let Some(rule) = rule_words("check", words) {
         return Some(Command::Check(rule));

@@ -14,6 +14,7 @@ mod output;
 mod planned;
 mod segments;
 mod show;
+mod soaking;
 mod text_plan;
 mod top;
 mod write;

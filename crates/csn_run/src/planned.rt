@@ -88,7 +88,7 @@ pub fn plan_of_entry(alloc: Global, entry: Entry, reading: Reading) -> Result<Te
 }
 
 /// Writes a line feed behind a line, or forgets the line where there was no memory for it.
-fn end_line(line: Result<Ended, AllocError>, pending: &mut Vec<u8>) -> Result<Ended, Fault>
+pub fn end_line(line: Result<Ended, AllocError>, pending: &mut Vec<u8>) -> Result<Ended, Fault>
     ensures ok { IfOk result (λ ended. (line ≡ Ok ended) × (pending.new.items ≡ pending.old.items ++ LINE_FEED ∷ [])) }
     ensures err { IfErr result (λ fault. (fault ≡ Fault.Memory) × (pending.new.items ≡ [])) }
 {

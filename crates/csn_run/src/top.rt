@@ -23,6 +23,7 @@ use crate::migrate::Migrate;
 use crate::output::{flush, pass_on};
 use crate::planned::{Unplanned, plan_of, plan_of_entry, refuse, tell_certified};
 use crate::segments::Segments;
+use crate::soaking::soak_entry;
 use csn_catalogue::Entry;
 use csn_desc::Reading;
 use csn_io::{Shelf, Sink, Source};
@@ -167,6 +168,7 @@ fn perform<B: Shelf, S: Source, K: Sink>(
     requires line { lines.old.line.items ≡ [] }
     requires pending { lines.old.pending.items ≡ [] }
     requires refused { lines.old.refused ≡ false }
+    requires row { (words : List (List ℕ)) × IsRowOf words command }
     ensures ends { (words : List (List ℕ)) → IsRowOf words command.entry
         → JobEnds words (B.files shelf.old) (S.left input.old) (S.left input.new)
         (K.taken out.old) (K.taken out.new) lines.new.pending.items result }
@@ -195,6 +197,7 @@ fn perform<B: Shelf, S: Source, K: Sink>(
         }
         Command::Migrate => answer_lines(alloc, &mut Migrate, input, out, lines),
         Command::Segments(reading) => answer_segments(alloc, reading, input, out, lines),
+        Command::Soak(entry, blocks) => soak_entry(alloc, entry, blocks, &mut lines.pending),
     }
 }
 

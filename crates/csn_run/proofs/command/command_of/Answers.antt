@@ -1,12 +1,13 @@
 use Rattle.std.proofs.Common.{[], ◌∷◌, refl, inl, inr}
 use Rattle.csn_catalogue.specs.declared.entry.Entry.TheVariants.{Downlink}
+use Rattle.csn_desc.specs.declared.reading.Reading.TheVariants.{Sent}
 use Rattle.csn_run.specs.declared.command.RuleCommand.TheVariants.{Show, Write}
 use Rattle.csn_run.specs.declared.command.TreeForm.TheVariants.{Text, Json}
-use Rattle.csn_run.specs.Command.{rule_row, entries_row}
+use Rattle.csn_run.specs.Command.{rule_row, entries_row, over_downlink, over_soaked}
 use Rattle.csn_run.proofs.command.command_of.Goals as goal
 
 pub returns-in-Some-clause-row : goal.returns-in-Some-clause-row
-returns-in-Some-clause-row c = (λ _. entries_row (Downlink ∷ []) c.in-Some.reading (c.in-Some.ensures.names, refl), λ _. refl)
+returns-in-Some-clause-row c = (λ _. entries_row (Downlink ∷ []) c.in-Some.reading (over_downlink c.in-Some.ensures.names refl), λ _. refl)
 
 pub returns-in-Some-rule_words-clause-row : goal.returns-in-Some-rule_words-clause-row
 returns-in-Some-rule_words-clause-row c = (λ _. rule_row _ _ _ (inl c.in-Some-rule_words.ensures.names), λ _. refl)
@@ -22,3 +23,6 @@ returns-in-Some-rule_words-4-clause-row c = (λ _. rule_row _ _ _ (inr (Show Jso
 
 pub returns-clause-row : goal.returns-clause-row
 returns-clause-row c = (λ _. rule_row _ _ _ (inr (Write Json, c.in_ok-rule.ensures.names)), λ _. refl)
+
+pub returns-in-Some-soak_words-clause-row : goal.returns-in-Some-soak_words-clause-row
+returns-in-Some-soak_words-clause-row c = (λ _. entries_row (c.in-Some-soak_words.entry ∷ []) Sent (over_soaked c.in-Some-soak_words.entry c.in-Some-soak_words.blocks c.in-Some-soak_words.ensures.names refl refl), λ _. refl)

@@ -49,3 +49,6 @@ returns-in-Segments-clause-touches g c = λ words row.
       | inl same ↦ inl same
       | inr asked ↦ inr (two_read (rw c.in-Segments.is at row), asked.0, asked.1)
     ]
+
+pub returns-in-Soak-clause-ends : goal.returns-in-Soak-clause-ends
+returns-in-Soak-clause-ends g c = λ words row. c.soak_entry.ensures.ends words _ (rw c.in-Soak.is at row) _ _

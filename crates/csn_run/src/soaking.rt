@@ -1,0 +1,66 @@
+//! What came of the blocks that the generator makes of an entry of the catalogue.
+
+ghost use Rattle.std.specs.Prelude.{◌≡◌, ◌≢◌, ◌≤◌, ◌++◌, ◌∷◌, [], List, ℕ, Err, IfOk, IfErr, Option};
+ghost use Rattle.csn_soak.specs.declared.soaking.TheConstants.{MOST_BLOCKS};
+ghost use Rattle.csn_run.specs.declared.lines.TheConstants.{LINE_FEED};
+ghost use Rattle.csn_run.specs.Command.{IsSoak};
+ghost use Rattle.csn_run.specs.Compiled.{soaked_line};
+ghost use Rattle.csn_run.specs.Job.{JobEnds};
+
+use crate::answers::push_numbers;
+use crate::ended::Ended;
+use crate::fault::Fault;
+use crate::planned::{Unplanned, end_line, plan_of_entry, refuse};
+use csn_catalogue::Entry;
+use csn_desc::Reading;
+use csn_soak::{Soaked, soak};
+use std::alloc::{AllocError, Global};
+
+/// Writes the line that tells what came of so many blocks, without a line feed.
+fn push_soaked(blocks: u32, soaked: &Soaked, out: &mut Vec<u8>) -> Result<Ended, AllocError>
+    ensures ok { IfOk result (λ ended. (ended ≡ Ended.Done) × (out.new.items ≡ out.old.items ++ soaked_line blocks soaked.now)) }
+{
+    out.extend_from_slice(b"blocks")?;
+    push_numbers(&[blocks], out)?;
+    out.extend_from_slice(b" ok")?;
+    push_numbers(&[soaked.ok], out)?;
+    out.extend_from_slice(b" refused")?;
+    push_numbers(&[soaked.refused], out)?;
+    out.extend_from_slice(b" bits")?;
+    push_numbers(&[soaked.bits], out)?;
+    Ok(Ended::Done)
+}
+
+/// Writes the line that tells what came of so many blocks.
+fn tell_soaked(blocks: u32, soaked: &Soaked, pending: &mut Vec<u8>) -> Result<Ended, Fault>
+    requires { pending.old.items ≡ [] }
+    ensures ok { IfOk result (λ ended. (ended ≡ Ended.Done) × (pending.new.items ≡ soaked_line blocks soaked.now ++ LINE_FEED ∷ [])) }
+    ensures err { IfErr result (λ fault. (fault ≡ Fault.Memory) × (pending.new.items ≡ [])) }
+{
+    let line = push_soaked(blocks, soaked, pending);
+    end_line(line, pending)
+}
+
+/// Judges so many blocks of an entry by its rule of the catalogue, in the reading sent, and tells what came of them.
+pub fn soak_entry(
+    alloc: Global,
+    entry: Entry,
+    blocks: u32,
+    pending: &mut Vec<u8>,
+) -> Result<Ended, Fault>
+    requires few { blocks ≤ MOST_BLOCKS }
+    requires pending { pending.old.items ≡ [] }
+    ensures ends { (words : List (List ℕ)) (files : Option (List ℕ → Option (List ℕ))) → IsSoak words entry blocks
+        → (left taken : Option (List ℕ)) → JobEnds words files left left taken taken pending.new.items result }
+    ensures not_read { result ≢ Err Fault.Read }
+    ensures not_write { result ≢ Err Fault.Write }
+{
+    let plan = match plan_of_entry(alloc, entry, Reading::Sent) {
+        Ok(plan) => plan,
+        Err(reason) => return refuse(Unplanned::Text(reason), pending),
+    };
+    let Ok(soaked) = soak(alloc, plan.plan(), entry, blocks) else {
+        return Err(Fault::Memory);
+    };
+    tell_soaked(blocks, &soaked, pending)
+}
