@@ -16,6 +16,8 @@ use std::collections::BTreeMap;
 #[cfg(test)]
 mod as_json;
 #[cfg(test)]
+mod failing;
+#[cfg(test)]
 mod segmented;
 #[cfg(test)]
 mod shown;

@@ -1,0 +1,130 @@
+//! Each call of the outside fails once: what stands written is then a front of the whole text.
+
+use super::*;
+use crate::tests::{file, words_of};
+use std::process::Abort;
+use std::test::Fail;
+
+/// The description of the rows.
+const FIELDS: &[u8] = b"<M> ::= <A : bit (3)> 0 <B : bit (4)> ;";
+
+/// Words, and the input that they are run over.
+const ROWS: &[(&[&str], &[u8])] = &[
+    (&["check", "F", "M", "received"], b"A5\n"),
+    (&["check", "F", "N", "received"], b"A5\n"),
+    (&["show", "F", "M", "received"], b"A5\nB5\nA5GG\n\nA5"),
+    (&["json", "F", "M", "received"], b"A5\nB5\nA5GG\n\nA5"),
+    (
+        &["write", "F", "M", "received"],
+        b"[<A>=3'5 . <B>=4'5]\n[<A>=3'5 .]\n[<A>\n",
+    ),
+    (
+        &["unjson", "F", "M", "received"],
+        b"[{\"label\":\"A\",\"tree\":\"A0/3\"},null,{\"label\":\"B\",\"tree\":\"50/4\"}]\n[\n7\n",
+    ),
+    (&["soak", "ia", "16"], b"A5\n"),
+    (&["migrate"], b"b\n<A>=3'9\n.\n"),
+    (
+        &["segments", "received"],
+        b"808C2B2B2B2B2B2B2B2B2B2B2B2B2B2B2B2B2B2B2B2B2B\n40\n40FF2B2B2B2B2B2B2B2B2B2B2B2B2B2B2B2B2B2B2B2B2B\n",
+    ),
+];
+
+/// The calls of the outside that fail.
+#[derive(Drop)]
+struct Failing {
+    fetches: Vec<u32>,
+    takes: Vec<u32>,
+    puts: Vec<u32>,
+}
+
+impl Failing {
+    fn none(alloc: Global) -> Failing {
+        Failing {
+            fetches: Vec::new(alloc),
+            takes: Vec::new(alloc),
+            puts: Vec::new(alloc),
+        }
+    }
+}
+
+/// A run over an outside that moves at most 48 bytes in a call, and of which some calls fail.
+fn ran_failing(
+    alloc: Global,
+    words: &[&str],
+    input: &[u8],
+    failing: Failing,
+) -> Result<Ran, AllocError> {
+    let words = words_of(alloc, words)?;
+    let mut shelf = MemShelf::new(file(alloc, FIELDS)?, failing.fetches);
+    let mut source = MemSource::new(Vec::from_slice(alloc, input)?, 48, failing.takes);
+    let mut sink = MemSink::new(alloc, 48, failing.puts);
+    let ended = run(alloc, &words, &mut shelf, &mut source, &mut sink);
+    let text = Vec::from_slice(alloc, sink.taken())?;
+    Ok(Ran { ended, text })
+}
+
+/// Which kind of call fails.
+#[derive(Clone, Copy)]
+enum Call {
+    Fetch,
+    Take,
+    /// A put, or the flush behind the last one.
+    Put,
+}
+
+impl Call {
+    /// An outside of which the call with this number fails.
+    fn failing(self, alloc: Global, number: u32) -> Result<Failing, AllocError> {
+        let mut failing = Failing::none(alloc);
+        match self {
+            Call::Fetch => failing.fetches.push(number)?,
+            Call::Take => failing.takes.push(number)?,
+            Call::Put => failing.puts.push(number)?,
+        }
+        Ok(failing)
+    }
+
+    /// The status of a run of which such a call failed.
+    fn status(self) -> u8 {
+        match self {
+            Call::Fetch | Call::Take => 5,
+            Call::Put => 6,
+        }
+    }
+}
+
+/// Makes the calls of a kind fail, one in a run, until a run ends without a fault.
+fn fail_each(
+    rt: &impl Abort,
+    alloc: Global,
+    call: Call,
+    words: &[&str],
+    input: &[u8],
+) -> Result<(), AllocError> {
+    let whole = ran_failing(alloc, words, input, Failing::none(alloc))?;
+    for number in 0..1000 {
+        let ran = ran_failing(alloc, words, input, call.failing(alloc, number)?)?;
+        if ran.ended.status() != call.status() {
+            assert_eq!(rt; ran.ended.status(), whole.ended.status(), "{words:?}");
+            assert_eq!(rt; ran.text.as_slice(), whole.text.as_slice(), "{words:?}");
+            return Ok(());
+        }
+        assert!(rt;
+            whole.text.starts_with(&ran.text),
+            "{words:?}, call {number}"
+        );
+    }
+    assert!(rt; false, "{words:?} does not end");
+    Ok(())
+}
+
+#[test]
+fn each_call_fails_once(rt: HostRuntime) -> Result<(), Fail> {
+    for (words, input) in ROWS {
+        for call in [Call::Fetch, Call::Take, Call::Put] {
+            fail_each(&rt, rt.alloc(), call, words, input)?;
+        }
+    }
+    Ok(())
+}
