@@ -1,8 +1,11 @@
 //! The program: the real objects of the outside, handed to the top call.
 #![tactic(auto)]
 
+use csn_catalogue::entries;
 use csn_io::{DirShelf, StdSink, StdSource};
+use csn_replay::{BitsWatcher, EntryWatcher, RefusedWatcher, Watcher};
 use csn_run::{Ended, run};
+use std::alloc::AllocError;
 use std::env;
 use std::io::{self, ErrorKind};
 use std::process::ExitCode;
@@ -19,6 +22,22 @@ fn status_without_words(error: &io::Error) -> u8 {
     }
 }
 
+/// Does the job that the words ask for. The watchers of `replay` are one for each entry in order, one for refused blocks
+/// and one for bits. They count as far as a number of 64 bits goes.
+fn run_words(rt: &HostRuntime, words: &[String]) -> Result<Ended, AllocError> {
+    let alloc = rt.alloc();
+    let mut watchers: Vec<Box<dyn Watcher>> = Vec::new(alloc);
+    for entry in entries() {
+        watchers.push(Box::new(alloc, EntryWatcher::new(entry, u64::MAX))?)?;
+    }
+    watchers.push(Box::new(alloc, RefusedWatcher::new(u64::MAX))?)?;
+    watchers.push(Box::new(alloc, BitsWatcher::new(u64::MAX))?)?;
+    let mut shelf = DirShelf::new(rt);
+    let mut input = StdSource::new(rt.stdin());
+    let mut out = StdSink::new(rt.stdout());
+    Ok(run(alloc, words, &mut shelf, &mut input, &mut out, watchers))
+}
+
 fn main(rt: HostRuntime) -> ExitCode {
     let mut words = match env::args(&rt) {
         Ok(words) => words,
@@ -28,9 +47,9 @@ fn main(rt: HostRuntime) -> ExitCode {
     let Ok(words) = words.collect::<Vec<String>>(rt.alloc()) else {
         return ExitCode::from(Ended::NoMemory.status());
     };
-    let mut shelf = DirShelf::new(&rt);
-    let mut input = StdSource::new(rt.stdin());
-    let mut out = StdSink::new(rt.stdout());
-    let ended = run(rt.alloc(), &words, &mut shelf, &mut input, &mut out);
+    let ended = match run_words(&rt, &words) {
+        Ok(ended) => ended,
+        Err(AllocError) => Ended::NoMemory,
+    };
     ExitCode::from(ended.status())
 }

@@ -1,1 +1,2 @@
 pub mod NoFaults
+pub mod WholeText

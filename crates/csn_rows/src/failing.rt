@@ -2,6 +2,7 @@
 
 use super::*;
 use crate::tests::{file, words_of};
+use csn_replay::BitsWatcher;
 use std::process::Abort;
 use std::test::Fail;
 
@@ -21,6 +22,10 @@ const ROWS: &[(&[&str], &[u8])] = &[
     (
         &["unjson", "F", "M", "received"],
         b"[{\"label\":\"A\",\"tree\":\"A0/3\"},null,{\"label\":\"B\",\"tree\":\"50/4\"}]\n[\n7\n",
+    ),
+    (
+        &["replay", "received"],
+        b"si1 2B\ndownlink FF\nia GG\nsi9 00\nsi1 83",
     ),
     (&["soak", "ia", "16"], b"A5\n"),
     (&["migrate"], b"b\n<A>=3'9\n.\n"),
@@ -48,7 +53,7 @@ impl Failing {
     }
 }
 
-/// A run over an outside that moves at most 48 bytes in a call, and of which some calls fail.
+/// A run over an outside that moves at most 48 bytes in a call, and of which some calls fail, with a watcher of bits.
 fn ran_failing(
     alloc: Global,
     words: &[&str],
@@ -59,7 +64,9 @@ fn ran_failing(
     let mut shelf = MemShelf::new(file(alloc, FIELDS)?, failing.fetches);
     let mut source = MemSource::new(Vec::from_slice(alloc, input)?, 48, failing.takes);
     let mut sink = MemSink::new(alloc, 48, failing.puts);
-    let ended = run(alloc, &words, &mut shelf, &mut source, &mut sink);
+    let mut watchers: Vec<Box<dyn Watcher>> = Vec::new(alloc);
+    watchers.push(Box::new(alloc, BitsWatcher::new(u64::MAX))?)?;
+    let ended = run(alloc, &words, &mut shelf, &mut source, &mut sink, watchers);
     let text = Vec::from_slice(alloc, sink.taken())?;
     Ok(Ran { ended, text })
 }

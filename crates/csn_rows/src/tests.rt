@@ -59,7 +59,14 @@ fn ran_in_pieces(
     let mut shelf = MemShelf::new(file(alloc, FIELDS)?, Vec::new(alloc));
     let mut source = MemSource::new(Vec::from_slice(alloc, input)?, most, failing_takes);
     let mut sink = MemSink::new(alloc, most, failing_puts);
-    let ended = run(alloc, &words, &mut shelf, &mut source, &mut sink);
+    let ended = run(
+        alloc,
+        &words,
+        &mut shelf,
+        &mut source,
+        &mut sink,
+        Vec::new(alloc),
+    );
     let text = Vec::from_slice(alloc, sink.taken())?;
     Ok(Ran { ended, text })
 }
@@ -381,7 +388,14 @@ fn shelf_that_fails_ends_the_run(rt: HostRuntime) -> Result<(), Fail> {
         let mut shelf = MemShelf::new(file(alloc, FIELDS)?, first);
         let mut source = MemSource::new(Vec::from_slice(alloc, b"A5\n")?, 7, Vec::new(alloc));
         let mut sink = MemSink::new(alloc, 7, Vec::new(alloc));
-        let ended = run(alloc, &words, &mut shelf, &mut source, &mut sink);
+        let ended = run(
+            alloc,
+            &words,
+            &mut shelf,
+            &mut source,
+            &mut sink,
+            Vec::new(alloc),
+        );
         assert_eq!(rt; ended.status(), 5, "{command}");
         assert_eq!(rt; sink.taken().len(), 0, "{command}");
     }

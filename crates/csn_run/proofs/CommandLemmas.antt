@@ -1,10 +1,13 @@
 -- Words, and the rows of the command table.
-use Rattle.std.proofs.Common.{◌≡◌, ◌↔◌, inl, ℕ, List, [], ◌∷◌, Option, None, IsSome, subst}
+use Rattle.std.proofs.Common.{◌≡◌, ◌↔◌, ◌⊎◌, inl, inr, ℕ, List, [], ◌∷◌, Option, None, IsSome, subst}
 use Rattle.csn_desc.specs.declared.reading.Reading.{Reading}
 use Rattle.csn_run.specs.declared.command.RuleCommand.{RuleCommand}
 use Rattle.csn_catalogue.specs.declared.entry.Entry.{Entry}
 use Rattle.csn_run.specs.Command.{IsCommand, IsOverRule, IsAnswer, IsMigrate, IsSoak, NamesFile, ReadsLines, leaves_check, leaves_soak}
 use Rattle.csn_run.specs.declared.command.Command.{Command}
+use Rattle.csn_replay.specs.Watched.{Watched}
+use Rattle.csn_run.specs.Job.{Asked}
+use Rattle.csn_run.specs.Result.{LineJob}
 use Rattle.csn_run.proofs.OneResult.{one_rule, over, answers, not_both, not_migrate, migrate_not_three, not_two, not_three, two_not_three}
 
 -- words that no command stands for are no row
@@ -18,6 +21,13 @@ one_file row other names = (one_rule (over row).row (over names.2).row).file_is
 pub answer_reads : {words : List (List ℕ)} {file name : List ℕ} {reading : Reading} (command : RuleCommand) → IsAnswer command words file name reading → ReadsLines words
 answer_reads command row (leaves_check file name reading check) = not_both command check row
 answer_reads command row (leaves_soak entry n soak) = not_three (answers command row) soak.words_are
+
+-- a job that reads lines and leaves the source alone, or has come to its lines
+pub reads_too :
+    {A : Type 0} (words : List (List ℕ)) (files : Option (List ℕ → Option (List ℕ))) (watchers : List Watched) → ReadsLines words
+    → A ⊎ ((job : LineJob) × Asked words files watchers job) → A ⊎ (ReadsLines words × (job : LineJob) × Asked words files watchers job)
+reads_too words files watchers reads (inl same) = inl same
+reads_too words files watchers reads (inr asked) = inr (reads, asked.0, asked.1)
 
 pub migrate_reads : {words : List (List ℕ)} → IsMigrate words → ReadsLines words
 migrate_reads is (leaves_check file name reading check) = not_migrate (over (inl check)) is

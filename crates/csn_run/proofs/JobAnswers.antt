@@ -13,10 +13,11 @@ use Rattle.csn_run.specs.Known.{KnownOfTrees, Known}
 use Rattle.csn_run.specs.Compiled.{IsCompiled}
 use Rattle.csn_run.specs.LineState.{LineState, AnswersAlone}
 use Rattle.csn_run.specs.OutLine.{AnswersByRule, MigratesLine, migrates_tree, migrates_place}
-use Rattle.csn_run.specs.Result.{LineJob, Steps, asks_by_rule, asks_migrate, asks_segments}
+use Rattle.csn_run.specs.Result.{LineJob, Steps, asks_by_rule, asks_migrate, asks_segments, asks_replay}
 use Rattle.csn_run.specs.Laws.{LinesHaveAnswers, LinesHaveOneAnswer}
 use Rattle.csn_run.proofs.ShownLines.{each_shown, one_shown}
 use Rattle.csn_run.proofs.JoinedLines.{each_segments, one_segments}
+use Rattle.csn_run.proofs.ReplayedLines.{each_replays, one_replays}
 use Rattle.csn_run.proofs.WrittenLines.{each_written, one_written}
 
 each_migrated : KnownOfTrees → (line : List ℕ) → (answer : List ℕ) × MigratesLine line answer
@@ -56,20 +57,25 @@ one_alone :
 one_alone Answer line one a b = (a.2 ∙ ap (λ l. l ++ 10 ∷ []) (one a.0 b.0 a.1 b.1) ∙ sym b.2, a.3 ∙ sym b.3)
 
 pub each_in_job : Known → LinesHaveAnswers
-each_in_job known words files job (asks_by_rule command file name text reading rules d row held fits compiled is) before line =
+each_in_job known words files watchers job (asks_by_rule command file name text reading rules d row held fits compiled is) before line =
     let step = alone (AnswersByRule command rules name reading) before line (each_by_rule known text rules name reading d compiled command line) in
     (step.0, step.1, subst (λ (j : LineJob). Steps j before line step.0 step.1) (sym is) step.2)
-each_in_job known words files job (asks_migrate row is) before line =
+each_in_job known words files watchers job (asks_migrate row is) before line =
     let step = alone MigratesLine before line (each_migrated known.of_trees line) in
     (step.0, step.1, subst (λ (j : LineJob). Steps j before line step.0 step.1) (sym is) step.2)
-each_in_job known words files job (asks_segments reading rules d row fits compiled is) before line =
+each_in_job known words files watchers job (asks_segments reading rules d row fits compiled is) before line =
     let step = each_segments known catalogue_text rules reading d compiled before line in
+    (step.0, step.1, subst (λ (j : LineJob). Steps j before line step.0 step.1) (sym is) step.2)
+each_in_job known words files watchers job (asks_replay reading rules plans row fits compiled is) before line =
+    let step = each_replays known rules reading plans compiled before line in
     (step.0, step.1, subst (λ (j : LineJob). Steps j before line step.0 step.1) (sym is) step.2)
 
 pub one_in_job : Known → LinesHaveOneAnswer
-one_in_job known words files job (asks_by_rule command file name written reading rules d row held fits compiled is) before line text other after end a b =
+one_in_job known words files watchers job (asks_by_rule command file name written reading rules d row held fits compiled is) before line text other after end a b =
     one_alone (AnswersByRule command rules name reading) line (one_by_rule known written rules name reading d compiled command line) (subst (λ (j : LineJob). Steps j before line text after) is a) (subst (λ (j : LineJob). Steps j before line other end) is b)
-one_in_job known words files job (asks_migrate row is) before line text other after end a b =
+one_in_job known words files watchers job (asks_migrate row is) before line text other after end a b =
     one_alone MigratesLine line (one_migrated known.of_trees line) (subst (λ (j : LineJob). Steps j before line text after) is a) (subst (λ (j : LineJob). Steps j before line other end) is b)
-one_in_job known words files job (asks_segments reading rules d row fits compiled is) before line text other after end a b =
+one_in_job known words files watchers job (asks_segments reading rules d row fits compiled is) before line text other after end a b =
     one_segments known catalogue_text rules reading d compiled (subst (λ (j : LineJob). Steps j before line text after) is a) (subst (λ (j : LineJob). Steps j before line other end) is b)
+one_in_job known words files watchers job (asks_replay reading rules plans row fits compiled is) before line text other after end a b =
+    one_replays known rules reading plans compiled (subst (λ (j : LineJob). Steps j before line text after) is a) (subst (λ (j : LineJob). Steps j before line other end) is b)

@@ -1,15 +1,15 @@
 -- How jobs are over.
-use Rattle.std.proofs.Common.{◌≡◌, ℕ, ◌+◌, ◌<◌, ◌≤◌, ◌⊎◌, Bool, inl, inr, List, [], ◌∷◌, ◌++◌, length, Option, Some, None, Result, Ok, Err, IfOk, IfErr, refl, sym, ◌∙◌, ap, subst, take, arith}
+use Rattle.std.proofs.Common.{◌≡◌, ℕ, ◌+◌, ◌<◌, ◌≤◌, ◌⊎◌, Bool, inl, inr, List, [], ◌∷◌, ◌++◌, length, map, Option, Some, None, Result, Ok, Err, IfOk, IfErr, refl, sym, ◌∙◌, ap, subst, take, arith}
 use Rattle.std.specs.List.{AllByRecursion}
 use Rattle.std.specs.Option.{option_map}
-use Rattle.std.proofs.lemmas.List.{length-take, take_all}
+use Rattle.std.proofs.lemmas.List.{length-take, map-append, take_all}
 use Rattle.csn_catalogue.specs.declared.entry.Entry.{Entry}
 use Rattle.csn_catalogue.specs.declared.entry.Entry.TheVariants.{Downlink}
-use Rattle.csn_catalogue.specs.Entries.{entry_root}
+use Rattle.csn_catalogue.specs.Entries.{all_entries, entry_root}
 use Rattle.csn_catalogue.specs.Text.{catalogue_text}
-use Rattle.csn_replay.specs.Watched.{reports}
+use Rattle.csn_replay.specs.Watched.{Watched, reports}
 use Rattle.csn_segment.specs.Joining.{JoinsFor}
-use Rattle.csn_run.specs.OutLine.{Segments, Joins}
+use Rattle.csn_run.specs.OutLine.{TellsWatchers, Replays, ReplaysBy, Segments, Joins}
 use Rattle.csn_desc.specs.declared.reading.Reading.{Reading}
 use Rattle.csn_desc.specs.declared.reading.Reading.TheVariants.{Sent}
 use Rattle.csn_soak.specs.declared.soaking.Soaked.{Soaked}
@@ -37,12 +37,12 @@ use Rattle.csn_run.specs.declared.planned.Unplanned.TheVariants.{File, Text}
 use Rattle.csn_run.specs.LineState.{LineState, Kept, closing, closing_of}
 use Rattle.csn_run.specs.Progress.{AnswersAll, Stops}
 use Rattle.csn_run.specs.declared.command.RuleCommand.{RuleCommand}
-use Rattle.csn_run.specs.Command.{IsCheck, IsAnswer, IsMigrate, IsSegments, IsSoak, IsOverRule, over_downlink, over_soaked, leaves_check, leaves_soak}
-use Rattle.csn_run.specs.Compiled.{RuleOf, rule_of_entry, IsCompiled, HasNoPlan, no_rules, rules_refused, not_certified, IsReason, Tells, certified_line, soaked_line}
+use Rattle.csn_run.specs.Command.{IsCheck, IsAnswer, IsMigrate, IsSegments, IsReplay, IsSoak, IsOverRule, over_downlink, over_all, over_soaked, leaves_check, leaves_soak}
+use Rattle.csn_run.specs.Compiled.{RuleOf, rule_of_entry, IsCompiled, HasNoPlan, no_rules, rules_refused, not_certified, IsReason, Tells, certified_line, soaked_line, AreCompiled}
 use Rattle.csn_run.specs.Planned.{IsPlanned, IsWhy, Refuses}
 use Rattle.csn_run.specs.Job.{IsDescription, IsBeforeLines, Asked, EndedBefore, JobEnds, unread, before_lines, all_lines, some_lines}
-use Rattle.csn_run.proofs.Following.{Follows, all_follow, stops_follow}
-use Rattle.csn_run.specs.Result.{LineJob, by_rule, migrating, Steps, beginning, segmenting, asks_by_rule, asks_migrate, asks_segments, HasJob, Compiles, of_file, of_catalogue, long_text, no_plan, no_job, checked, soaked, end_of}
+use Rattle.csn_run.proofs.Following.{Follows, all_follow, stops_follow, Watches}
+use Rattle.csn_run.specs.Result.{LineJob, by_rule, migrating, Steps, beginning, segmenting, asks_by_rule, asks_migrate, asks_segments, HasJob, Compiles, of_file, of_catalogue, long_text, no_plan, no_job, checked, soaked, end_of, replaying, asks_replay}
 
 -- ---- what the words ask for over told files
 
@@ -69,16 +69,16 @@ whole_file files file text is = go (files file) refl is.front
 
 -- a command by a plan
 pub asked_by_rule :
-    (words : List (List ℕ)) (files : Option (List ℕ → Option (List ℕ))) (command : RuleCommand) (rule : RuleWords) (d : DescV)
+    (words : List (List ℕ)) (files : Option (List ℕ → Option (List ℕ))) (watchers : List Watched) (command : RuleCommand) (rule : RuleWords) (d : DescV)
     → IsAnswer command words rule.file.now rule.name.now rule.reading → (is : IsPlanned files rule d)
-    → Asked words files (by_rule command is.rules rule.name.now rule.reading)
-asked_by_rule words None command rule d row is = tt
-asked_by_rule words (Some files) command rule d row is =
+    → Asked words files watchers (by_rule command is.rules rule.name.now rule.reading)
+asked_by_rule words None watchers command rule d row is = tt
+asked_by_rule words (Some files) watchers command rule d row is =
     asks_by_rule command rule.file.now rule.name.now is.text rule.reading is.rules d row (whole_file files rule.file.now is.text is.fetched) is.fetched.fits is.compiled refl
 
-pub asked_migrate : (words : List (List ℕ)) (files : Option (List ℕ → Option (List ℕ))) → IsMigrate words → Asked words files migrating
-asked_migrate words None row = tt
-asked_migrate words (Some files) row = asks_migrate row refl
+pub asked_migrate : (words : List (List ℕ)) (files : Option (List ℕ → Option (List ℕ))) (watchers : List Watched) → IsMigrate words → Asked words files watchers migrating
+asked_migrate words None watchers row = tt
+asked_migrate words (Some files) watchers row = asks_migrate row refl
 
 -- `check` by a plan
 pub ended_checked :
@@ -127,13 +127,13 @@ ended_by_text words (Some files) front rule behind written reason line ended com
 
 -- the job is over before it has a plan, by the text of a rule
 pub reason_ends :
-    (words : List (List ℕ)) (files : Option (List ℕ → Option (List ℕ))) (front : List RuleOf) (rule : RuleOf) (behind : List RuleOf) (left taken : Option (List ℕ)) (waits : List ℕ) (reason : NoPlan) (end : Result Ended Fault)
+    (words : List (List ℕ)) (files : Option (List ℕ → Option (List ℕ))) (watchers : List Watched) (front : List RuleOf) (rule : RuleOf) (behind : List RuleOf) (left taken : Option (List ℕ)) (waits : List ℕ) (reason : NoPlan) (end : Result Ended Fault)
     → ((told : List ℕ → Option (List ℕ)) → files ≡ Some told → Compiles words told (front ++ rule ∷ behind)) → AllByRecursion HasJob front
     → length rule.text ≤ MOST_DESCRIPTION → IsReason rule.text rule.name rule.reading reason → Refuses (Text reason) waits end
-    → JobEnds words files left left taken taken waits end
-reason_ends words files front rule behind left taken waits reason (Ok ended) compiles before fits is refuses =
+    → JobEnds words files watchers left left taken taken waits end
+reason_ends words files watchers front rule behind left taken waits reason (Ok ended) compiles before fits is refuses =
     before_lines (ended_by_text words files front rule behind waits reason refuses.0 ended compiles before fits is refuses.2 refuses.1) refl refl
-reason_ends words files front rule behind left taken waits reason (Err fault) compiles before fits is refuses = unread refl refl refuses.1 (inr (ap Err refuses.0))
+reason_ends words files watchers front rule behind left taken waits reason (Err fault) compiles before fits is refuses = unread refl refl refuses.1 (inr (ap Err refuses.0))
 
 module _ (words : List (List ℕ)) (rule : RuleWords) (row : IsOverRule words rule.file.now rule.name.now rule.reading) where
   ended_by_length :
@@ -146,22 +146,22 @@ module _ (words : List (List ℕ)) (rule : RuleWords) (row : IsOverRule words ru
 
   -- the job is over before it has a plan
   pub refused_ends :
-      (files : Option (List ℕ → Option (List ℕ))) (left taken : Option (List ℕ)) (waits : List ℕ) (why : Unplanned) (end : Result Ended Fault)
-      → IsWhy files rule why → Refuses why waits end → JobEnds words files left left taken taken waits end
-  refused_ends files left taken waits (File fault) end is refuses = by_fault fault is refuses
+      (files : Option (List ℕ → Option (List ℕ))) (watchers : List Watched) (left taken : Option (List ℕ)) (waits : List ℕ) (why : Unplanned) (end : Result Ended Fault)
+      → IsWhy files rule why → Refuses why waits end → JobEnds words files watchers left left taken taken waits end
+  refused_ends files watchers left taken waits (File fault) end is refuses = by_fault fault is refuses
     where
       by_fault :
           (fault : Fault) → IsWhy files rule (File fault) → Refuses (File fault) waits end
-          → JobEnds words files left left taken taken waits end
+          → JobEnds words files watchers left left taken taken waits end
       by_fault Read is refuses = unread refl refl refuses.1 (inl refuses.0)
       by_fault Write is refuses = absurd (is.0 refl)
       by_fault Memory is refuses = unread refl refl refuses.1 (inr refuses.0)
       by_fault TooLong is refuses =
           let long = is.1 refl in
-          let P : Result Ended Fault → Type 0 = λ e. JobEnds words files left left taken taken waits e in
+          let P : Result Ended Fault → Type 0 = λ e. JobEnds words files watchers left left taken taken waits e in
           subst P (sym refuses.0) (before_lines (ended_by_length files long.0 waits refuses.1 long.1 long.2) refl refl)
-  refused_ends files left taken waits (Text reason) end is refuses =
-      reason_ends words files [] (record { text = is.0; name = rule.name.now; reading = rule.reading }) [] left taken waits reason end
+  refused_ends files watchers left taken waits (Text reason) end is refuses =
+      reason_ends words files watchers [] (record { text = is.0; name = rule.name.now; reading = rule.reading }) [] left taken waits reason end
       (λ told e. file_compiles words told rule.file.now rule.name.now is.0 rule.reading row (whole_file told rule.file.now is.0 (subst (λ (f : Option (List ℕ → Option (List ℕ))). IsDescription f rule.file.now is.0) e is.1)))
       tt is.1.fits is.2 refuses
 
@@ -174,11 +174,11 @@ pub soak_compiles : (words : List (List ℕ)) (files : List ℕ → Option (List
 soak_compiles words files entry n row = of_catalogue (entry ∷ []) Sent (over_soaked entry n row refl refl) refl
 
 pub asked_segments :
-    (words : List (List ℕ)) (files : Option (List ℕ → Option (List ℕ))) (reading : Reading) (rules : RulesV) (d : DescV) → IsSegments words reading
+    (words : List (List ℕ)) (files : Option (List ℕ → Option (List ℕ))) (watchers : List Watched) (reading : Reading) (rules : RulesV) (d : DescV) → IsSegments words reading
     → length catalogue_text ≤ MOST_DESCRIPTION → IsCompiled catalogue_text (entry_root Downlink) reading rules d
-    → Asked words files (segmenting rules reading)
-asked_segments words None reading rules d row fits is = tt
-asked_segments words (Some files) reading rules d row fits is = asks_segments reading rules d row fits is refl
+    → Asked words files watchers (segmenting rules reading)
+asked_segments words None watchers reading rules d row fits is = tt
+asked_segments words (Some files) watchers reading rules d row fits is = asks_segments reading rules d row fits is refl
 
 -- the bodies that a command keeps are those that wait behind the blocks before
 pub record KeepsBodies (kept : Kept) (state : LineState) : Type 0 where
@@ -198,40 +198,62 @@ joins_follow d source rules reading compiled kept line text kept' h before is =
       record { joins = next.1; watches = h.3 ∙ is.watches },
     )
 
+-- what `replay` compiles
+pub replay_compiles :
+    (words : List (List ℕ)) (files : List ℕ → Option (List ℕ)) (reading : Reading) (front : List Entry) (entry : Entry) (behind : List Entry)
+    → IsReplay words reading → all_entries ≡ front ++ entry ∷ behind
+    → Compiles words files (map (rule_of_entry reading) front ++ rule_of_entry reading entry ∷ map (rule_of_entry reading) behind)
+replay_compiles words files reading front entry behind row split =
+    of_catalogue all_entries reading (over_all row refl) (sym (map-append (rule_of_entry reading) front (entry ∷ behind)) ∙ ap (map (rule_of_entry reading)) (sym split))
+
+pub asked_replay :
+    (words : List (List ℕ)) (files : Option (List ℕ → Option (List ℕ))) (watchers : List Watched) (reading : Reading) (rules : RulesV) (plans : List DescV) → IsReplay words reading
+    → length catalogue_text ≤ MOST_DESCRIPTION → AreCompiled rules reading all_entries plans
+    → Asked words files watchers (replaying rules reading watchers)
+asked_replay words None watchers reading rules plans row fits are = tt
+asked_replay words (Some files) watchers reading rules plans row fits are = asks_replay reading rules plans row fits are refl
+
+pub replays_follow : (plans : List DescV) (rules : RulesV) (reading : Reading) → AreCompiled rules reading all_entries plans → Follows Watches (ReplaysBy plans) (Replays rules reading)
+replays_follow plans rules reading compiled kept line text kept' h before is = (
+  record { blocks = before.blocks; watchers = kept'.watchers },
+  (h.0, h.1, h.2 rules reading compiled, subst (λ w. TellsWatchers h.0 h.1 w text kept'.watchers) is h.3, refl),
+  refl,
+)
+
 -- ---- ends of jobs
 
 -- the job is over with its lines
 pub lines_end :
-    (Stands : Kept → LineState → Type 0) (A : Kept → List ℕ → List ℕ → Kept → Type 0) (kept : Kept) (words : List (List ℕ)) (files : Option (List ℕ → Option (List ℕ))) (job : LineJob) (left left' taken taken' : Option (List ℕ)) (waits : List ℕ) (refused : Bool) (end : Result Ended Fault)
-    → Asked words files job → Follows Stands A (Steps job) → ((kept : Kept) (state : LineState) → Stands kept state → closing_of kept ≡ closing state) → Stands kept (beginning job)
+    (Stands : Kept → LineState → Type 0) (A : Kept → List ℕ → List ℕ → Kept → Type 0) (kept : Kept) (words : List (List ℕ)) (files : Option (List ℕ → Option (List ℕ))) (watchers : List Watched) (job : LineJob) (left left' taken taken' : Option (List ℕ)) (waits : List ℕ) (refused : Bool) (end : Result Ended Fault)
+    → Asked words files watchers job → Follows Stands A (Steps job) → ((kept : Kept) (state : LineState) → Stands kept state → closing_of kept ≡ closing state) → Stands kept (beginning job)
     → IfOk end (λ ended. AnswersAll A closing_of kept left left' taken taken' waits refused × (ended ≡ end_of refused))
-    → IfErr end (λ fault. Stops A kept fault left left' taken taken' waits) → JobEnds words files left left' taken taken' waits end
-lines_end Stands A kept words files job left left' taken taken' waits refused (Ok ended) asked follows closes is ok err = all_lines job refused asked (all_follow Stands A (Steps job) follows kept (beginning job) is closes ok.0) (ap Ok ok.1)
-lines_end Stands A kept words files job left left' taken taken' waits refused (Err fault) asked follows closes is ok err = some_lines job fault asked (stops_follow Stands A (Steps job) follows kept (beginning job) is fault err) refl
+    → IfErr end (λ fault. Stops A kept fault left left' taken taken' waits) → JobEnds words files watchers left left' taken taken' waits end
+lines_end Stands A kept words files watchers job left left' taken taken' waits refused (Ok ended) asked follows closes is ok err = all_lines job refused asked (all_follow Stands A (Steps job) follows kept (beginning job) is closes ok.0) (ap Ok ok.1)
+lines_end Stands A kept words files watchers job left left' taken taken' waits refused (Err fault) asked follows closes is ok err = some_lines job fault asked (stops_follow Stands A (Steps job) follows kept (beginning job) is fault err) refl
 
 -- the job of `check` is over by a plan
 pub check_ends :
-    (words : List (List ℕ)) (files : Option (List ℕ → Option (List ℕ))) (rule : RuleWords) (d : DescV) (left taken : Option (List ℕ)) (waits : List ℕ) (end : Result Ended Fault)
+    (words : List (List ℕ)) (files : Option (List ℕ → Option (List ℕ))) (watchers : List Watched) (rule : RuleWords) (d : DescV) (left taken : Option (List ℕ)) (waits : List ℕ) (end : Result Ended Fault)
     → IsCheck words rule.file.now rule.name.now rule.reading → IsPlanned files rule d
     → IfOk end (λ ended. (ended ≡ Done) × (waits ≡ certified_line d ++ 10 ∷ [])) → IfErr end (λ fault. (fault ≡ Memory) × (waits ≡ []))
-    → JobEnds words files left left taken taken waits end
-check_ends words files rule d left taken waits (Ok ended) row is ok err =
+    → JobEnds words files watchers left left taken taken waits end
+check_ends words files watchers rule d left taken waits (Ok ended) row is ok err =
     let P : Ended → Type 0 = λ e. EndedBefore words files waits e in
     let Q : List ℕ → Type 0 = λ w. EndedBefore words files w Done in
     before_lines (subst P (sym ok.0) (subst Q (sym ok.1) (ended_checked words files rule d row is))) refl refl
-check_ends words files rule d left taken waits (Err fault) row is ok err = unread refl refl err.1 (inr (ap Err err.0))
+check_ends words files watchers rule d left taken waits (Err fault) row is ok err = unread refl refl err.1 (inr (ap Err err.0))
 
 -- the job of `soak` is over with its counts
 pub soak_ends :
-    (words : List (List ℕ)) (files : Option (List ℕ → Option (List ℕ))) (entry : Entry) (n : ℕ) (rules : RulesV) (d : DescV) (counts : Soaked) (left taken : Option (List ℕ)) (waits : List ℕ) (end : Result Ended Fault)
+    (words : List (List ℕ)) (files : Option (List ℕ → Option (List ℕ))) (watchers : List Watched) (entry : Entry) (n : ℕ) (rules : RulesV) (d : DescV) (counts : Soaked) (left taken : Option (List ℕ)) (waits : List ℕ) (end : Result Ended Fault)
     → IsSoak words entry n → length catalogue_text ≤ MOST_DESCRIPTION → IsCompiled catalogue_text (entry_root entry) Sent rules d → IsSoaked d entry n counts
     → IfOk end (λ ended. (ended ≡ Done) × (waits ≡ soaked_line n counts ++ 10 ∷ [])) → IfErr end (λ fault. (fault ≡ Memory) × (waits ≡ []))
-    → JobEnds words files left left taken taken waits end
-soak_ends words None entry n rules d counts left taken waits (Ok ended) row fits is from ok err =
+    → JobEnds words files watchers left left taken taken waits end
+soak_ends words None watchers entry n rules d counts left taken waits (Ok ended) row fits is from ok err =
     before_lines (inr (ok.0, λ reads. reads (leaves_soak entry n row))) refl refl
-soak_ends words (Some files) entry n rules d counts left taken waits (Ok ended) row fits is from ok err =
+soak_ends words (Some files) watchers entry n rules d counts left taken waits (Ok ended) row fits is from ok err =
     before_lines (soaked entry n rules d counts row fits is from ok.1 ok.0) refl refl
-soak_ends words files entry n rules d counts left taken waits (Err fault) row fits is from ok err = unread refl refl err.1 (inr (ap Err err.0))
+soak_ends words files watchers entry n rules d counts left taken waits (Err fault) row fits is from ok err = unread refl refl err.1 (inr (ap Err err.0))
 
 -- why rules that are refused give no plan
 pub resolved_reason :

@@ -23,6 +23,10 @@ use Rattle.csn_run.specs.LineState.{LineState}
 use Rattle.csn_run.specs.OutLine.{AnswersJoined, SegmentsLine, joins_block, no_octets, no_block as is_no_block, Segments, fault_text, segment_fault}
 use Rattle.csn_run.proofs.ShownLines.{each_block, one_block, no_block, one_fault}
 
+pub same_state : (after end : LineState) → after.blocks ≡ end.blocks → after.watchers ≡ end.watchers → after ≡ end
+same_state after end blocks watchers =
+    ap (λ b. record { blocks = b; watchers = after.watchers }) blocks ∙ ap (λ w. record { blocks = end.blocks; watchers = w }) watchers
+
 -- ---- each line has an answer
 
 module _ (known : Known) (text : List ℕ) (rules : RulesV) (reading : Reading) (d : DescV) (is : IsCompiled text (entry_root Downlink) reading rules d) where
@@ -82,10 +86,6 @@ module _ (known : Known) (text : List ℕ) (rules : RulesV) (reading : Reading) 
   one_line before after end line answer other (is_no_block fault holds e is_after) (no_octets block spells part e' is_end) = absurd (no_block known text rules (entry_root Downlink) reading d is line block fault holds spells)
   one_line before after end line answer other (joins_block block spells whole joined is_after) (is_no_block fault holds e is_end) = absurd (no_block known text rules (entry_root Downlink) reading d is line block fault holds spells)
   one_line before after end line answer other (no_octets block spells part e' is_after) (is_no_block fault holds e is_end) = absurd (no_block known text rules (entry_root Downlink) reading d is line block fault holds spells)
-
-  same_state : (after end : LineState) → after.blocks ≡ end.blocks → after.watchers ≡ end.watchers → after ≡ end
-  same_state after end blocks watchers =
-      ap (λ b. record { blocks = b; watchers = after.watchers }) blocks ∙ ap (λ w. record { blocks = end.blocks; watchers = w }) watchers
 
   pub one_segments : {before : LineState} {line text other : List ℕ} {after end : LineState} → Segments rules reading before line text after → Segments rules reading before line other end → (text ≡ other) × (after ≡ end)
   one_segments {before} {line} {after = after} {end} h k =

@@ -1,4 +1,5 @@
 pub mod AnswerLemmas
+pub mod Captures
 pub mod CommandLemmas
 pub mod FormLemmas
 pub mod FormsAgree
@@ -21,6 +22,8 @@ pub mod OneResult
 pub mod MeantParts
 pub mod ShownLines
 pub mod JoinedLines
+pub mod ReplayedLines
+pub mod EntryPlans
 pub mod WrittenLines
 pub mod OneTree
 pub mod SoakedBlocks

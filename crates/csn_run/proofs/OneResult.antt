@@ -4,13 +4,14 @@ use Rattle.std.specs.List.{AllByRecursion}
 use Rattle.std.specs.Prelude.{slice_index}
 use Rattle.csn_catalogue.specs.declared.entry.Entry.{Entry}
 use Rattle.csn_catalogue.specs.declared.entry.Entry.TheVariants.{Downlink}
-use Rattle.csn_catalogue.specs.Entries.{entry_root}
+use Rattle.csn_catalogue.specs.Entries.{entry_root, all_entries}
 use Rattle.csn_catalogue.specs.Text.{catalogue_text}
 use Rattle.csn_desc.specs.declared.reading.Reading.{Reading}
 use Rattle.csn_desc.specs.declared.reading.Reading.TheVariants.{Received, Sent}
 use Rattle.csn_desc.specs.Nodes.{DescV}
 use Rattle.csn_grammar.specs.RulesV.{RulesV}
 use Rattle.csn_grammar.specs.Place.{HasRules}
+use Rattle.csn_replay.specs.Watched.{Watched}
 use Rattle.csn_resolve.specs.Why.{number_of}
 use Rattle.csn_resolve.specs.Resolved.{IsResolved, IsRefused}
 use Rattle.csn_look.specs.declared.word.TheConstants.{MOST_WORD}
@@ -22,9 +23,9 @@ use Rattle.csn_run.specs.declared.command.TreeForm.TheVariants.{Text, Json}
 use Rattle.csn_run.specs.declared.ended.Ended.{Ended}
 use Rattle.csn_run.specs.declared.compile.TheConstants.{MOST_DESCRIPTION}
 use Rattle.csn_run.specs.Known.{KnownOfTexts}
-use Rattle.csn_run.specs.Command.{word_of, command_word, NamesRule, NamesReading, IsCheck, IsAnswer, IsMigrate, IsSoak, IsOverRule, IsOverEntries, over_downlink, over_soaked}
-use Rattle.csn_run.specs.Compiled.{RuleOf, rule_of_entry, line_of, conflict_line, certified_line, soaked_line, IsCompiled, HasNoPlan, no_rules, rules_refused, not_certified}
-use Rattle.csn_run.specs.Result.{LineJob, by_rule, segmenting, AsksFor, asks_by_rule, asks_migrate, asks_segments, AnswersInput, HasJob, Compiles, of_file, of_catalogue, HasNoJob, long_text, no_plan, EndsBefore, no_job, checked, soaked, no_line, lines}
+use Rattle.csn_run.specs.Command.{word_of, command_word, NamesRule, NamesReading, IsCheck, IsAnswer, IsMigrate, IsSegments, IsReplay, IsSoak, IsOverRule, IsOverEntries, over_downlink, over_all, over_soaked}
+use Rattle.csn_run.specs.Compiled.{RuleOf, rule_of_entry, line_of, conflict_line, certified_line, soaked_line, AreCompiled, IsCompiled, HasNoPlan, no_rules, rules_refused, not_certified}
+use Rattle.csn_run.specs.Result.{LineJob, by_rule, segmenting, replaying, AsksFor, asks_by_rule, asks_migrate, asks_segments, asks_replay, AnswersInput, HasJob, Compiles, of_file, of_catalogue, HasNoJob, long_text, no_plan, EndsBefore, no_job, checked, soaked, no_line, lines}
 use Rattle.csn_run.specs.Laws.{LinesHaveOneAnswer, RunsHaveOneResult}
 use Rattle.csn_soak.specs.Soaking.{IsSoaked}
 use Rattle.csn_run.proofs.OneInput.{Written, one_input}
@@ -126,6 +127,13 @@ same_reading {words} {command} {other} {reading} {reading'} is is' =
     let all : command ∷ word_of reading ∷ [] ≡ other ∷ word_of reading' ∷ [] = sym is ∙ is' in
     let read : word_of reading ≡ word_of reading' = cc in one_reading_word reading reading' read
 
+not_segments_and_replay : {words : List (List ℕ)} (reading reading' : Reading) → IsSegments words reading → IsReplay words reading' → ⊥
+not_segments_and_replay {words} reading reading' is is' =
+    let all : codes "segments" ∷ word_of reading ∷ [] ≡ codes "replay" ∷ word_of reading' ∷ [] = sym is ∙ is' in
+    let same : codes "segments" ≡ codes "replay" = cc in
+    let first : 115 ≡ 114 = ap (λ w. slice_index w 0) same in
+    omega (arith, first)
+
 -- ---- what is compiled
 
 abbrev pub rule_of : List ℕ → List ℕ → Reading → RuleOf
@@ -140,10 +148,12 @@ rest_of e = cc
 -- a command over a rule is none over entries
 not_entries : {words : List (List ℕ)} {file name : List ℕ} {reading reading' : Reading} {entries : List Entry} → OverRule words file name reading → IsOverEntries words entries reading' → ⊥
 not_entries rule (over_downlink row is) = not_two rule row
+not_entries rule (over_all row is) = not_two rule row
 not_entries rule (over_soaked entry n row is sent) = not_three rule row.words_are
 
 migrate_no_entries : {words : List (List ℕ)} {reading : Reading} {entries : List Entry} → IsMigrate words → IsOverEntries words entries reading → ⊥
 migrate_no_entries row (over_downlink row' is) = migrate_alone row row'
+migrate_no_entries row (over_all row' is) = migrate_alone row row'
 migrate_no_entries row (over_soaked entry n row' is sent) = migrate_not_three row row'.words_are
 
 -- words name one list of entries
@@ -151,8 +161,13 @@ one_entries :
     {words : List (List ℕ)} {entries others : List Entry} {reading reading' : Reading}
     → IsOverEntries words entries reading → IsOverEntries words others reading' → (entries ≡ others) × (reading ≡ reading')
 one_entries (over_downlink row is) (over_downlink row' is') = (is ∙ sym is', same_reading row row')
+one_entries {reading = reading} {reading'} (over_downlink row is) (over_all row' is') = absurd (not_segments_and_replay reading reading' row row')
 one_entries (over_downlink row is) (over_soaked entry n row' is' sent) = absurd (two_not_three row row'.words_are)
+one_entries {reading = reading} {reading'} (over_all row is) (over_downlink row' is') = absurd (not_segments_and_replay reading' reading row' row)
+one_entries (over_all row is) (over_all row' is') = (is ∙ sym is', same_reading row row')
+one_entries (over_all row is) (over_soaked entry n row' is' sent) = absurd (two_not_three row row'.words_are)
 one_entries (over_soaked entry n row is sent) (over_downlink row' is') = absurd (two_not_three row' row.words_are)
+one_entries (over_soaked entry n row is sent) (over_all row' is') = absurd (two_not_three row' row.words_are)
 one_entries (over_soaked entry n row is sent) (over_soaked entry' n' row' is' sent') =
     (is ∙ ap (λ e. e ∷ []) (one_soak row row').0 ∙ sym is', sent ∙ sym sent')
 
@@ -175,6 +190,17 @@ one_list_compiles words files all others (of_catalogue entries reading row is) (
 pub holds_at : (front : List RuleOf) (rule : RuleOf) (behind : List RuleOf) → AllByRecursion HasJob (front ++ rule ∷ behind) → HasJob rule
 holds_at [] rule behind h = h.0
 holds_at (first ∷ front) rule behind h = holds_at front rule behind h.1
+
+-- rules that give all entries descriptions are those of the catalogue
+pub rules_compiled : (reading : Reading) (rules : RulesV) (plans : List DescV) → AreCompiled rules reading all_entries plans → HasRules catalogue_text rules
+rules_compiled reading rules [] compiled = absurd compiled
+rules_compiled reading rules (d ∷ ds) compiled = compiled.0.has_rules
+
+-- they give each entry a job
+pub all_have_jobs : length catalogue_text ≤ MOST_DESCRIPTION → (reading : Reading) (rules : RulesV) (entries : List Entry) (plans : List DescV) → AreCompiled rules reading entries plans → AllByRecursion HasJob (map (rule_of_entry reading) entries)
+all_have_jobs fits reading rules [] plans compiled = tt
+all_have_jobs fits reading rules (entry ∷ entries) [] compiled = absurd compiled
+all_have_jobs fits reading rules (entry ∷ entries) (d ∷ ds) compiled = ((fits, rules, d, compiled.0), all_have_jobs fits reading rules entries ds compiled.1)
 
 module _ (known : KnownOfTexts) where
   -- ---- a text without a plan
@@ -326,26 +352,35 @@ module _ (known : KnownOfTexts) where
 
     -- ---- which job the words ask for
 
-    one_job : (job other : LineJob) → AsksFor words files job → AsksFor words files other → job ≡ other
-    one_job job other (asks_by_rule command file name text reading rules d row held fits compiled is) (asks_by_rule command' file' name' text' reading' rules' d' row' held' fits' compiled' is') =
+    one_job : (watchers : List Watched) (job other : LineJob) → AsksFor words files watchers job → AsksFor words files watchers other → job ≡ other
+    one_job watchers job other (asks_by_rule command file name text reading rules d row held fits compiled is) (asks_by_rule command' file' name' text' reading' rules' d' row' held' fits' compiled' is') =
         let here = first_of (one_list_compiles words files _ _ (checked_compiles (inr (command, row)) held fits compiled).0 (checked_compiles (inr (command', row')) held' fits' compiled').0) in
         let P : RuleOf → Type 0 = λ r. HasRules r.text rules in
         let all : rules ≡ rules' = known.one_list text' rules rules' (subst P here compiled.has_rules) compiled'.has_rules in
         let same = one_rule row row' in
         is ∙ ap (λ c. by_rule c rules name reading) (one_command command command' same.command_is) ∙ ap (λ r. by_rule command' r name reading) all ∙ ap (λ n. by_rule command' rules' n reading) same.name_is ∙ ap (λ r. by_rule command' rules' name' r) same.reading_is ∙ sym is'
-    one_job job other (asks_by_rule command file name text reading rules d row held fits compiled is) (asks_migrate row' is') = absurd (not_migrate (answers command row) row')
-    one_job job other (asks_by_rule command file name text reading rules d row held fits compiled is) (asks_segments reading' rules' d' row' fits' compiled' is') = absurd (not_two (answers command row) row')
-    one_job job other (asks_migrate row' is') (asks_by_rule command file name text reading rules d row held fits compiled is) = absurd (not_migrate (answers command row) row')
-    one_job job other (asks_migrate row is) (asks_migrate row' is') = is ∙ sym is'
-    one_job job other (asks_migrate row is) (asks_segments reading' rules' d' row' fits' compiled' is') = absurd (migrate_alone row row')
-    one_job job other (asks_segments reading' rules' d' row' fits' compiled' is') (asks_by_rule command file name text reading rules d row held fits compiled is) = absurd (not_two (answers command row) row')
-    one_job job other (asks_segments reading' rules' d' row' fits' compiled' is') (asks_migrate row is) = absurd (migrate_alone row row')
-    one_job job other (asks_segments reading rules d row fits compiled is) (asks_segments reading' rules' d' row' fits' compiled' is') =
+    one_job watchers job other (asks_by_rule command file name text reading rules d row held fits compiled is) (asks_migrate row' is') = absurd (not_migrate (answers command row) row')
+    one_job watchers job other (asks_by_rule command file name text reading rules d row held fits compiled is) (asks_segments reading' rules' d' row' fits' compiled' is') = absurd (not_two (answers command row) row')
+    one_job watchers job other (asks_migrate row' is') (asks_by_rule command file name text reading rules d row held fits compiled is) = absurd (not_migrate (answers command row) row')
+    one_job watchers job other (asks_migrate row is) (asks_migrate row' is') = is ∙ sym is'
+    one_job watchers job other (asks_migrate row is) (asks_segments reading' rules' d' row' fits' compiled' is') = absurd (migrate_alone row row')
+    one_job watchers job other (asks_segments reading' rules' d' row' fits' compiled' is') (asks_by_rule command file name text reading rules d row held fits compiled is) = absurd (not_two (answers command row) row')
+    one_job watchers job other (asks_segments reading' rules' d' row' fits' compiled' is') (asks_migrate row is) = absurd (migrate_alone row row')
+    one_job watchers job other (asks_segments reading rules d row fits compiled is) (asks_segments reading' rules' d' row' fits' compiled' is') =
         let all : rules ≡ rules' = known.one_list catalogue_text rules rules' compiled.has_rules compiled'.has_rules in
         is ∙ ap (λ r. segmenting r reading) all ∙ ap (λ r. segmenting rules' r) (same_reading row row') ∙ sym is'
+    one_job watchers job other (asks_by_rule command file name text reading rules d row held fits compiled is) (asks_replay reading' rules' plans' row' fits' compiled' is') = absurd (not_two (answers command row) row')
+    one_job watchers job other (asks_migrate row is) (asks_replay reading' rules' plans' row' fits' compiled' is') = absurd (migrate_alone row row')
+    one_job watchers job other (asks_segments reading rules d row fits compiled is) (asks_replay reading' rules' plans' row' fits' compiled' is') = absurd (not_segments_and_replay reading reading' row row')
+    one_job watchers job other (asks_replay reading' rules' plans' row' fits' compiled' is') (asks_by_rule command file name text reading rules d row held fits compiled is) = absurd (not_two (answers command row) row')
+    one_job watchers job other (asks_replay reading' rules' plans' row' fits' compiled' is') (asks_migrate row is) = absurd (migrate_alone row row')
+    one_job watchers job other (asks_replay reading' rules' plans' row' fits' compiled' is') (asks_segments reading rules d row fits compiled is) = absurd (not_segments_and_replay reading reading' row row')
+    one_job watchers job other (asks_replay reading rules plans row fits compiled is) (asks_replay reading' rules' plans' row' fits' compiled' is') =
+        let all : rules ≡ rules' = known.one_list catalogue_text rules rules' (rules_compiled reading rules plans compiled) (rules_compiled reading' rules' plans' compiled') in
+        is ∙ ap (λ r. replaying r reading watchers) all ∙ ap (λ r. replaying rules' r watchers) (same_reading row row') ∙ sym is'
 
     -- a run that has a job over lines has one for each rule that it compiles
-    pub jobs_compile : (job : LineJob) (all : List RuleOf) → AsksFor words files job → Compiles words files all → AllByRecursion HasJob all
+    pub jobs_compile : {watchers : List Watched} (job : LineJob) (all : List RuleOf) → AsksFor words files watchers job → Compiles words files all → AllByRecursion HasJob all
     jobs_compile job all (asks_by_rule command file name text reading rules d row held fits compiled is) compiles =
         let here = checked_compiles (inr (command, row)) held fits compiled in
         subst (λ (l : List RuleOf). AllByRecursion HasJob l) (one_list_compiles words files _ all here.0 compiles) here.1
@@ -354,21 +389,26 @@ module _ (known : KnownOfTexts) where
     jobs_compile job all (asks_segments reading rules d row fits compiled is) compiles =
         let here : AllByRecursion HasJob (rule_of_entry reading Downlink ∷ []) = ((fits, rules, d, compiled), tt) in
         subst (λ (l : List RuleOf). AllByRecursion HasJob l) (one_list_compiles words files (rule_of_entry reading Downlink ∷ []) all (of_catalogue (Downlink ∷ []) reading (over_downlink row refl) refl) compiles) here
+    jobs_compile job all (asks_replay reading rules plans row fits compiled is) compiles =
+        subst (λ (l : List RuleOf). AllByRecursion HasJob l) (one_list_compiles words files (map (rule_of_entry reading) all_entries) all (of_catalogue all_entries reading (over_all row refl) refl) compiles)
+        (all_have_jobs fits reading rules all_entries plans compiled)
 
     -- a run that comes to no line has no job over lines
-    pub before_or_job : {w : List ℕ} {e : Ended} (job : LineJob) → EndsBefore words files w e → AsksFor words files job → ⊥
+    pub before_or_job : {w : List ℕ} {e : Ended} {watchers : List Watched} (job : LineJob) → EndsBefore words files w e → AsksFor words files watchers job → ⊥
     before_or_job job (no_job front rule behind compiles has none) asked = job_or_none rule (holds_at front rule behind (jobs_compile job _ asked compiles)) none
     before_or_job job (checked file name text reading rules d row held fits compiled is end) (asks_by_rule command file' name' text' reading' rules' d' row' held' fits' compiled' is') = not_both command row row'
     before_or_job job (checked file name text reading rules d row held fits compiled is end) (asks_migrate row' is') = not_migrate (over (inl row)) row'
     before_or_job job (checked file name text reading rules d row held fits compiled is end) (asks_segments reading' rules' d' row' fits' compiled' is') = not_two (over (inl row)) row'
+    before_or_job job (checked file name text reading rules d row held fits compiled is end) (asks_replay reading' rules' plans' row' fits' compiled' is') = not_two (over (inl row)) row'
     before_or_job job (soaked entry n rules d counts row fits compiled from is end) (asks_by_rule command file' name' text' reading' rules' d' row' held' fits' compiled' is') = not_three (answers command row') row.words_are
     before_or_job job (soaked entry n rules d counts row fits compiled from is end) (asks_migrate row' is') = migrate_not_three row' row.words_are
     before_or_job job (soaked entry n rules d counts row fits compiled from is end) (asks_segments reading' rules' d' row' fits' compiled' is') = two_not_three row' row.words_are
+    before_or_job job (soaked entry n rules d counts row fits compiled from is end) (asks_replay reading' rules' plans' row' fits' compiled' is') = two_not_three row' row.words_are
 
 pub one_result : KnownOfTexts → LinesHaveOneAnswer → RunsHaveOneResult
-one_result known one_in_job words files input w v e f (no_line before) (no_line before') = one_before known words files w v e f before before'
-one_result known one_in_job words files input w v e f (no_line before) (lines job asked a) = absurd (before_or_job known words files job before asked)
-one_result known one_in_job words files input w v e f (lines job asked a) (no_line before) = absurd (before_or_job known words files job before asked)
-one_result known one_in_job words files input w v e f (lines job asked a) (lines job' asked' b) =
-    let same : job ≡ job' = one_job known words files job job' asked asked' in
-    one_input job' (one_in_job words files job' asked') input w v e f (subst (λ (j : LineJob). AnswersInput j input w e) same a) b
+one_result known one_in_job words files watchers input w v e f (no_line before) (no_line before') = one_before known words files w v e f before before'
+one_result known one_in_job words files watchers input w v e f (no_line before) (lines job asked a) = absurd (before_or_job known words files job before asked)
+one_result known one_in_job words files watchers input w v e f (lines job asked a) (no_line before) = absurd (before_or_job known words files job before asked)
+one_result known one_in_job words files watchers input w v e f (lines job asked a) (lines job' asked' b) =
+    let same : job ≡ job' = one_job known words files watchers job job' asked asked' in
+    one_input job' (one_in_job words files watchers job' asked') input w v e f (subst (λ (j : LineJob). AnswersInput j input w e) same a) b

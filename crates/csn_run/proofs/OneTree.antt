@@ -4,6 +4,7 @@ use Rattle.std.specs.List.{AllByRecursion}
 use Rattle.csn_desc.specs.TreeV.{TreeV}
 use Rattle.csn_grammar.specs.RulesV.{RulesV}
 use Rattle.csn_grammar.specs.Strings.{Strings}
+use Rattle.csn_replay.specs.Watched.{Watched}
 use Rattle.csn_run.specs.declared.ended.Ended.{Ended}
 use Rattle.csn_run.specs.declared.fault.Fault.TheVariants.{Read, Memory}
 use Rattle.csn_run.specs.declared.fault.Fault.{Fault}
@@ -24,7 +25,7 @@ module _ (known : Known) (words : List (List ℕ)) (files : List ℕ → Option 
       let Q : RulesV → TreeV → Type 0 = λ r x. Strings r rule.name rule.reading b x in
       one_tree known rule.text job.1 rule.name rule.reading job.2 job.3 b t u (subst (λ r. Q r t) same first) (subst (λ r. Q r u) same second)
 
-  asked_one_tree : (job : LineJob) → AsksFor words files job → RulesHaveOneTree words files
+  asked_one_tree : {watchers : List Watched} (job : LineJob) → AsksFor words files watchers job → RulesHaveOneTree words files
   asked_one_tree job asked front behind rule rules compiles =
       all_one_tree _ compiles (jobs_compile known.of_texts words files job _ asked compiles) front behind rule rules compiles
 
@@ -39,8 +40,8 @@ module _ (known : Known) (words : List (List ℕ)) (files : List ℕ → Option 
       let all = soaked_compiles known.of_texts words files row fits compiled in all_one_tree _ all.0 all.1
 
   pub one_tree_of :
-      {left left' taken taken' : Option (List ℕ)} {waits : List ℕ} (end : Result Ended Fault)
-      → JobEnds words (Some files) left left' taken taken' waits end → IsAnswered (end_with end) → RulesHaveOneTree words files
+      {watchers : List Watched} {left left' taken taken' : Option (List ℕ)} {waits : List ℕ} (end : Result Ended Fault)
+      → JobEnds words (Some files) watchers left left' taken taken' waits end → IsAnswered (end_with end) → RulesHaveOneTree words files
   one_tree_of end (unread same_left same_taken none cause) answered =
       elim cause [
         | inl e ↦ absurd (fault_answered Read (subst (λ (r : Result Ended Fault). IsAnswered (end_with r)) e answered))

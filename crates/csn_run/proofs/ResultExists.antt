@@ -1,11 +1,11 @@
 -- Where the file that the words name is there, a whole run writes something.
-use Rattle.std.proofs.Common.{◌≡◌, ℕ, ◌≤◌, ◌⊎◌, inl, inr, List, [], ◌∷◌, ◌++◌, length, codes, Option, Some, None, IsSome, refl, sym, subst, append_assoc}
+use Rattle.std.proofs.Common.{◌≡◌, ℕ, ◌≤◌, ◌⊎◌, inl, inr, List, [], ◌∷◌, ◌++◌, length, map, codes, Option, Some, None, IsSome, refl, sym, subst, append_assoc}
 use Rattle.std.proofs.lemmas.Bool.{cases_lt}
 use Rattle.std.proofs.lemmas.List.{append-nil}
 use Rattle.std.specs.List.{AllByRecursion}
 use Rattle.csn_catalogue.specs.declared.entry.Entry.{Entry}
 use Rattle.csn_catalogue.specs.declared.entry.Entry.TheVariants.{Downlink}
-use Rattle.csn_catalogue.specs.Entries.{entry_root}
+use Rattle.csn_catalogue.specs.Entries.{all_entries, entry_root}
 use Rattle.csn_catalogue.specs.Text.{catalogue_text}
 use Rattle.csn_desc.specs.declared.reading.Reading.{Reading}
 use Rattle.csn_desc.specs.declared.reading.Reading.TheVariants.{Sent}
@@ -13,16 +13,17 @@ use Rattle.csn_desc.specs.Laws.{MeaningIsDecided}
 use Rattle.csn_desc.specs.Nodes.{DescV}
 use Rattle.csn_grammar.specs.RulesV.{RulesV}
 use Rattle.csn_grammar.specs.Place.{HasRules}
+use Rattle.csn_replay.specs.Watched.{Watched}
 use Rattle.csn_resolve.specs.Why.{number_of}
 use Rattle.csn_resolve.specs.Resolved.{IsResolved}
 use Rattle.csn_run.specs.declared.ended.Ended.{Ended}
 use Rattle.csn_run.specs.declared.ended.Ended.TheVariants.{Done, BadDescription, NotCertified, TooLong}
 use Rattle.csn_run.specs.declared.compile.TheConstants.{MOST_DESCRIPTION}
 use Rattle.csn_run.specs.Known.{KnownOfTexts}
-use Rattle.csn_run.specs.Command.{IsOverRule, IsOverEntries, over_downlink, over_soaked, rule_row, entries_row, migrate_row}
-use Rattle.csn_run.specs.Compiled.{RuleOf, rule_of_entry, line_of, conflict_line, certified_line, soaked_line, HasNoPlan, no_rules, rules_refused, not_certified}
+use Rattle.csn_run.specs.Command.{IsOverRule, IsOverEntries, over_downlink, over_all, over_soaked, rule_row, entries_row, migrate_row}
+use Rattle.csn_run.specs.Compiled.{RuleOf, rule_of_entry, line_of, conflict_line, certified_line, soaked_line, HasNoPlan, no_rules, rules_refused, not_certified, AreCompiled, IsCompiled}
 use Rattle.csn_run.specs.Laws.{IsDecided, LinesHaveAnswers, RunsHaveResults}
-use Rattle.csn_run.specs.Result.{LineJob, by_rule, migrating, segmenting, AsksFor, asks_by_rule, asks_migrate, asks_segments, HasJob, Compiles, of_file, of_catalogue, HasNoJob, long_text, no_plan, no_job, checked, soaked, Result, no_line, lines}
+use Rattle.csn_run.specs.Result.{LineJob, by_rule, migrating, segmenting, AsksFor, asks_by_rule, asks_migrate, asks_segments, HasJob, Compiles, of_file, of_catalogue, HasNoJob, long_text, no_plan, no_job, checked, soaked, Result, no_line, lines, replaying, asks_replay}
 use Rattle.csn_look.specs.declared.word.TheConstants.{MOST_WORD}
 use Rattle.csn_certify.specs.declared.conflict.Conflict.{Conflict}
 use Rattle.csn_certify.specs.Conflicts.{Certified, IsFirstConflict}
@@ -38,13 +39,22 @@ all_append : (front : List RuleOf) (rule : RuleOf) → AllByRecursion HasJob fro
 all_append [] rule has job = (job, tt)
 all_append (first ∷ front) rule has job = (has.0, all_append front rule has.1 job)
 
-module _ (known : KnownOfTexts) (decides : MeaningIsDecided) (each_in_job : LinesHaveAnswers) (words : List (List ℕ)) (files : List ℕ → Option (List ℕ)) (input : List ℕ) where
+module _ (known : KnownOfTexts) (decides : MeaningIsDecided) (each_in_job : LinesHaveAnswers) (words : List (List ℕ)) (files : List ℕ → Option (List ℕ)) (watchers : List Watched) (input : List ℕ) where
   abbrev HasResult : Type 0
-  HasResult = (written : List ℕ) × (ended : Ended) × Result words files input written ended
+  HasResult = (written : List ℕ) × (ended : Ended) × Result words files watchers input written ended
 
-  job_result : (job : LineJob) → AsksFor words files job → HasResult
+  -- the rules of a text that are there give entries descriptions, where each of them has a job
+  all_compiled : (reading : Reading) (rules : RulesV) → HasRules catalogue_text rules → (entries : List Entry) → AllByRecursion HasJob (map (rule_of_entry reading) entries) → (plans : List DescV) × AreCompiled rules reading entries plans
+  all_compiled reading rules has_rules [] has = ([], tt)
+  all_compiled reading rules has_rules (entry ∷ entries) has =
+      let job = has.0 in
+      let rest = all_compiled reading rules has_rules entries has.1 in
+      let same : job.1 ≡ rules = known.one_list catalogue_text job.1 rules job.3.has_rules has_rules in
+      (job.2 ∷ rest.0, (subst (λ (r : RulesV). IsCompiled catalogue_text (entry_root entry) reading r job.2) same job.3, rest.1))
+
+  job_result : (job : LineJob) → AsksFor words files watchers job → HasResult
   job_result job asked =
-      let all = some_answers job (each_in_job words files job asked) input in
+      let all = some_answers job (each_in_job words files watchers job asked) input in
       (all.0, all.1, lines job asked all.2)
 
   -- whether a rule has a job is decided
@@ -106,6 +116,12 @@ module _ (known : KnownOfTexts) (decides : MeaningIsDecided) (each_in_job : Line
       | inl result ↦ result
       | inr all ↦ job_result (segmenting all.0.1 reading) (asks_segments reading all.0.1 all.0.2 row all.0.0 all.0.3 refl)
     ]
+    entries_result entries reading (over_all row is) = elim (first_told [] (map (rule_of_entry reading) all_entries) (of_catalogue all_entries reading (over_all row refl) refl) tt) [
+      | inl result ↦ result
+      | inr all ↦
+          let compiled = all_compiled reading all.0.1 all.0.3.has_rules all_entries all in
+          job_result (replaying all.0.1 reading watchers) (asks_replay reading all.0.1 compiled.0 row all.0.0 compiled.1 refl)
+    ]
     entries_result entries reading (over_soaked entry n row is sent) = elim (first_told [] (rule_of_entry Sent entry ∷ []) (of_catalogue (entry ∷ []) Sent (over_soaked entry n row refl refl) refl) tt) [
       | inl result ↦ result
       | inr all ↦ counted all.0
@@ -118,8 +134,8 @@ module _ (known : KnownOfTexts) (decides : MeaningIsDecided) (each_in_job : Line
             (soaked_line n counts.0 ++ 10 ∷ [], Done, no_line (soaked entry n job.1 job.2 counts.0 row job.0 job.3 counts.1 refl refl))
 
 pub some_result : KnownOfTexts → MeaningIsDecided → LinesHaveAnswers → RunsHaveResults
-some_result known decides each_in_job words files input (rule_row file name reading row) held decided =
+some_result known decides each_in_job words files watchers input (rule_row file name reading row) held decided =
     let text = held_text (files file) (held file (name, reading, row)) in
-    rule_result known decides each_in_job words files input decided file name text.0 reading row text.1
-some_result known decides each_in_job words files input (entries_row entries reading row) held decided = entries_result known decides each_in_job words files input decided entries reading row
-some_result known decides each_in_job words files input (migrate_row row) held decided = job_result known decides each_in_job words files input migrating (asks_migrate row refl)
+    rule_result known decides each_in_job words files watchers input decided file name text.0 reading row text.1
+some_result known decides each_in_job words files watchers input (entries_row entries reading row) held decided = entries_result known decides each_in_job words files watchers input decided entries reading row
+some_result known decides each_in_job words files watchers input (migrate_row row) held decided = job_result known decides each_in_job words files watchers input migrating (asks_migrate row refl)

@@ -4,6 +4,7 @@ use Rattle.std.proofs.lemmas.List.{append-nil, take-append-le}
 use Rattle.std.specs.Option.{option_map}
 use Rattle.csn_io.specs.Got.{Gave, NothingLeft}
 use Rattle.csn_io.specs.Put.{Appended}
+use Rattle.csn_replay.specs.Watched.{Watched}
 use Rattle.csn_run.specs.declared.ended.Ended.{Ended}
 use Rattle.csn_run.specs.declared.ended.Ended.TheVariants.{Done, SomeRefused, Usage, BadDescription, NotCertified, ReadFault, WriteFault, NoMemory, TooLong as Long}
 use Rattle.csn_run.specs.declared.fault.Fault.{Fault}
@@ -55,15 +56,15 @@ end_after_lines refused ended end is e = is ∙ ap end_with e
 unfinished : (fault : Fault) (ended : Ended) (end : Result Ended Fault) → ended ≡ end_with end → end ≡ Err fault → whole.IsFinished ended → whole.IsFinished (end_by fault)
 unfinished fault ended end is e finished = subst whole.IsFinished (is ∙ ap end_with e) finished
 
-module _ (words : List (List ℕ)) (files : List ℕ → Option (List ℕ)) (input before : List ℕ) where
+module _ (words : List (List ℕ)) (files : List ℕ → Option (List ℕ)) (watchers : List Watched) (input before : List ℕ) where
   abbrev Written : Option (List ℕ) → (List ℕ → Type 0) → Type 0
   Written taken'' P = (written : List ℕ) × (taken'' ≡ Some (before ++ written)) × P written
 
   -- what a run has written whose job is over, where all that waited was handed on
   pub result_of :
       (left' taken' taken'' : Option (List ℕ)) (waits : List ℕ) (end : Result Ended Fault) (ended : Ended)
-      → JobEnds words (Some files) (Some input) left' (Some before) taken' waits end → Appended taken' taken'' waits
-      → ended ≡ end_with end → whole.IsFinished ended → Written taken'' (λ written. whole.Result words files input written ended)
+      → JobEnds words (Some files) watchers (Some input) left' (Some before) taken' waits end → Appended taken' taken'' waits
+      → ended ≡ end_with end → whole.IsFinished ended → Written taken'' (λ written. whole.Result words files watchers input written ended)
   result_of left' taken' taken'' waits end ended (unread same_left same_taken none cause) handed is finished =
       elim cause [
         | inl e ↦ absurd (unfinished Read ended end is e finished)
@@ -98,8 +99,8 @@ module _ (words : List (List ℕ)) (files : List ℕ → Option (List ℕ)) (inp
   -- what a run has written, of which the sink took the front of what waited
   pub begun_of :
       LinesHaveAnswers → (left' taken' taken'' : Option (List ℕ)) (waits front rest : List ℕ) (end : Result Ended Fault)
-      → JobEnds words (Some files) (Some input) left' (Some before) taken' waits end → waits ≡ front ++ rest
-      → Appended taken' taken'' front → Written taken'' (whole.BeginsResult words files input)
+      → JobEnds words (Some files) watchers (Some input) left' (Some before) taken' waits end → waits ≡ front ++ rest
+      → Appended taken' taken'' front → Written taken'' (whole.BeginsResult words files watchers input)
   begun_of each_in_job left' taken' taken'' waits front rest end (unread same_left same_taken none cause) split handed =
       (front, handed_front before front taken' taken'' same_taken handed, whole.begins_none (no_front front rest (sym split ∙ none)))
   begun_of each_in_job left' taken' taken'' waits front rest end (before_lines gives same_left same_taken) split handed = (
@@ -118,7 +119,7 @@ module _ (words : List (List ℕ)) (files : List ℕ → Option (List ℕ)) (inp
       let given = given_front input s.given left' s.source in
       let text_is : s.took ++ waits ≡ (s.took ++ front) ++ rest = ap (λ l. s.took ++ l) split ∙ sym (append_assoc s.took front rest) in
       let within = within_input (whole.Steps job) fault input s.given given.0 (s.took ++ waits) (s.took ++ front) rest given.1 text_is s.by in
-      let all = extends job (each_in_job words files job asked) input (s.took ++ front) within in (
+      let all = extends job (each_in_job words files watchers job asked) input (s.took ++ front) within in (
         s.took ++ front,
         taken_then before taken' taken'' s.took front s.sink handed,
         whole.begins_whole all.0 all.1 (whole.lines job asked all.2),
@@ -129,8 +130,8 @@ module _ (words : List (List ℕ)) (files : List ℕ → Option (List ℕ)) (inp
   -- what a run has written that a fault of the source, or of the shelf, stopped
   pub read_of :
       (left' taken' taken'' : Option (List ℕ)) (waits : List ℕ) (end : Result Ended Fault)
-      → JobEnds words (Some files) (Some input) left' (Some before) taken' waits end → Appended taken' taken'' waits
-      → ReadFault ≡ end_with end → Written taken'' (whole.StopsReading words files input left')
+      → JobEnds words (Some files) watchers (Some input) left' (Some before) taken' waits end → Appended taken' taken'' waits
+      → ReadFault ≡ end_with end → Written taken'' (whole.StopsReading words files watchers input left')
   read_of left' taken' taken'' waits end (unread same_left same_taken none cause) handed fault =
       (waits, handed_front before waits taken' taken'' same_taken handed, whole.before_reading same_left none)
   read_of left' taken' taken'' waits end (before_lines gives same_left same_taken) handed fault =
@@ -208,33 +209,33 @@ fault_answered TooLong (inr e) = cc
 
 -- the source has nothing left where all lines are answered
 pub nothing_left_of :
-    (words : List (List ℕ)) (files : Option (List ℕ → Option (List ℕ))) (left left' taken taken' : Option (List ℕ)) (waits : List ℕ) (end : Result Ended Fault)
-    → JobEnds words files left left' taken taken' waits end → IsAnswered (end_with end) → ReadsLines words → NothingLeft left'
-nothing_left_of words files left left' taken taken' waits end (unread same_left same_taken none cause) answered reads =
+    (words : List (List ℕ)) (files : Option (List ℕ → Option (List ℕ))) (watchers : List Watched) (left left' taken taken' : Option (List ℕ)) (waits : List ℕ) (end : Result Ended Fault)
+    → JobEnds words files watchers left left' taken taken' waits end → IsAnswered (end_with end) → ReadsLines words → NothingLeft left'
+nothing_left_of words files watchers left left' taken taken' waits end (unread same_left same_taken none cause) answered reads =
     elim cause [
       | inl e ↦ absurd (fault_answered Read (subst (λ (r : Result Ended Fault). IsAnswered (end_with r)) e answered))
       | inr e ↦ absurd (fault_answered Memory (subst (λ (r : Result Ended Fault). IsAnswered (end_with r)) e answered))
     ]
-nothing_left_of words files left left' taken taken' waits end (before_lines gives same_left same_taken) answered reads = absurd (before_answered words files waits (end_with end) gives answered reads)
-nothing_left_of words files left left' taken taken' waits end (all_lines job some asked a e) answered reads = a.nothing_left
-nothing_left_of words files left left' taken taken' waits end (some_lines job fault asked s e) answered reads =
+nothing_left_of words files watchers left left' taken taken' waits end (before_lines gives same_left same_taken) answered reads = absurd (before_answered words files waits (end_with end) gives answered reads)
+nothing_left_of words files watchers left left' taken taken' waits end (all_lines job some asked a e) answered reads = a.nothing_left
+nothing_left_of words files watchers left left' taken taken' waits end (some_lines job fault asked s e) answered reads =
     absurd (fault_answered fault (subst (λ (r : Result Ended Fault). IsAnswered (end_with r)) e answered))
 
 -- no more is taken of a source than a byte past its limit
 pub bounded_of :
-    (words : List (List ℕ)) (files : Option (List ℕ → Option (List ℕ))) (whole rest : List ℕ) (left' taken taken' : Option (List ℕ)) (waits : List ℕ) (end : Result Ended Fault)
-    → JobEnds words files (Some whole) left' taken taken' waits end → left' ≡ Some rest → length whole ≤ length rest + MOST_INPUT + 1
-bounded_of words files whole rest left' taken taken' waits end (unread same_left same_taken none cause) is = as_before whole rest (sym same_left ∙ is)
+    (words : List (List ℕ)) (files : Option (List ℕ → Option (List ℕ))) (watchers : List Watched) (whole rest : List ℕ) (left' taken taken' : Option (List ℕ)) (waits : List ℕ) (end : Result Ended Fault)
+    → JobEnds words files watchers (Some whole) left' taken taken' waits end → left' ≡ Some rest → length whole ≤ length rest + MOST_INPUT + 1
+bounded_of words files watchers whole rest left' taken taken' waits end (unread same_left same_taken none cause) is = as_before whole rest (sym same_left ∙ is)
   where
     as_before : (whole rest : List ℕ) → Some whole ≡ Some rest → length whole ≤ length rest + MOST_INPUT + 1
     as_before whole rest e = let same : whole ≡ rest = cc in omega (arith, ap length same)
-bounded_of words files whole rest left' taken taken' waits end (before_lines gives same_left same_taken) is = as_before whole rest (sym same_left ∙ is)
+bounded_of words files watchers whole rest left' taken taken' waits end (before_lines gives same_left same_taken) is = as_before whole rest (sym same_left ∙ is)
   where
     as_before : (whole rest : List ℕ) → Some whole ≡ Some rest → length whole ≤ length rest + MOST_INPUT + 1
     as_before whole rest e = let same : whole ≡ rest = cc in omega (arith, ap length same)
-bounded_of words files whole rest left' taken taken' waits end (all_lines job some asked a e) is =
+bounded_of words files watchers whole rest left' taken taken' waits end (all_lines job some asked a e) is =
     let none = given_all whole a.given left' a.source a.nothing_left in omega (arith, ap length none, a.fits)
-bounded_of words files whole rest left' taken taken' waits end (some_lines job fault asked s e) is =
+bounded_of words files watchers whole rest left' taken taken' waits end (some_lines job fault asked s e) is =
     let front = given_front whole s.given left' s.source in
     let same : front.0 ≡ rest = (let there : Some front.0 ≡ Some rest = sym front.2 ∙ is in cc) in
     omega (arith, ap length same, ap length front.1, length-append s.given front.0, s.few)
@@ -243,11 +244,11 @@ bounded_of words files whole rest left' taken taken' waits end (some_lines job f
 
 -- it leaves the source alone
 pub untouched :
-    {S : Type 0} (known : KnownOfTexts) (words : List (List ℕ)) (files : List ℕ → Option (List ℕ)) (written : List ℕ) (ended : Ended) (old new : S)
+    {S : Type 0} (known : KnownOfTexts) (words : List (List ℕ)) (files : List ℕ → Option (List ℕ)) (watchers : List Watched) (written : List ℕ) (ended : Ended) (old new : S)
     → whole.EndsBefore words files written ended
-    → (new ≡ old) ⊎ (ReadsLines words × (job : whole.LineJob) × Asked words (Some files) job) → new ≡ old
-untouched known words files written ended old new before (inl same) = same
-untouched known words files written ended old new before (inr (reads, job, asked)) = absurd (before_or_job known words files job before asked)
+    → (new ≡ old) ⊎ (ReadsLines words × (job : whole.LineJob) × Asked words (Some files) watchers job) → new ≡ old
+untouched known words files watchers written ended old new before (inl same) = same
+untouched known words files watchers written ended old new before (inr (reads, job, asked)) = absurd (before_or_job known words files job before asked)
 
 -- ---- a file that is told as not held
 
@@ -319,8 +320,8 @@ before_apart words (Some files) written ended gives only = by_end gives
 
 -- a job that ends so met a fault
 pub by_fault :
-    {words : List (List ℕ)} {files : Option (List ℕ → Option (List ℕ))} {left left' taken taken' : Option (List ℕ)} {waits : List ℕ} (end : Result Ended Fault) (x : Ended)
-    → JobEnds words files left left' taken taken' waits end → end_with end ≡ x → OnlyBy x
+    {words : List (List ℕ)} {files : Option (List ℕ → Option (List ℕ))} {watchers : List Watched} {left left' taken taken' : Option (List ℕ)} {waits : List ℕ} (end : Result Ended Fault) (x : Ended)
+    → JobEnds words files watchers left left' taken taken' waits end → end_with end ≡ x → OnlyBy x
     → (fault : Fault) × (end ≡ Err fault) × (end_by fault ≡ x)
 by_fault end x (unread same_left same_taken none (inl e)) is only = (Read, e, sym (ap end_with e) ∙ is)
 by_fault end x (unread same_left same_taken none (inr e)) is only = (Memory, e, sym (ap end_with e) ∙ is)
@@ -333,7 +334,7 @@ by_fault end x (all_lines job refused asked a e) is only = absurd (answered refu
     answered false same = only.0 (sym same)
 by_fault end x (some_lines job fault asked s e) is only = (fault, e, sym (ap end_with e) ∙ is)
 
-pub not_usage : {words : List (List ℕ)} {files : Option (List ℕ → Option (List ℕ))} {left left' taken taken' : Option (List ℕ)} {waits : List ℕ} (end : Result Ended Fault) → JobEnds words files left left' taken taken' waits end → end_with end ≡ Usage → ⊥
+pub not_usage : {words : List (List ℕ)} {files : Option (List ℕ → Option (List ℕ))} {watchers : List Watched} {left left' taken taken' : Option (List ℕ)} {waits : List ℕ} (end : Result Ended Fault) → JobEnds words files watchers left left' taken taken' waits end → end_with end ≡ Usage → ⊥
 not_usage end ends is = no_fault by.0 by.2
   where
     by : (fault : Fault) × (end ≡ Err fault) × (end_by fault ≡ Usage)
@@ -345,7 +346,7 @@ not_usage end ends is = no_fault by.0 by.2
     no_fault Memory e = cc
     no_fault TooLong e = cc
 
-pub read_stopped : {words : List (List ℕ)} {files : Option (List ℕ → Option (List ℕ))} {left left' taken taken' : Option (List ℕ)} {waits : List ℕ} (end : Result Ended Fault) → JobEnds words files left left' taken taken' waits end → end_with end ≡ ReadFault → end ≡ Err Read
+pub read_stopped : {words : List (List ℕ)} {files : Option (List ℕ → Option (List ℕ))} {watchers : List Watched} {left left' taken taken' : Option (List ℕ)} {waits : List ℕ} (end : Result Ended Fault) → JobEnds words files watchers left left' taken taken' waits end → end_with end ≡ ReadFault → end ≡ Err Read
 read_stopped end ends is = by.1 ∙ ap Err (is_read by.0 by.2)
   where
     by : (fault : Fault) × (end ≡ Err fault) × (end_by fault ≡ ReadFault)
@@ -357,7 +358,7 @@ read_stopped end ends is = by.1 ∙ ap Err (is_read by.0 by.2)
     is_read Memory e = cc
     is_read TooLong e = cc
 
-pub write_stopped : {words : List (List ℕ)} {files : Option (List ℕ → Option (List ℕ))} {left left' taken taken' : Option (List ℕ)} {waits : List ℕ} (end : Result Ended Fault) → JobEnds words files left left' taken taken' waits end → end_with end ≡ WriteFault → end ≡ Err Write
+pub write_stopped : {words : List (List ℕ)} {files : Option (List ℕ → Option (List ℕ))} {watchers : List Watched} {left left' taken taken' : Option (List ℕ)} {waits : List ℕ} (end : Result Ended Fault) → JobEnds words files watchers left left' taken taken' waits end → end_with end ≡ WriteFault → end ≡ Err Write
 write_stopped end ends is = by.1 ∙ ap Err (is_write by.0 by.2)
   where
     by : (fault : Fault) × (end ≡ Err fault) × (end_by fault ≡ WriteFault)

@@ -3,7 +3,7 @@ use Rattle.std.specs.Prelude.{◌≡◌, ◌≢◌, ◌<◌, ◌≤◌, ◌⊎�
 use Rattle.std.specs.Fmt.{decimal}
 use Rattle.csn_catalogue.specs.declared.entry.Entry.{Entry}
 use Rattle.csn_catalogue.specs.declared.entry.Entry.TheVariants.{Downlink}
-use Rattle.csn_catalogue.specs.Entries.{entry_word}
+use Rattle.csn_catalogue.specs.Entries.{entry_word, all_entries}
 use Rattle.csn_desc.specs.declared.reading.Reading.{Reading}
 use Rattle.csn_desc.specs.declared.reading.Reading.TheVariants.{Received, Sent}
 use Rattle.csn_soak.specs.declared.soaking.TheConstants.{MOST_BLOCKS}
@@ -12,7 +12,7 @@ use Rattle.csn_run.specs.declared.command.TreeForm.TheVariants.{Text, Json}
 use Rattle.csn_run.specs.declared.command.RuleCommand.{RuleCommand}
 use Rattle.csn_run.specs.declared.command.RuleCommand.TheVariants.{Show, Write}
 use Rattle.csn_run.specs.declared.command.Command.{Command}
-use Rattle.csn_run.specs.declared.command.Command.TheVariants.{Check, Answer, Migrate, Segments, Soak}
+use Rattle.csn_run.specs.declared.command.Command.TheVariants.{Check, Answer, Migrate, Segments, Soak, Replay}
 
 -- a word that can be an argument: it is not empty, and does not begin with `-`
 abbrev pub IsArgument : List ℕ → Type 0
@@ -57,6 +57,10 @@ NamesReading command words reading = words ≡ command ∷ word_of reading ∷ [
 abbrev pub IsSegments : List (List ℕ) → Reading → Type 0
 IsSegments = NamesReading (codes "segments")
 
+-- `replay READING`
+abbrev pub IsReplay : List (List ℕ) → Reading → Type 0
+IsReplay = NamesReading (codes "replay")
+
 -- `soak ENTRY N`
 pub record IsSoak (words : List (List ℕ)) (entry : Entry) (n : ℕ) : Type 0 where
   pub words_are : words ≡ codes "soak" ∷ entry_word entry ∷ decimal n ∷ []
@@ -72,6 +76,7 @@ IsOverRule words file name reading =
 pub data IsOverEntries (words : List (List ℕ)) (entries : List Entry) (reading : Reading) : Type 0 where
   over_downlink : IsSegments words reading → entries ≡ Downlink ∷ [] → IsOverEntries words entries reading
   over_soaked : (entry : Entry) (n : ℕ) → IsSoak words entry n → entries ≡ entry ∷ [] → reading ≡ Sent → IsOverEntries words entries reading
+  over_all : IsReplay words reading → entries ≡ all_entries → IsOverEntries words entries reading
 
 -- the words are a row of the command table
 pub data IsCommand (words : List (List ℕ)) : Type 0 where
@@ -102,4 +107,5 @@ IsRowOf words (Check rule) = AreRuleWords (codes "check") words rule
 IsRowOf words (Answer command rule) = AreRuleWords (command_word command) words rule
 IsRowOf words Migrate = IsMigrate words
 IsRowOf words (Segments reading) = IsSegments words reading
+IsRowOf words (Replay reading) = IsReplay words reading
 IsRowOf words (Soak entry blocks) = IsSoak words entry blocks

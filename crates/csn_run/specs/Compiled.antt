@@ -87,6 +87,14 @@ pub record IsCompiled (text name : List ℕ) (reading : Reading) (rules : RulesV
   pub resolved : IsResolved rules name reading d
   pub certified : Certified d MOST_WORD
 
+-- the rules of the catalogue give the entries these descriptions, one for each in their order
+abbrev pub AreCompiled : RulesV → Reading → List Entry → List DescV → Type 0
+AreCompiled rules reading [] [] = Unit {0}
+AreCompiled rules reading [] (d ∷ ds) = ⊥
+AreCompiled rules reading (entry ∷ entries) [] = ⊥
+AreCompiled rules reading (entry ∷ entries) (d ∷ ds) =
+    IsCompiled catalogue_text (entry_root entry) reading rules d × AreCompiled rules reading entries ds
+
 -- the rule of the text has no certified description; this line says why, and a run ends so
 pub data HasNoPlan (text name : List ℕ) (reading : Reading) (line : List ℕ) (ended : Ended) : Type 0 where
   no_rules : (place : ℕ) → IsSyntaxPlace text place → line ≡ line_of (codes "syntax") (place ∷ []) → ended ≡ BadDescription

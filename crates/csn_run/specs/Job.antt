@@ -1,6 +1,7 @@
 -- What a job has done with the outside when it is over, before the answers that still wait are handed on.
 use Rattle.std.specs.Prelude.{◌≡◌, ℕ, ◌+◌, ◌≤◌, ◌⊎◌, Bool, List, [], length, Option, Some, None, Result, Ok, Err}
 use Rattle.csn_io.specs.ShelfFault.{BeginsFile}
+use Rattle.csn_replay.specs.Watched.{Watched}
 use Rattle.csn_run.specs.declared.ended.Ended.{Ended}
 use Rattle.csn_run.specs.declared.ended.Ended.TheVariants.{Done, BadDescription, NotCertified, ReadFault, WriteFault, NoMemory, TooLong as Long}
 use Rattle.csn_run.specs.declared.fault.Fault.{Fault}
@@ -32,27 +33,27 @@ end_with (Err fault) = end_by fault
 abbrev pub IsBeforeLines : Ended → Type 0
 IsBeforeLines ended = (ended ≡ BadDescription) ⊎ ((ended ≡ NotCertified) ⊎ (ended ≡ Long))
 
--- over files that are told, the words ask for this job
-abbrev pub Asked : List (List ℕ) → Option (List ℕ → Option (List ℕ)) → LineJob → Type 0
-Asked words None job = Unit {0}
-Asked words (Some files) job = AsksFor words files job
+-- over files that are told, the words ask for this job, with these watchers
+abbrev pub Asked : List (List ℕ) → Option (List ℕ → Option (List ℕ)) → List Watched → LineJob → Type 0
+Asked words None watchers job = Unit {0}
+Asked words (Some files) watchers job = AsksFor words files watchers job
 
 -- a run of these words writes this and ends so before it comes to a line
 abbrev pub EndedBefore : List (List ℕ) → Option (List ℕ → Option (List ℕ)) → List ℕ → Ended → Type 0
 EndedBefore words None written ended = IsBeforeLines ended ⊎ ((ended ≡ Done) × ¬ ReadsLines words)
 EndedBefore words (Some files) written ended = EndsBefore words files written ended
 
--- the job that the words ask for is over with `end`: `left` and `taken` are what the source has left and
--- the sink has taken before it, `left'` and `taken'` after it, and `waits` is what the sink is still to take
-pub data JobEnds (words : List (List ℕ)) (files : Option (List ℕ → Option (List ℕ))) (left left' taken taken' : Option (List ℕ)) (waits : List ℕ) (end : Result Ended Fault) : Type 0 where
+-- the job that the words ask for, with these watchers, is over with `end`: `left` and `taken` are what the source has
+-- left and the sink has taken before it, `left'` and `taken'` after it, and `waits` is what the sink is still to take
+pub data JobEnds (words : List (List ℕ)) (files : Option (List ℕ → Option (List ℕ))) (watchers : List Watched) (left left' taken taken' : Option (List ℕ)) (waits : List ℕ) (end : Result Ended Fault) : Type 0 where
   -- nothing was read of the input, and nothing written
   unread : left' ≡ left → taken' ≡ taken → waits ≡ [] → (end ≡ Err Read) ⊎ (end ≡ Err Memory)
-      → JobEnds words files left left' taken taken' waits end
+      → JobEnds words files watchers left left' taken taken' waits end
   before_lines : EndedBefore words files waits (end_with end) → left' ≡ left → taken' ≡ taken
-      → JobEnds words files left left' taken taken' waits end
-  all_lines : (job : LineJob) (refused : Bool) → Asked words files job
+      → JobEnds words files watchers left left' taken taken' waits end
+  all_lines : (job : LineJob) (refused : Bool) → Asked words files watchers job
       → AnswersAll (Steps job) closing (beginning job) left left' taken taken' waits refused → end ≡ Ok (end_of refused)
-      → JobEnds words files left left' taken taken' waits end
-  some_lines : (job : LineJob) (fault : Fault) → Asked words files job
+      → JobEnds words files watchers left left' taken taken' waits end
+  some_lines : (job : LineJob) (fault : Fault) → Asked words files watchers job
       → Stops (Steps job) (beginning job) fault left left' taken taken' waits → end ≡ Err fault
-      → JobEnds words files left left' taken taken' waits end
+      → JobEnds words files watchers left left' taken taken' waits end

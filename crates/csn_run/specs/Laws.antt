@@ -5,6 +5,7 @@ use Rattle.csn_desc.specs.Nodes.{DescV}
 use Rattle.csn_desc.specs.TreeV.{TreeV}
 use Rattle.csn_grammar.specs.RulesV.{RulesV}
 use Rattle.csn_grammar.specs.Place.{HasRules}
+use Rattle.csn_replay.specs.Watched.{Watched}
 use Rattle.csn_resolve.specs.Resolved.{IsResolved}
 use Rattle.csn_look.specs.declared.word.TheConstants.{MOST_WORD}
 use Rattle.csn_certify.specs.declared.conflict.Conflict.{Conflict}
@@ -23,13 +24,15 @@ use Rattle.csn_run.specs.Result.{LineJob, Steps, AsksFor, Compiles, Result}
 -- each line has an answer, in each job over lines that words ask for and each state
 abbrev pub LinesHaveAnswers : Type 0
 LinesHaveAnswers =
-    (words : List (List ℕ)) (files : List ℕ → Option (List ℕ)) (job : LineJob) → AsksFor words files job
+    (words : List (List ℕ)) (files : List ℕ → Option (List ℕ)) (watchers : List Watched) (job : LineJob)
+    → AsksFor words files watchers job
     → (before : LineState) (line : List ℕ) → (text : List ℕ) × (after : LineState) × Steps job before line text after
 
 -- it has one, and takes the state further in one way
 abbrev pub LinesHaveOneAnswer : Type 0
 LinesHaveOneAnswer =
-    (words : List (List ℕ)) (files : List ℕ → Option (List ℕ)) (job : LineJob) → AsksFor words files job
+    (words : List (List ℕ)) (files : List ℕ → Option (List ℕ)) (watchers : List Watched) (job : LineJob)
+    → AsksFor words files watchers job
     → (before : LineState) (line text other : List ℕ) (after end : LineState)
     → Steps job before line text after → Steps job before line other end → (text ≡ other) × (after ≡ end)
 
@@ -60,13 +63,13 @@ IsDecided words files =
 -- the words of a command whose files are there have a result, where that is decided
 abbrev pub RunsHaveResults : Type 0
 RunsHaveResults =
-    (words : List (List ℕ)) (files : List ℕ → Option (List ℕ)) (input : List ℕ)
+    (words : List (List ℕ)) (files : List ℕ → Option (List ℕ)) (watchers : List Watched) (input : List ℕ)
     → IsCommand words → ((file : List ℕ) → NamesFile words file → IsSome (files file)) → IsDecided words files
-    → (written : List ℕ) × (ended : Ended) × Result words files input written ended
+    → (written : List ℕ) × (ended : Ended) × Result words files watchers input written ended
 
 -- a run has one result
 abbrev pub RunsHaveOneResult : Type 0
 RunsHaveOneResult =
-    (words : List (List ℕ)) (files : List ℕ → Option (List ℕ)) (input written other : List ℕ) (ended end : Ended)
-    → Result words files input written ended → Result words files input other end
+    (words : List (List ℕ)) (files : List ℕ → Option (List ℕ)) (watchers : List Watched) (input written other : List ℕ)
+    (ended end : Ended) → Result words files watchers input written ended → Result words files watchers input other end
     → (written ≡ other) × (ended ≡ end)

@@ -1,5 +1,5 @@
 -- What answers one line of the input. The texts are this project's own.
-use Rattle.std.specs.Prelude.{◌≡◌, ◌≢◌, ◌⊎◌, ℕ, ◌≤◌, ◌%◌, nat_lt, if◌then◌else◌, List, [], ◌∷◌, ◌++◌, length, codes, Option, Some, None}
+use Rattle.std.specs.Prelude.{◌≡◌, ◌≢◌, ◌⊎◌, ℕ, ◌≤◌, ◌%◌, nat_lt, not, if◌then◌else◌, List, [], ◌∷◌, ◌++◌, length, drop, codes, Option, Some, None}
 use Rattle.std.specs.List.{flat_map}
 use Rattle.std.specs.Fmt.{decimal}
 use Rattle.csn_bits.specs.Octets.{most_bits, bits_of_octets, octets_of}
@@ -7,8 +7,9 @@ use Rattle.csn_bits.specs.Line.{BlockLine, written}
 use Rattle.csn_bits.specs.Fault.{IsLineFault}
 use Rattle.csn_bits.specs.declared.fault.BitsFault.{BitsFault}
 use Rattle.csn_bits.specs.declared.fault.BitsFault.TheVariants.{BadDigit, BadLength, BadFill, TooManyBits, NoMemory}
-use Rattle.csn_catalogue.specs.declared.entry.Entry.TheVariants.{Downlink}
-use Rattle.csn_catalogue.specs.Entries.{entry_root}
+use Rattle.csn_catalogue.specs.declared.entry.Entry.{Entry}
+use Rattle.csn_catalogue.specs.declared.entry.Entry.TheVariants.{Uplink, Downlink, Si1, Si3, Si4, Si13, Ia}
+use Rattle.csn_catalogue.specs.Entries.{all_entries, entry_root}
 use Rattle.csn_desc.specs.declared.reading.Reading.{Reading}
 use Rattle.csn_desc.specs.Nodes.{DescV}
 use Rattle.csn_desc.specs.TreeV.{TreeV}
@@ -21,6 +22,9 @@ use Rattle.csn_encode.specs.declared.misfit.MisfitWhy.TheVariants.{WrongKind, Wr
 use Rattle.csn_encode.specs.Misfits.{IsMisfit}
 use Rattle.csn_grammar.specs.RulesV.{RulesV}
 use Rattle.csn_grammar.specs.Strings.{Strings, IsPlace}
+use Rattle.csn_replay.specs.Capture.{IsCapture}
+use Rattle.csn_replay.specs.Watched.{Watched, done_watching, reports, still_watching}
+use Rattle.csn_replay.specs.declared.seen.Seen.{Seen}
 use Rattle.csn_resolve.specs.Resolved.{IsResolved}
 use Rattle.csn_segment.specs.declared.joined.Joined.{Joined}
 use Rattle.csn_segment.specs.declared.joined.Joined.TheVariants.{Whole, Waiting, Refused as no_message}
@@ -37,8 +41,9 @@ use Rattle.csn_run.specs.declared.command.TreeForm.TheVariants.{Text, Json}
 use Rattle.csn_run.specs.declared.command.RuleCommand.{RuleCommand}
 use Rattle.csn_run.specs.declared.lines.TheConstants.{LINE_FEED}
 use Rattle.csn_run.specs.declared.command.RuleCommand.TheVariants.{Show, Write}
-use Rattle.csn_run.specs.Compiled.{IsCompiled, line_of}
+use Rattle.csn_run.specs.Compiled.{AreCompiled, IsCompiled, line_of}
 use Rattle.csn_run.specs.LineState.{LineState, Kept, AnswersAlone}
+use Rattle.csn_run.specs.Lines.{is_refusal}
 
 -- the answer to a line that is no block line: the number of its fault, and the column of a bad digit
 abbrev pub fault_text : BitsFault → List ℕ
@@ -215,15 +220,76 @@ Joins d kept line text kept' =
     (answer : List ℕ) × JoinsLine d kept.bodies line answer kept'.bodies × (text ≡ answer ++ LINE_FEED ∷ [])
     × (kept'.watchers ≡ kept.watchers)
 
--- what the command of a line does: it goes by the plan of a description, writes old texts anew, or joins blocks to
--- messages and goes by the plan of their description
+-- where an entry stands among all entries
+abbrev pub entry_place : Entry → ℕ
+entry_place Uplink = 0
+entry_place Downlink = 1
+entry_place Si1 = 2
+entry_place Si3 = 3
+entry_place Si4 = 4
+entry_place Si13 = 5
+entry_place Ia = 6
+
+-- a block of an entry as watchers are shown it: it is a string of the entry where its answer is no refusal
+abbrev pub seen_of : Entry → List ℕ → List ℕ → Seen
+seen_of entry block answer = record { entry = entry; bits = length block; ok = not (is_refusal answer) }
+
+-- `replay`: a line of a capture is answered as its block is by the rule of its entry, and watchers are shown the block.
+-- A block line that is none is answered by its fault, and watchers are shown nothing; nor are they of a line that does
+-- not begin with the word of an entry and a space
+pub data CaptureLine (rules : RulesV) (reading : Reading) (line answer : List ℕ) (seen : Option Seen) : Type 0 where
+  captures_block : (entry : Entry) (block_at : ℕ) (block : List ℕ) → IsCapture line entry block_at
+      → BlockLine (drop block_at line) block → ShowsBlock Text rules (entry_root entry) reading block answer
+      → seen ≡ Some (seen_of entry block answer) → CaptureLine rules reading line answer seen
+  captures_fault : (entry : Entry) (block_at : ℕ) (fault : BitsFault) → IsCapture line entry block_at
+      → IsLineFault (drop block_at line) fault → answer ≡ fault_text fault → seen ≡ None
+      → CaptureLine rules reading line answer seen
+  no_capture : ((entry : Entry) (block_at : ℕ) → ¬ IsCapture line entry block_at) → answer ≡ codes "bad 5" → seen ≡ None
+      → CaptureLine rules reading line answer seen
+
+-- the watchers that are left behind a line, and those that have then counted enough, in their order
+abbrev pub left_behind : Option Seen → List Watched → List Watched
+left_behind None watchers = watchers
+left_behind (Some seen) watchers = still_watching seen watchers
+
+abbrev pub done_behind : Option Seen → List Watched → List Watched
+done_behind None watchers = []
+done_behind (Some seen) watchers = done_watching seen watchers
+
+-- a line with this answer takes watchers further: the reports of those that have counted enough stand behind the answer
+abbrev pub TellsWatchers : List ℕ → Option Seen → List Watched → List ℕ → List Watched → Type 0
+TellsWatchers answer seen before text after =
+    (text ≡ answer ++ LINE_FEED ∷ reports (done_behind seen before)) × (after ≡ left_behind seen before)
+
+-- how a line of `replay` takes the state further
+abbrev pub Replays : RulesV → Reading → LineState → List ℕ → List ℕ → LineState → Type 0
+Replays rules reading before line text after =
+    (answer : List ℕ) × (seen : Option Seen) × CaptureLine rules reading line answer seen
+    × TellsWatchers answer seen before.watchers text after.watchers × (after.blocks ≡ before.blocks)
+
+-- a line is answered so for each rules of which the entries have these descriptions
+abbrev pub CaptureLineBy : List DescV → List ℕ → List ℕ → Option Seen → Type 0
+CaptureLineBy plans line answer seen =
+    (rules : RulesV) (reading : Reading) → AreCompiled rules reading all_entries plans
+    → CaptureLine rules reading line answer seen
+
+-- how such a line takes what is kept further
+abbrev pub ReplaysBy : List DescV → Kept → List ℕ → List ℕ → Kept → Type 0
+ReplaysBy plans kept line text kept' =
+    (answer : List ℕ) × (seen : Option Seen) × CaptureLineBy plans line answer seen
+    × TellsWatchers answer seen kept.watchers text kept'.watchers
+
+-- what the command of a line does: it goes by the plan of a description, writes old texts anew, joins blocks to
+-- messages and goes by the plan of their description, or goes by the plans of all entries of the catalogue
 pub data LineWork : Type 0 where
   by_plan : RuleCommand → DescV → LineWork
   renewing : LineWork
   joining : DescV → LineWork
+  replaying_by : List DescV → LineWork
 
 -- what a line gives in this work, and what is kept behind it
 abbrev pub Works : LineWork → Kept → List ℕ → List ℕ → Kept → Type 0
 Works (by_plan command d) = AnswersAlone (AnswersBy command d)
 Works renewing = AnswersAlone MigratesLine
 Works (joining d) = Joins d
+Works (replaying_by plans) = ReplaysBy plans

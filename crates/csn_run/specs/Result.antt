@@ -1,11 +1,11 @@
--- What a run writes, and how it ends: for the words, the files that they name and the whole input. The
--- order of the ends is this project's own choice: first the length of the description, then what it is,
+-- What a run writes, and how it ends: for the words, the files that they name, the watchers that are handed in and the
+-- whole input. The order of the ends is this project's own choice: first the length of the description, then what it is,
 -- then the lines.
 use Rattle.std.specs.Prelude.{◌≡◌, ℕ, ◌<◌, ◌≤◌, ◌⊎◌, Bool, if◌then◌else◌, List, [], ◌∷◌, ◌++◌, length, take, map, Option, Some}
 use Rattle.std.specs.List.{AllByRecursion}
 use Rattle.csn_catalogue.specs.declared.entry.Entry.{Entry}
 use Rattle.csn_catalogue.specs.declared.entry.Entry.TheVariants.{Downlink}
-use Rattle.csn_catalogue.specs.Entries.{entry_root}
+use Rattle.csn_catalogue.specs.Entries.{all_entries, entry_root}
 use Rattle.csn_catalogue.specs.Text.{catalogue_text}
 use Rattle.csn_desc.specs.declared.reading.Reading.{Reading}
 use Rattle.csn_desc.specs.declared.reading.Reading.TheVariants.{Sent}
@@ -14,6 +14,7 @@ use Rattle.csn_desc.specs.TreeV.{TreeV}
 use Rattle.csn_grammar.specs.RulesV.{RulesV}
 use Rattle.csn_grammar.specs.Place.{HasRules}
 use Rattle.csn_grammar.specs.Strings.{Strings}
+use Rattle.csn_replay.specs.Watched.{Watched}
 use Rattle.csn_soak.specs.declared.soaking.Soaked.{Soaked}
 use Rattle.csn_soak.specs.Soaking.{IsSoaked}
 use Rattle.csn_run.specs.declared.ended.Ended.{Ended}
@@ -21,42 +22,49 @@ use Rattle.csn_run.specs.declared.ended.Ended.TheVariants.{Done, SomeRefused, Us
 use Rattle.csn_run.specs.declared.lines.TheConstants.{LINE_FEED, MOST_INPUT}
 use Rattle.csn_run.specs.declared.compile.TheConstants.{MOST_DESCRIPTION}
 use Rattle.csn_run.specs.declared.command.RuleCommand.{RuleCommand}
-use Rattle.csn_run.specs.Command.{IsCheck, IsAnswer, IsMigrate, IsSegments, IsSoak, IsOverRule, IsOverEntries}
-use Rattle.csn_run.specs.Compiled.{RuleOf, rule_of_entry, IsCompiled, HasNoPlan, certified_line, soaked_line}
+use Rattle.csn_run.specs.Command.{IsCheck, IsAnswer, IsMigrate, IsSegments, IsSoak, IsOverRule, IsOverEntries, IsReplay}
+use Rattle.csn_run.specs.Compiled.{RuleOf, rule_of_entry, IsCompiled, HasNoPlan, certified_line, soaked_line, AreCompiled}
 use Rattle.csn_run.specs.Lines.{between_feeds}
 use Rattle.csn_run.specs.LineState.{LineState, nothing_yet, closing, AnswersAlone}
-use Rattle.csn_run.specs.OutLine.{AnswersByRule, MigratesLine, Segments}
+use Rattle.csn_run.specs.OutLine.{AnswersByRule, MigratesLine, Replays, Segments}
 use Rattle.csn_run.specs.Progress.{Answers, EndsIn, KeepsUp, StopsAfter}
 
--- the jobs that answer the lines of the input: a command by a rule of some rules, `migrate`, and `segments` by the rule
--- of some rules that describes downlink blocks
+-- the jobs that answer the lines of the input: a command by a rule of some rules, `migrate`, `segments` by the rule of
+-- some rules that describes downlink blocks, and `replay` by those that describe the blocks of the entries, with watchers
 pub data LineJob : Type 0 where
   by_rule : RuleCommand → RulesV → List ℕ → Reading → LineJob
   migrating : LineJob
   segmenting : RulesV → Reading → LineJob
+  replaying : RulesV → Reading → List Watched → LineJob
 
 -- what a line gives in such a job, and how it takes the state further
 abbrev pub Steps : LineJob → LineState → List ℕ → List ℕ → LineState → Type 0
 Steps (by_rule command rules name reading) = AnswersAlone (AnswersByRule command rules name reading)
 Steps migrating = AnswersAlone MigratesLine
 Steps (segmenting rules reading) = Segments rules reading
+Steps (replaying rules reading watchers) = Replays rules reading
 
 -- the state in front of the first line
 abbrev pub beginning : LineJob → LineState
 beginning (by_rule command rules name reading) = nothing_yet
 beginning migrating = nothing_yet
 beginning (segmenting rules reading) = nothing_yet
+beginning (replaying rules reading watchers) = record { blocks = []; watchers = watchers }
 
--- the words ask for this job. By a rule the file that they name is there, is no longer than a description
--- may be, and the rule that they name has a certified description; for `segments` the rule of the catalogue has one
-pub data AsksFor (words : List (List ℕ)) (files : List ℕ → Option (List ℕ)) (job : LineJob) : Type 0 where
+-- the words ask for this job, with these watchers. By a rule the file that they name is there, is no longer than a
+-- description may be, and the rule that they name has a certified description; for `segments` the rule of the catalogue
+-- has one, and for `replay` the rules of all entries. No other job has watchers
+pub data AsksFor (words : List (List ℕ)) (files : List ℕ → Option (List ℕ)) (watchers : List Watched) (job : LineJob) : Type 0 where
   asks_by_rule : (command : RuleCommand) (file name text : List ℕ) (reading : Reading) (rules : RulesV) (d : DescV)
       → IsAnswer command words file name reading → files file ≡ Some text → length text ≤ MOST_DESCRIPTION
-      → IsCompiled text name reading rules d → job ≡ by_rule command rules name reading → AsksFor words files job
-  asks_migrate : IsMigrate words → job ≡ migrating → AsksFor words files job
+      → IsCompiled text name reading rules d → job ≡ by_rule command rules name reading → AsksFor words files watchers job
+  asks_migrate : IsMigrate words → job ≡ migrating → AsksFor words files watchers job
   asks_segments : (reading : Reading) (rules : RulesV) (d : DescV) → IsSegments words reading
       → length catalogue_text ≤ MOST_DESCRIPTION → IsCompiled catalogue_text (entry_root Downlink) reading rules d
-      → job ≡ segmenting rules reading → AsksFor words files job
+      → job ≡ segmenting rules reading → AsksFor words files watchers job
+  asks_replay : (reading : Reading) (rules : RulesV) (plans : List DescV) → IsReplay words reading
+      → length catalogue_text ≤ MOST_DESCRIPTION → AreCompiled rules reading all_entries plans
+      → job ≡ replaying rules reading watchers → AsksFor words files watchers job
 
 -- the end of a command that answered all lines, by whether it refused one
 abbrev pub end_of : Bool → Ended
@@ -108,10 +116,10 @@ pub data EndsBefore (words : List (List ℕ)) (files : List ℕ → Option (List
 
 -- what a run writes, and how it ends, where each file that its words name is there: it comes to no line,
 -- or answers the lines of the input
-pub data Result (words : List (List ℕ)) (files : List ℕ → Option (List ℕ)) (input written : List ℕ) (ended : Ended) : Type 0 where
-  no_line : EndsBefore words files written ended → Result words files input written ended
-  lines : (job : LineJob) → AsksFor words files job → AnswersInput job input written ended
-      → Result words files input written ended
+pub data Result (words : List (List ℕ)) (files : List ℕ → Option (List ℕ)) (watchers : List Watched) (input written : List ℕ) (ended : Ended) : Type 0 where
+  no_line : EndsBefore words files written ended → Result words files watchers input written ended
+  lines : (job : LineJob) → AsksFor words files watchers job → AnswersInput job input written ended
+      → Result words files watchers input written ended
 
 -- the ends after which a job is done, or all of it that can be
 abbrev pub IsFinished : Ended → Type 0
@@ -130,31 +138,32 @@ abbrev pub IsStopped : Ended → Type 0
 IsStopped ended = (ended ≡ ReadFault) ⊎ ((ended ≡ WriteFault) ⊎ (ended ≡ NoMemory))
 
 -- what stands written however a run ended: nothing, or the front of what a whole run writes
-pub data BeginsResult (words : List (List ℕ)) (files : List ℕ → Option (List ℕ)) (input written : List ℕ) : Type 0 where
-  begins_none : written ≡ [] → BeginsResult words files input written
-  begins_whole : (rest : List ℕ) (ended : Ended) → Result words files input (written ++ rest) ended
-      → BeginsResult words files input written
+pub data BeginsResult (words : List (List ℕ)) (files : List ℕ → Option (List ℕ)) (watchers : List Watched) (input written : List ℕ) : Type 0 where
+  begins_none : written ≡ [] → BeginsResult words files watchers input written
+  begins_whole : (rest : List ℕ) (ended : Ended) → Result words files watchers input (written ++ rest) ended
+      → BeginsResult words files watchers input written
 
 -- what stands written after a fault of the source, which had given these bytes: the answers to the lines
 -- that had ended in them, and nothing else
-pub record AnswersGiven (words : List (List ℕ)) (files : List ℕ → Option (List ℕ)) (given written : List ℕ) : Type 0 where
+pub record AnswersGiven (words : List (List ℕ)) (files : List ℕ → Option (List ℕ)) (watchers : List Watched) (given written : List ℕ) : Type 0 where
   pub job : LineJob
-  pub asked : AsksFor words files job
+  pub asked : AsksFor words files watchers job
   pub stopped : StopsAfter (Steps job) (beginning job) given written
 
 -- a run of which a fault stopped the reading: nothing of the input was read and nothing is written, or the
 -- source had given some bytes, and `left` is what it has left
-pub data StopsReading (words : List (List ℕ)) (files : List ℕ → Option (List ℕ)) (input : List ℕ) (left : Option (List ℕ)) (written : List ℕ) : Type 0 where
-  before_reading : left ≡ Some input → written ≡ [] → StopsReading words files input left written
+pub data StopsReading (words : List (List ℕ)) (files : List ℕ → Option (List ℕ)) (watchers : List Watched) (input : List ℕ) (left : Option (List ℕ)) (written : List ℕ) : Type 0 where
+  before_reading : left ≡ Some input → written ≡ [] → StopsReading words files watchers input left written
   while_reading : (given rest : List ℕ) → input ≡ given ++ rest → left ≡ Some rest
-      → AnswersGiven words files given written → StopsReading words files input left written
+      → AnswersGiven words files watchers given written → StopsReading words files watchers input left written
 
 -- a run that keeps no answer back, however it ended: nothing of the input was read, or what is written begins with the
 -- answers to the lines that had ended before the last piece of what the source gave
-pub data AnswersPromptly (words : List (List ℕ)) (files : List ℕ → Option (List ℕ)) (input : List ℕ) (left : Option (List ℕ)) (written : List ℕ) : Type 0 where
-  nothing_read : left ≡ Some input → AnswersPromptly words files input left written
+pub data AnswersPromptly (words : List (List ℕ)) (files : List ℕ → Option (List ℕ)) (watchers : List Watched) (input : List ℕ) (left : Option (List ℕ)) (written : List ℕ) : Type 0 where
+  nothing_read : left ≡ Some input → AnswersPromptly words files watchers input left written
   some_read : (given rest : List ℕ) (job : LineJob) → input ≡ given ++ rest → left ≡ Some rest
-      → AsksFor words files job → KeepsUp (Steps job) (beginning job) given written → AnswersPromptly words files input left written
+      → AsksFor words files watchers job → KeepsUp (Steps job) (beginning job) given written
+      → AnswersPromptly words files watchers input left written
 
 -- by each rule that a run of the words compiles, bits of any length have at most one tree
 abbrev pub RulesHaveOneTree : List (List ℕ) → (List ℕ → Option (List ℕ)) → Type 0

@@ -48,6 +48,8 @@ pub enum Command<'a> {
     Migrate,
     /// Joins the blocks in the input to control messages of the downlink, and shows these.
     Segments(Reading),
+    /// Shows the blocks of a capture, each by the rule of its entry, and lets watchers count them.
+    Replay(Reading),
     /// Judges so many blocks of an entry of the catalogue from the generator. The input is not read.
     Soak(Entry, u32),
 }
@@ -161,6 +163,9 @@ pub fn command_of(words: &[String]) -> Option<Command<'_>>
     }
     if let Some(reading) = reading_words("segments", words) {
         return Some(Command::Segments(reading));
+    }
+    if let Some(reading) = reading_words("replay", words) {
+        return Some(Command::Replay(reading));
     }
     if let Some((entry, blocks)) = soak_words(words) {
         return Some(Command::Soak(entry, blocks));

@@ -1,6 +1,8 @@
 //! From the text of a description to the plan of a rule, or to the line that says why there is none.
 
 ghost use Rattle.std.specs.Prelude.{◌≡◌, ◌≤◌, ◌++◌, ◌∷◌, List, ℕ, IfOk, IfErr, OnOk, length};
+ghost use Rattle.csn_desc.specs.declared.reading.Reading.{Reading};
+ghost use Rattle.csn_grammar.specs.Place.{HasRules};
 ghost use Rattle.csn_grammar.specs.RulesV.{RulesV};
 ghost use Rattle.csn_run.specs.Compiled.{IsCompiled, IsReason, Tells, certified_line, conflict_line, digits_of};
 
@@ -9,7 +11,7 @@ use crate::ended::Ended;
 use crate::text_plan::TextPlan;
 use csn_certify::{CertifyFault, Conflict, Plan, certify};
 use csn_desc::Reading;
-use csn_grammar::{GrammarFault, read_rules};
+use csn_grammar::{GrammarFault, Rules, read_rules};
 use csn_lexer::MOST_TEXT;
 use csn_look::Word;
 use csn_resolve::{ResolveFault, resolve};
@@ -29,23 +31,54 @@ pub enum NoPlan {
     Plan(CertifyFault),
 }
 
-/// The certified description of a named rule of a text.
-fn certified(alloc: Global, text: &[u8], name: &[u8], reading: Reading) -> Result<Plan, NoPlan>
+/// The rules of a text.
+pub fn rules_of(alloc: Global, text: &[u8]) -> Result<Rules, NoPlan>
     requires fits { length text.now ≤ MOST_DESCRIPTION }
-    ensures plan { IfOk result (λ plan. (rules : RulesV) × IsCompiled text.now name.now reading rules plan) }
-    ensures none { IfErr result (IsReason text.now name.now reading) }
+    ensures rules { IfOk result (HasRules text.now) }
+    ensures none { IfErr result (λ reason. (name : List ℕ) (reading : Reading) → IsReason text.now name reading reason) }
 {
-    let rules = match read_rules(alloc, text) {
-        Ok(rules) => rules,
-        Err(fault) => return Err(NoPlan::Rules(fault)),
-    };
-    let desc = match resolve(alloc, &rules, name, reading) {
+    match read_rules(alloc, text) {
+        Ok(rules) => Ok(rules),
+        Err(fault) => Err(NoPlan::Rules(fault)),
+    }
+}
+
+/// The certified description of a named rule among these.
+fn certified(alloc: Global, rules: &Rules, name: &[u8], reading: Reading) -> Result<Plan, NoPlan>
+    ensures plan { IfOk result (λ plan. (text : List ℕ) → HasRules text rules.now
+        → IsCompiled text name.now reading rules.now plan) }
+    ensures none { IfErr result (λ reason. (text : List ℕ) → HasRules text rules.now
+        → IsReason text name.now reading reason) }
+{
+    let desc = match resolve(alloc, rules, name, reading) {
         Ok(desc) => desc,
         Err(fault) => return Err(NoPlan::Description(fault)),
     };
     match certify(alloc, desc) {
         Ok(plan) => Ok(plan),
         Err(fault) => Err(NoPlan::Plan(fault)),
+    }
+}
+
+/// The plan of a named rule among these, with the openings of its nodes.
+pub fn plan_by(
+    alloc: Global,
+    rules: &Rules,
+    name: &[u8],
+    reading: Reading,
+) -> Result<TextPlan, NoPlan>
+    ensures plan { IfOk result (λ plan. (text : List ℕ) → HasRules text rules.now
+        → IsCompiled text name.now reading rules.now plan) }
+    ensures none { IfErr result (λ reason. (text : List ℕ) → HasRules text rules.now
+        → IsReason text name.now reading reason) }
+{
+    let plan = match certified(alloc, rules, name, reading) {
+        Ok(plan) => plan,
+        Err(reason) => return Err(reason),
+    };
+    match TextPlan::new(alloc, plan) {
+        Ok(made) => Ok(made),
+        Err(_) => Err(NoPlan::Plan(CertifyFault::NoMemory)),
     }
 }
 
@@ -60,13 +93,9 @@ pub fn compile(
     ensures plan { IfOk result (λ plan. (rules : RulesV) × IsCompiled text.now name.now reading rules plan) }
     ensures none { IfErr result (IsReason text.now name.now reading) }
 {
-    let plan = match certified(alloc, text, name, reading) {
-        Ok(plan) => plan,
-        Err(reason) => return Err(reason),
-    };
-    match TextPlan::new(alloc, plan) {
-        Ok(made) => Ok(made),
-        Err(_) => Err(NoPlan::Plan(CertifyFault::NoMemory)),
+    match rules_of(alloc, text) {
+        Ok(rules) => plan_by(alloc, &rules, name, reading),
+        Err(reason) => Err(reason),
     }
 }
 

@@ -12,6 +12,7 @@ mod lines;
 mod migrate;
 mod output;
 mod planned;
+mod replay;
 mod segments;
 mod show;
 mod soaking;

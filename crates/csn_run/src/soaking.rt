@@ -2,6 +2,7 @@
 
 ghost use Rattle.std.specs.Prelude.{◌≡◌, ◌≢◌, ◌≤◌, ◌++◌, ◌∷◌, [], List, ℕ, Err, IfOk, IfErr, Option};
 ghost use Rattle.csn_soak.specs.declared.soaking.TheConstants.{MOST_BLOCKS};
+ghost use Rattle.csn_replay.specs.Watched.{Watched};
 ghost use Rattle.csn_run.specs.declared.lines.TheConstants.{LINE_FEED};
 ghost use Rattle.csn_run.specs.Command.{IsSoak};
 ghost use Rattle.csn_run.specs.Compiled.{soaked_line};
@@ -51,7 +52,7 @@ pub fn soak_entry(
     requires few { blocks ≤ MOST_BLOCKS }
     requires pending { pending.old.items ≡ [] }
     ensures ends { (words : List (List ℕ)) (files : Option (List ℕ → Option (List ℕ))) → IsSoak words entry blocks
-        → (left taken : Option (List ℕ)) → JobEnds words files left left taken taken pending.new.items result }
+        → (watchers : List Watched) (left taken : Option (List ℕ)) → JobEnds words files watchers left left taken taken pending.new.items result }
     ensures not_read { result ≢ Err Fault.Read }
     ensures not_write { result ≢ Err Fault.Write }
 {

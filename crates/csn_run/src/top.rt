@@ -5,7 +5,8 @@ ghost use Rattle.csn_io.specs.Got.{NothingLeft};
 ghost use Rattle.csn_io.specs.Put.{Appended, FlushedAll};
 ghost use Rattle.csn_io.specs.ShelfFault.{LacksFile};
 ghost use Rattle.csn_run.specs.declared.lines.TheConstants.{LINE_FEED, MOST_INPUT};
-ghost use Rattle.csn_run.specs.Command.{IsCheck, IsCommand, IsRowOf, IsSegments, NamesFile, ReadsLines};
+ghost use Rattle.csn_replay.specs.Watched.{Watched};
+ghost use Rattle.csn_run.specs.Command.{IsCheck, IsCommand, IsReplay, IsRowOf, IsSegments, NamesFile, ReadsLines};
 ghost use Rattle.csn_run.specs.Progress.{AnswersAll, Stops};
 ghost use Rattle.csn_run.specs.LineState.{closing_of};
 ghost use Rattle.csn_run.specs.OutLine.{Works};
@@ -21,12 +22,14 @@ use crate::laws::{known, lines_have_one_answer};
 use crate::lines::{LineCommand, Lines};
 use crate::migrate::Migrate;
 use crate::output::{flush, pass_on};
-use crate::planned::{Unplanned, plan_of, plan_of_entry, refuse, tell_certified};
+use crate::planned::{Unplanned, plan_of, plan_of_entry, plans_of_entries, refuse, tell_certified};
+use crate::replay::Replay;
 use crate::segments::Segments;
 use crate::soaking::soak_entry;
 use csn_catalogue::Entry;
 use csn_desc::Reading;
 use csn_io::{Shelf, Sink, Source};
+use csn_replay::Watcher;
 use csn_segment::Joiner;
 use std::alloc::Global;
 
@@ -66,8 +69,8 @@ fn check<B: Shelf>(
     pending: &mut Vec<u8>,
 ) -> Result<Ended, Fault>
     requires pending { pending.old.items ≡ [] }
-    ensures ends { (words : List (List ℕ)) → IsRowOf words (Command.Check rule.entry) → (left taken : Option (List ℕ))
-        → JobEnds words (B.files shelf.old) left left taken taken pending.new.items result }
+    ensures ends { (words : List (List ℕ)) → IsRowOf words (Command.Check rule.entry) → (watchers : List Watched) (left taken : Option (List ℕ))
+        → JobEnds words (B.files shelf.old) watchers left left taken taken pending.new.items result }
     ensures read { result ≡ Err Fault.Read
         → CannotRead (B.files shelf.old) (B.faults shelf.old) (B.faults shelf.new) (B.last_fault shelf.new) rule.entry.file.now }
     ensures not_write { result ≢ Err Fault.Write }
@@ -96,14 +99,14 @@ fn answer_by_rule<B: Shelf, S: Source, K: Sink>(
     requires line { lines.old.line.items ≡ [] }
     requires pending { lines.old.pending.items ≡ [] }
     requires refused { lines.old.refused ≡ false }
-    ensures ends { (words : List (List ℕ)) → IsRowOf words (Command.Answer command rule.entry)
-        → JobEnds words (B.files shelf.old) (S.left input.old) (S.left input.new)
+    ensures ends { (words : List (List ℕ)) (watchers : List Watched) → IsRowOf words (Command.Answer command rule.entry)
+        → JobEnds words (B.files shelf.old) watchers (S.left input.old) (S.left input.new)
         (K.taken out.old) (K.taken out.new) lines.new.pending.items result }
     ensures read { result ≡ Err Fault.Read → Rose (S.faults input.old) (S.faults input.new)
         ⊎ CannotRead (B.files shelf.old) (B.faults shelf.old) (B.faults shelf.new) (B.last_fault shelf.new) rule.entry.file.now }
     ensures write { result ≡ Err Fault.Write → Rose (K.faults out.old) (K.faults out.new) }
-    ensures touches { (words : List (List ℕ)) → IsRowOf words (Command.Answer command rule.entry) → (input.new ≡ input.old)
-        ⊎ ((job : LineJob) × Asked words (B.files shelf.old) job) }
+    ensures touches { (words : List (List ℕ)) (watchers : List Watched) → IsRowOf words (Command.Answer command rule.entry)
+        → (input.new ≡ input.old) ⊎ ((job : LineJob) × Asked words (B.files shelf.old) watchers job) }
     ensures before_lines { (result ≡ Ok Ended.BadDescription) ⊎ (result ≡ Ok Ended.NotCertified) → input.new ≡ input.old }
     ensures missing { LacksFile (B.files shelf.old) rule.entry.file.now → ((result ≡ Err Fault.Read) ⊎ (result ≡ Err Fault.Memory))
         × (input.new ≡ input.old) × (out.new ≡ out.old) × (lines.new.pending.items ≡ []) }
@@ -134,13 +137,13 @@ fn answer_segments<S: Source, K: Sink>(
     requires line { lines.old.line.items ≡ [] }
     requires pending { lines.old.pending.items ≡ [] }
     requires refused { lines.old.refused ≡ false }
-    ensures ends { (words : List (List ℕ)) (files : Option (List ℕ → Option (List ℕ))) → IsSegments words reading
-        → JobEnds words files (S.left input.old) (S.left input.new)
+    ensures ends { (words : List (List ℕ)) (files : Option (List ℕ → Option (List ℕ))) (watchers : List Watched)
+        → IsSegments words reading → JobEnds words files watchers (S.left input.old) (S.left input.new)
         (K.taken out.old) (K.taken out.new) lines.new.pending.items result }
     ensures read { result ≡ Err Fault.Read → Rose (S.faults input.old) (S.faults input.new) }
     ensures write { result ≡ Err Fault.Write → Rose (K.faults out.old) (K.faults out.new) }
-    ensures touches { (words : List (List ℕ)) (files : Option (List ℕ → Option (List ℕ))) → IsSegments words reading
-        → (input.new ≡ input.old) ⊎ ((job : LineJob) × Asked words files job) }
+    ensures touches { (words : List (List ℕ)) (files : Option (List ℕ → Option (List ℕ))) (watchers : List Watched)
+        → IsSegments words reading → (input.new ≡ input.old) ⊎ ((job : LineJob) × Asked words files watchers job) }
     ensures before_lines { (result ≡ Ok Ended.BadDescription) ⊎ (result ≡ Ok Ended.NotCertified) → input.new ≡ input.old }
     ensures input { Keeps (S.steady input.old) (S.steady input.new) (S.faults input.old) (S.faults input.new) (result ≡ Err Fault.Read) }
     ensures out { Keeps (K.steady out.old) (K.steady out.new) (K.faults out.old) (K.faults out.new) (result ≡ Err Fault.Write) }
@@ -156,6 +159,40 @@ fn answer_segments<S: Source, K: Sink>(
     answer_lines(alloc, &mut command, input, out, lines)
 }
 
+/// Shows the blocks of a capture, each by the rule of its entry, and lets the watchers count them.
+fn answer_replay<S: Source, K: Sink>(
+    alloc: Global,
+    reading: Reading,
+    watchers: Vec<Box<dyn Watcher>>,
+    input: &mut S,
+    out: &mut K,
+    lines: &mut Lines,
+) -> Result<Ended, Fault>
+    requires line { lines.old.line.items ≡ [] }
+    requires pending { lines.old.pending.items ≡ [] }
+    requires refused { lines.old.refused ≡ false }
+    ensures ends { (words : List (List ℕ)) (files : Option (List ℕ → Option (List ℕ))) → IsReplay words reading
+        → JobEnds words files (map (λ b. watched b) watchers.items) (S.left input.old) (S.left input.new)
+        (K.taken out.old) (K.taken out.new) lines.new.pending.items result }
+    ensures read { result ≡ Err Fault.Read → Rose (S.faults input.old) (S.faults input.new) }
+    ensures write { result ≡ Err Fault.Write → Rose (K.faults out.old) (K.faults out.new) }
+    ensures touches { (words : List (List ℕ)) (files : Option (List ℕ → Option (List ℕ))) → IsReplay words reading
+        → (input.new ≡ input.old) ⊎ ((job : LineJob) × Asked words files (map (λ b. watched b) watchers.items) job) }
+    ensures before_lines { (result ≡ Ok Ended.BadDescription) ⊎ (result ≡ Ok Ended.NotCertified) → input.new ≡ input.old }
+    ensures input { Keeps (S.steady input.old) (S.steady input.new) (S.faults input.old) (S.faults input.new) (result ≡ Err Fault.Read) }
+    ensures out { Keeps (K.steady out.old) (K.steady out.new) (K.faults out.old) (K.faults out.new) (result ≡ Err Fault.Write) }
+{
+    let plans = match plans_of_entries(alloc, reading) {
+        Ok(plans) => plans,
+        Err(reason) => return refuse(Unplanned::Text(reason), &mut lines.pending),
+    };
+    let mut command = Replay {
+        plans: &plans,
+        watchers,
+    };
+    answer_lines(alloc, &mut command, input, out, lines)
+}
+
 /// Does the job of a command, up to the answers that wait.
 fn perform<B: Shelf, S: Source, K: Sink>(
     alloc: Global,
@@ -164,20 +201,21 @@ fn perform<B: Shelf, S: Source, K: Sink>(
     input: &mut S,
     out: &mut K,
     lines: &mut Lines,
+    watchers: Vec<Box<dyn Watcher>>,
 ) -> Result<Ended, Fault>
     requires line { lines.old.line.items ≡ [] }
     requires pending { lines.old.pending.items ≡ [] }
     requires refused { lines.old.refused ≡ false }
     requires row { (words : List (List ℕ)) × IsRowOf words command }
     ensures ends { (words : List (List ℕ)) → IsRowOf words command.entry
-        → JobEnds words (B.files shelf.old) (S.left input.old) (S.left input.new)
+        → JobEnds words (B.files shelf.old) (map (λ b. watched b) watchers.items) (S.left input.old) (S.left input.new)
         (K.taken out.old) (K.taken out.new) lines.new.pending.items result }
     ensures read { result ≡ Err Fault.Read → (words : List (List ℕ)) → IsRowOf words command.entry
         → Rose (S.faults input.old) (S.faults input.new) ⊎ ((file : List ℕ) × NamesFile words file
         × CannotRead (B.files shelf.old) (B.faults shelf.old) (B.faults shelf.new) (B.last_fault shelf.new) file) }
     ensures write { result ≡ Err Fault.Write → Rose (K.faults out.old) (K.faults out.new) }
     ensures touches { (words : List (List ℕ)) → IsRowOf words command.entry → (input.new ≡ input.old)
-        ⊎ (ReadsLines words × (job : LineJob) × Asked words (B.files shelf.old) job) }
+        ⊎ (ReadsLines words × (job : LineJob) × Asked words (B.files shelf.old) (map (λ b. watched b) watchers.items) job) }
     ensures before_lines { (result ≡ Ok Ended.BadDescription) ⊎ (result ≡ Ok Ended.NotCertified) → input.new ≡ input.old }
     ensures no_file { (words : List (List ℕ)) → IsRowOf words command.entry
         → ((file : List ℕ) → NamesFile words file → ⊥) → shelf.new ≡ shelf.old }
@@ -197,6 +235,7 @@ fn perform<B: Shelf, S: Source, K: Sink>(
         }
         Command::Migrate => answer_lines(alloc, &mut Migrate, input, out, lines),
         Command::Segments(reading) => answer_segments(alloc, reading, input, out, lines),
+        Command::Replay(reading) => answer_replay(alloc, reading, watchers, input, out, lines),
         Command::Soak(entry, blocks) => soak_entry(alloc, entry, blocks, &mut lines.pending),
     }
 }
@@ -225,13 +264,14 @@ fn finish<K: Sink>(end: Result<Ended, Fault>, pending: &mut Vec<u8>, out: &mut K
     }
 }
 
-/// Does the job that the words ask for.
+/// Does the job that the words ask for. Where that is `replay`, the watchers count its blocks.
 pub fn run<B: Shelf, S: Source, K: Sink>(
     alloc: Global,
     words: &[String],
     shelf: &mut B,
     input: &mut S,
     out: &mut K,
+    watchers: Vec<Box<dyn Watcher>>,
 ) -> Ended
     // Usage comes where the words are no row of the command table, and then the outside is left alone.
     ensures usage { (result ≡ Ended.Usage) ↔ (IsCommand (map string_bytes words.now) → ⊥) }
@@ -240,30 +280,30 @@ pub fn run<B: Shelf, S: Source, K: Sink>(
     ensures usage_input { result ≡ Ended.Usage → input.new ≡ input.old }
     ensures usage_out { result ≡ Ended.Usage → out.new ≡ out.old }
 
-    // What is written, and how a run ends, is the result for the files, the whole input and the words.
+    // What is written, and how a run ends, is the result for the files, the watchers, the whole input and the words.
     ensures result { IsFinished result → (files : List ℕ → Option (List ℕ)) (whole before : List ℕ)
         → B.files shelf.old ≡ Some files → S.left input.old ≡ Some whole → K.taken out.old ≡ Some before
         → (written : List ℕ) × (K.taken out.new ≡ Some (before ++ written))
-        × Result (map string_bytes words.now) files whole written result }
+        × Result (map string_bytes words.now) files (map (λ b. watched b) watchers.items) whole written result }
 
     // However it ends, what is written begins the result. Nothing is written where the file is not there.
     ensures begins { result ≢ Ended.Usage → (files : List ℕ → Option (List ℕ)) (whole before : List ℕ)
         → B.files shelf.old ≡ Some files → S.left input.old ≡ Some whole → K.taken out.old ≡ Some before
         → (written : List ℕ) × (K.taken out.new ≡ Some (before ++ written))
-        × BeginsResult (map string_bytes words.now) files whole written }
+        × BeginsResult (map string_bytes words.now) files (map (λ b. watched b) watchers.items) whole written }
 
     // After a fault while it reads, just the lines are answered whose line feed came.
     ensures reading { result ≡ Ended.ReadFault → (files : List ℕ → Option (List ℕ)) (whole before : List ℕ)
         → B.files shelf.old ≡ Some files → S.left input.old ≡ Some whole → K.taken out.old ≡ Some before
         → (written : List ℕ) × (K.taken out.new ≡ Some (before ++ written))
-        × StopsReading (map string_bytes words.now) files whole (S.left input.new) written }
+        × StopsReading (map string_bytes words.now) files (map (λ b. watched b) watchers.items) whole (S.left input.new) written }
 
     // No answer is kept back: those to the lines that had ended before the last bytes which the source gave, at most
     // 4,096 of them, are written. So no more than these are read behind a fault of the sink.
     ensures prompt { result ≢ Ended.Usage → (files : List ℕ → Option (List ℕ)) (whole before : List ℕ)
         → B.files shelf.old ≡ Some files → S.left input.old ≡ Some whole → K.taken out.old ≡ Some before
         → (written : List ℕ) × (K.taken out.new ≡ Some (before ++ written))
-        × AnswersPromptly (map string_bytes words.now) files whole (S.left input.new) written }
+        × AnswersPromptly (map string_bytes words.now) files (map (λ b. watched b) watchers.items) whole (S.left input.new) written }
 
     // What is left of the input. Where a run comes to no line, the source and its count are left alone, also after a
     // fault.
@@ -320,6 +360,6 @@ pub fn run<B: Shelf, S: Source, K: Sink>(
         return Ended::Usage;
     };
     let mut lines = Lines::new(alloc);
-    let outcome = perform(alloc, command, shelf, input, out, &mut lines);
+    let outcome = perform(alloc, command, shelf, input, out, &mut lines, watchers);
     finish(outcome, &mut lines.pending, out)
 }

@@ -1,13 +1,17 @@
 use Rattle.std.proofs.Common.{[], ◌∷◌, refl, inl, inr}
 use Rattle.csn_catalogue.specs.declared.entry.Entry.TheVariants.{Downlink}
+use Rattle.csn_catalogue.specs.Entries.{all_entries}
 use Rattle.csn_desc.specs.declared.reading.Reading.TheVariants.{Sent}
 use Rattle.csn_run.specs.declared.command.RuleCommand.TheVariants.{Show, Write}
 use Rattle.csn_run.specs.declared.command.TreeForm.TheVariants.{Text, Json}
-use Rattle.csn_run.specs.Command.{rule_row, entries_row, over_downlink, over_soaked}
+use Rattle.csn_run.specs.Command.{rule_row, entries_row, over_downlink, over_all, over_soaked}
 use Rattle.csn_run.proofs.command.command_of.Goals as goal
 
 pub returns-in-Some-clause-row : goal.returns-in-Some-clause-row
 returns-in-Some-clause-row c = (λ _. entries_row (Downlink ∷ []) c.in-Some.reading (over_downlink c.in-Some.ensures.names refl), λ _. refl)
+
+pub returns-in-Some-reading_words-clause-row : goal.returns-in-Some-reading_words-clause-row
+returns-in-Some-reading_words-clause-row c = (λ _. entries_row all_entries c.in-Some-reading_words.reading (over_all c.in-Some-reading_words.ensures.names refl), λ _. refl)
 
 pub returns-in-Some-rule_words-clause-row : goal.returns-in-Some-rule_words-clause-row
 returns-in-Some-rule_words-clause-row c = (λ _. rule_row _ _ _ (inl c.in-Some-rule_words.ensures.names), λ _. refl)

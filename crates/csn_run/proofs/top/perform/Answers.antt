@@ -2,13 +2,13 @@ use Rattle.std.proofs.Common.{inl, inr, refl}
 use Rattle.csn_run.specs.LineState.{nothing_kept}
 use Rattle.csn_run.specs.OutLine.{renewing, Works}
 use Rattle.csn_run.specs.Result.{migrating}
-use Rattle.csn_run.proofs.CommandLemmas.{answer_reads, two_read}
+use Rattle.csn_run.proofs.CommandLemmas.{answer_reads, reads_too, two_read}
 use Rattle.csn_run.proofs.Following.{Watches, alone_follows, watches_close}
 use Rattle.csn_run.proofs.JobLemmas.{asked_migrate, lines_end}
 use Rattle.csn_run.proofs.top.perform.Goals as goal
 
 pub returns-in-Check-clause-ends : goal.returns-in-Check-clause-ends
-returns-in-Check-clause-ends g c = λ words row. c.check.ensures.ends words (rw c.in-Check.is at row) _ _
+returns-in-Check-clause-ends g c = λ words row. c.check.ensures.ends words (rw c.in-Check.is at row) _ _ _
 
 pub returns-in-Check-clause-read : goal.returns-in-Check-clause-read
 returns-in-Check-clause-read g c = λ e words row. inr (c.in-Check.rule.file.now, (c.in-Check.rule.name.now, c.in-Check.rule.reading, inl (rw c.in-Check.is at row)), c.check.ensures.read e)
@@ -17,7 +17,7 @@ pub returns-in-Check-clause-no_file : goal.returns-in-Check-clause-no_file
 returns-in-Check-clause-no_file g c = λ words row none. absurd (none c.in-Check.rule.file.now (c.in-Check.rule.name.now, c.in-Check.rule.reading, inl (rw c.in-Check.is at row)))
 
 pub returns-in-Answer-clause-ends : goal.returns-in-Answer-clause-ends
-returns-in-Answer-clause-ends g c = λ words row. c.answer_by_rule.ensures.ends words (rw c.in-Answer.is at row)
+returns-in-Answer-clause-ends g c = λ words row. c.answer_by_rule.ensures.ends words _ (rw c.in-Answer.is at row)
 
 pub returns-in-Answer-clause-read : goal.returns-in-Answer-clause-read
 returns-in-Answer-clause-read g c = λ e words row.
@@ -28,27 +28,28 @@ returns-in-Answer-clause-read g c = λ e words row.
 
 pub returns-in-Answer-clause-touches : goal.returns-in-Answer-clause-touches
 returns-in-Answer-clause-touches g c = λ words row.
-    elim (c.answer_by_rule.ensures.touches words (rw c.in-Answer.is at row)) [
-      | inl same ↦ inl same
-      | inr asked ↦ inr (answer_reads c.in-Answer.command (rw c.in-Answer.is at row), asked.0, asked.1)
-    ]
+    reads_too words (g.B.Shelf.files c.args.shelf.now) _ (answer_reads c.in-Answer.command (rw c.in-Answer.is at row)) (c.answer_by_rule.ensures.touches words _ (rw c.in-Answer.is at row))
 
 pub returns-in-Answer-clause-no_file : goal.returns-in-Answer-clause-no_file
 returns-in-Answer-clause-no_file g c = λ words row none. absurd (none c.in-Answer.rule.file.now (c.in-Answer.rule.name.now, c.in-Answer.rule.reading, inr (c.in-Answer.command, rw c.in-Answer.is at row)))
 
 pub returns-in-Migrate-clause-ends : goal.returns-in-Migrate-clause-ends
 returns-in-Migrate-clause-ends g c = λ words row.
-    lines_end Watches (Works renewing) nothing_kept words (g.B.Shelf.files c.args.shelf.now) migrating _ _ _ _ _ _ _ (asked_migrate words (g.B.Shelf.files c.args.shelf.now) (rw c.in-Migrate.is at row)) (alone_follows _ _ (λ line answer h. h)) watches_close refl c.answer_lines.ensures.ok c.answer_lines.ensures.err
+    lines_end Watches (Works renewing) nothing_kept words (g.B.Shelf.files c.args.shelf.now) _ migrating _ _ _ _ _ _ _ (asked_migrate words (g.B.Shelf.files c.args.shelf.now) _ (rw c.in-Migrate.is at row)) (alone_follows _ _ (λ line answer h. h)) watches_close refl c.answer_lines.ensures.ok c.answer_lines.ensures.err
 
 pub returns-in-Segments-clause-ends : goal.returns-in-Segments-clause-ends
-returns-in-Segments-clause-ends g c = λ words row. c.answer_segments.ensures.ends words _ (rw c.in-Segments.is at row)
+returns-in-Segments-clause-ends g c = λ words row. c.answer_segments.ensures.ends words _ _ (rw c.in-Segments.is at row)
 
 pub returns-in-Segments-clause-touches : goal.returns-in-Segments-clause-touches
 returns-in-Segments-clause-touches g c = λ words row.
-    elim (c.answer_segments.ensures.touches words (g.B.Shelf.files c.args.shelf.now) (rw c.in-Segments.is at row)) [
-      | inl same ↦ inl same
-      | inr asked ↦ inr (two_read (rw c.in-Segments.is at row), asked.0, asked.1)
-    ]
+    reads_too words (g.B.Shelf.files c.args.shelf.now) _ (two_read (rw c.in-Segments.is at row)) (c.answer_segments.ensures.touches words (g.B.Shelf.files c.args.shelf.now) _ (rw c.in-Segments.is at row))
+
+pub returns-in-Replay-clause-ends : goal.returns-in-Replay-clause-ends
+returns-in-Replay-clause-ends g c = λ words row. c.answer_replay.ensures.ends words _ (rw c.in-Replay.is at row)
+
+pub returns-in-Replay-clause-touches : goal.returns-in-Replay-clause-touches
+returns-in-Replay-clause-touches g c = λ words row.
+    reads_too words (g.B.Shelf.files c.args.shelf.now) _ (two_read (rw c.in-Replay.is at row)) (c.answer_replay.ensures.touches words (g.B.Shelf.files c.args.shelf.now) (rw c.in-Replay.is at row))
 
 pub returns-in-Soak-clause-ends : goal.returns-in-Soak-clause-ends
-returns-in-Soak-clause-ends g c = λ words row. c.soak_entry.ensures.ends words _ (rw c.in-Soak.is at row) _ _
+returns-in-Soak-clause-ends g c = λ words row. c.soak_entry.ensures.ends words _ (rw c.in-Soak.is at row) _ _ _

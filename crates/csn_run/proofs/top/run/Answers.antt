@@ -47,7 +47,7 @@ returns-clause-no_lines g c = λ never. elim (c.perform-outcome.ensures.touches 
 
 pub returns-clause-no_job : goal.returns-clause-no_job
 returns-clause-no_job g c = λ files written ended f before.
-    untouched c.known.ensures.of_texts _ files written ended _ _ before (rw f at (c.perform-outcome.ensures.touches _ c.in-Some.ensures.names))
+    untouched c.known.ensures.of_texts _ files _ written ended _ _ before (rw f at (c.perform-outcome.ensures.touches _ c.in-Some.ensures.names))
 
 pub returns-clause-before_lines : goal.returns-clause-before_lines
 returns-clause-before_lines g c = λ ended.
@@ -58,7 +58,7 @@ returns-clause-before_lines g c = λ ended.
 
 pub returns-clause-bounded : goal.returns-clause-bounded
 returns-clause-bounded g c = λ whole rest s left.
-    bounded_of _ _ whole rest _ _ _ _ _ (rw s at (c.perform-outcome.ensures.ends _ c.in-Some.ensures.names)) left
+    bounded_of _ _ _ whole rest _ _ _ _ _ (rw s at (c.perform-outcome.ensures.ends _ c.in-Some.ensures.names)) left
 
 pub returns-clause-one_tree : goal.returns-clause-one_tree
 returns-clause-one_tree g c = λ answered files f.
@@ -115,13 +115,13 @@ returns-clause-result g c = λ finished files whole before f s k.
     let no_write = finished_no_write c.finish.result finished in
     let no_memory = finished_no_memory c.finish.result finished in
     let all = handed_all _ _ _ _ _ took.2 took.3 (took.4 no_write no_memory) in
-    result_of _ files whole before _ _ _ _ _ _ ends all (c.finish.ensures.end no_write no_memory) finished
+    result_of _ files _ whole before _ _ _ _ _ _ ends all (c.finish.ensures.end no_write no_memory) finished
 
 pub returns-clause-begins : goal.returns-clause-begins
 returns-clause-begins g c = λ used files whole before f s k.
     let ends = rw (f, s, k) at (c.perform-outcome.ensures.ends _ c.in-Some.ensures.names) in
     let took = c.finish.ensures.took in
-    begun_of _ files whole before c.lines_have_one_answer.ensures.some_answer _ _ _ _ _ _ _ ends took.2 took.3
+    begun_of _ files _ whole before c.lines_have_one_answer.ensures.some_answer _ _ _ _ _ _ _ ends took.2 took.3
 
 pub returns-clause-reading : goal.returns-clause-reading
 returns-clause-reading g c = λ e files whole before f s k.
@@ -130,17 +130,17 @@ returns-clause-reading g c = λ e files whole before f s k.
     let no_write = ends_apart c.finish.result ReadFault WriteFault e (λ h. cc) in
     let no_memory = ends_apart c.finish.result ReadFault NoMemory e (λ h. cc) in
     let all = handed_all _ _ _ _ _ took.2 took.3 (took.4 no_write no_memory) in
-    read_of _ files whole before _ _ _ _ _ ends all (sym e ∙ c.finish.ensures.end no_write no_memory)
+    read_of _ files _ whole before _ _ _ _ _ ends all (sym e ∙ c.finish.ensures.end no_write no_memory)
 
 pub returns-clause-prompt : goal.returns-clause-prompt
 returns-clause-prompt g c = λ used files whole before f s k.
     let ends = rw (f, s, k) at (c.perform-outcome.ensures.ends _ c.in-Some.ensures.names) in
-    prompt_of _ files whole before _ _ _ _ _ _ ends c.finish.ensures.took.3
+    prompt_of _ files _ whole before _ _ _ _ _ _ ends c.finish.ensures.took.3
 
 pub returns-clause-input_read : goal.returns-clause-input_read
 returns-clause-input_read g c = λ read reads.
     let ends = c.perform-outcome.ensures.ends _ c.in-Some.ensures.names in
     elim read [
-      | inl e ↦ nothing_left_of _ _ _ _ _ _ _ _ ends (inl (sym (c.finish.ensures.end (ends_apart _ _ _ e (λ h. cc)) (ends_apart _ _ _ e (λ h. cc))) ∙ e)) reads
-      | inr e ↦ nothing_left_of _ _ _ _ _ _ _ _ ends (inr (sym (c.finish.ensures.end (ends_apart _ _ _ e (λ h. cc)) (ends_apart _ _ _ e (λ h. cc))) ∙ e)) reads
+      | inl e ↦ nothing_left_of _ _ _ _ _ _ _ _ _ ends (inl (sym (c.finish.ensures.end (ends_apart _ _ _ e (λ h. cc)) (ends_apart _ _ _ e (λ h. cc))) ∙ e)) reads
+      | inr e ↦ nothing_left_of _ _ _ _ _ _ _ _ _ ends (inr (sym (c.finish.ensures.end (ends_apart _ _ _ e (λ h. cc)) (ends_apart _ _ _ e (λ h. cc))) ∙ e)) reads
     ]

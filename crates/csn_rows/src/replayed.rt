@@ -1,0 +1,218 @@
+//! The rows of `replay`.
+
+ghost use Rattle.csn_replay.specs.declared.seen.Kind.TheVariants.{Length};
+
+use super::*;
+use crate::tests::{expect, words_of};
+use csn_bits::NoMemory;
+use csn_catalogue::Entry;
+use csn_replay::{BitsWatcher, EntryWatcher, Go, Kind, RefusedWatcher, Seen};
+use std::cell::Cell;
+use std::rc::Rc;
+use std::test::Fail;
+
+/// Blocks of two entries of which some have no tree, and a line of no entry.
+const CAPTURE: &[u8] = b"si1 2B
+si1 .
+si1 80/1
+si1 83
+si9 00
+";
+
+/// Counts bits from some number on, and how often watchers like it were dropped.
+struct Counting {
+    count: u64,
+    until: u64,
+    drops: Rc<Cell<u32>>,
+}
+
+impl Drop for Counting {
+    fn drop(self) {
+        let Counting {
+            count: _,
+            until: _,
+            drops,
+        } = self;
+        drops.set(drops.get().saturating_add(1));
+    }
+}
+
+impl Watcher for Counting {
+    ghost watched = { λ w. record { kind = Length; count = w.count; until = w.until } };
+
+    fn kind(&self) -> Kind {
+        Kind::Length
+    }
+
+    fn count(&self) -> u64 {
+        self.count
+    }
+
+    fn until(&self) -> u64 {
+        self.until
+    }
+
+    fn see(&mut self, seen: &Seen) -> Go {
+        self.count = self.count.saturating_add(u64::from(seen.bits));
+        if self.count >= self.until {
+            Go::Done
+        } else {
+            Go::Stay
+        }
+    }
+
+    fn report_line(&self, alloc: Global) -> Result<Vec<u8>, NoMemory> {
+        Ok(format!(in alloc; "bits {}", self.count)?.into_bytes())
+    }
+}
+
+/// `replay received` over the input, with these watchers.
+fn replayed(
+    alloc: Global,
+    input: &[u8],
+    watchers: Vec<Box<dyn Watcher>>,
+) -> Result<Ran, AllocError> {
+    let words = words_of(alloc, &["replay", "received"])?;
+    let input = Vec::from_slice(alloc, input)?;
+    run_watched(alloc, &words, BTreeMap::new(alloc), input, watchers)
+}
+
+#[test]
+fn a_report_follows_its_line(rt: HostRuntime) -> Result<(), Fail> {
+    let alloc = rt.alloc();
+    let mut watchers: Vec<Box<dyn Watcher>> = Vec::new(alloc);
+    watchers.push(Box::new(alloc, RefusedWatcher::new(2))?)?;
+    watchers.push(Box::new(alloc, BitsWatcher::new(u64::MAX))?)?;
+    let ran = replayed(alloc, CAPTURE, watchers)?;
+    let text = b"ok [#0:. <BAND_INDICATOR>=#0:. 6'43]
+no 0 ended
+no 1 ended
+refused 2
+ok [#1:[. <NCH Position>=5'0] <BAND_INDICATOR>=#0:. 1'1]
+bad 5
+bits 17
+";
+    expect(&rt, &ran, text, 1, "two watchers");
+    Ok(())
+}
+
+#[test]
+fn a_watcher_that_is_done_reports_no_more(rt: HostRuntime) -> Result<(), Fail> {
+    let alloc = rt.alloc();
+    let mut watchers: Vec<Box<dyn Watcher>> = Vec::new(alloc);
+    watchers.push(Box::new(alloc, BitsWatcher::new(9))?)?;
+    let ran = replayed(alloc, b"si1 2B\nsi1 83\n", watchers)?;
+    let text = b"ok [#0:. <BAND_INDICATOR>=#0:. 6'43]
+ok [#1:[. <NCH Position>=5'0] <BAND_INDICATOR>=#0:. 1'1]
+bits 16
+";
+    expect(&rt, &ran, text, 0, "a watcher that is done");
+    Ok(())
+}
+
+#[test]
+fn watchers_of_one_kind_count_apart(rt: HostRuntime) -> Result<(), Fail> {
+    let alloc = rt.alloc();
+    let mut watchers: Vec<Box<dyn Watcher>> = Vec::new(alloc);
+    watchers.push(Box::new(alloc, EntryWatcher::new(Entry::Si1, u64::MAX))?)?;
+    watchers.push(Box::new(alloc, BitsWatcher::new(8))?)?;
+    watchers.push(Box::new(alloc, EntryWatcher::new(Entry::Ia, u64::MAX))?)?;
+    watchers.push(Box::new(alloc, BitsWatcher::new(9))?)?;
+    let ran = replayed(alloc, b"si1 2B\n", watchers)?;
+    let text = b"ok [#0:. <BAND_INDICATOR>=#0:. 6'43]
+bits 8
+entry si1 1
+entry ia 0
+bits 8
+";
+    expect(&rt, &ran, text, 0, "two watchers of a kind");
+    Ok(())
+}
+
+/// The words of another command, and words of none.
+#[test]
+fn no_other_command_shows_blocks_to_watchers(rt: HostRuntime) -> Result<(), Fail> {
+    let alloc = rt.alloc();
+    for (words, text, status) in [
+        (["segments", "received"], "bad 1 0\n", 1),
+        (["replay", "both"], "", 2),
+    ] {
+        let mut watchers: Vec<Box<dyn Watcher>> = Vec::new(alloc);
+        watchers.push(Box::new(alloc, BitsWatcher::new(u64::MAX))?)?;
+        let words = words_of(alloc, &words)?;
+        let input = Vec::from_slice(alloc, b"si1 2B\n")?;
+        let ran = run_watched(alloc, &words, BTreeMap::new(alloc), input, watchers)?;
+        expect(&rt, &ran, text.as_bytes(), status, "words");
+    }
+    Ok(())
+}
+
+#[test]
+fn a_sink_that_fails_cuts_a_report(rt: HostRuntime) -> Result<(), Fail> {
+    let alloc = rt.alloc();
+    let words = words_of(alloc, &["replay", "received"])?;
+    let mut watchers: Vec<Box<dyn Watcher>> = Vec::new(alloc);
+    watchers.push(Box::new(alloc, BitsWatcher::new(u64::MAX))?)?;
+    let mut failing_puts = Vec::new(alloc);
+    failing_puts.push(3)?;
+    let mut shelf = MemShelf::new(BTreeMap::new(alloc), Vec::new(alloc));
+    let input = Vec::from_slice(alloc, b"si9 00\n")?;
+    let mut source = MemSource::new(input, 7, Vec::new(alloc));
+    let mut sink = MemSink::new(alloc, 4, failing_puts);
+    let ended = run(alloc, &words, &mut shelf, &mut source, &mut sink, watchers);
+    assert_eq!(rt; ended.status(), 6);
+    assert_eq!(rt; sink.taken(), b"bad 5\nbits".as_slice());
+    Ok(())
+}
+
+/// However a run ends, and also where the count comes to the greatest number.
+#[test]
+fn a_watcher_is_dropped_once(rt: HostRuntime) -> Result<(), Fail> {
+    let alloc = rt.alloc();
+    for (command, reading, count, until, input, text, status) in [
+        (
+            "replay",
+            "received",
+            0,
+            8,
+            "downlink FF\nsi9 00\n",
+            "no 1 bit\nbits 8\nbad 5\n",
+            1,
+        ),
+        (
+            "replay",
+            "received",
+            0,
+            9,
+            "downlink FF\n",
+            "no 1 bit\nbits 8\n",
+            1,
+        ),
+        (
+            "replay",
+            "received",
+            u64::MAX - 1,
+            u64::MAX,
+            "downlink FF\n",
+            "no 1 bit\nbits 18446744073709551615\n",
+            1,
+        ),
+        ("segments", "received", 0, 8, "", "", 0),
+        ("replay", "both", 0, 8, "", "", 2),
+    ] {
+        let drops = Rc::new(alloc, Cell::new(0))?;
+        let watcher = Counting {
+            count,
+            until,
+            drops: drops.clone()?,
+        };
+        let mut watchers: Vec<Box<dyn Watcher>> = Vec::new(alloc);
+        watchers.push(Box::new(alloc, watcher)?)?;
+        let words = words_of(alloc, &[command, reading])?;
+        let input = Vec::from_slice(alloc, input.as_bytes())?;
+        let ran = run_watched(alloc, &words, BTreeMap::new(alloc), input, watchers)?;
+        expect(&rt, &ran, text.as_bytes(), status, "drops");
+        assert_eq!(rt; drops.get(), 1);
+    }
+    Ok(())
+}
