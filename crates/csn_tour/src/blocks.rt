@@ -1,6 +1,7 @@
 //! From blocks to trees, and back.
 
-ghost use Rattle.std.specs.Prelude.{◌≡◌, ◌<◌};
+ghost use Rattle.std.specs.Prelude.{◌≡◌, ◌<◌, IfOk};
+ghost use Rattle.csn_encode.specs.Encoding.{IsBlockOf};
 
 use crate::fault::TourFault;
 use csn_bits::Bits;
@@ -55,6 +56,7 @@ fn encoded<L: Ledger>(
     requires name { blank.name ≡ L.name }
     requires parts { blank.parts ≡ L.parts }
     requires some { 0 < blank.parts }
+    ensures { IfOk result (IsBlockOf plan.now tree.now) }
 {
     let mut steps = Steps::<L>::new(blank);
     match encode(alloc, plan, tree, &mut steps) {
@@ -64,6 +66,8 @@ fn encoded<L: Ledger>(
 }
 
 /// The block that has a tree.
-pub fn block_of(alloc: Global, plan: &Plan, tree: &Tree) -> Result<Bits, TourFault> {
+pub fn block_of(alloc: Global, plan: &Plan, tree: &Tree) -> Result<Bits, TourFault>
+    ensures { IfOk result (IsBlockOf plan.now tree.now) }
+{
     encoded::<Brand>(alloc, plan, tree, Blank::new(1))
 }

@@ -1,5 +1,12 @@
 //! From a text to a plan, and what else can be asked of a description.
 
+ghost use Rattle.std.specs.Prelude.{◌≡◌, IfOk, IsTrue, List, ℕ};
+ghost use Rattle.csn_certify.specs.Conflicts.{Certified};
+ghost use Rattle.csn_certify.specs.Plans.{HasOneTree};
+ghost use Rattle.csn_compat.specs.Laws.{TakesStrings};
+ghost use Rattle.csn_desc.specs.Nodes.{DescV};
+ghost use Rattle.csn_tour.specs.Describes.{Describes};
+
 use crate::fault::TourFault;
 use csn_cert::{read_certificate, write_certificate};
 use csn_certify::{Plan, certify};
@@ -12,7 +19,9 @@ use csn_resolve::resolve;
 use std::alloc::Global;
 
 /// The description of the rule `M` of a text: csn_grammar reads the rules, csn_resolve numbers the nodes.
-pub fn description(alloc: Global, text: &str, reading: Reading) -> Result<Desc, TourFault> {
+pub fn description(alloc: Global, text: &str, reading: Reading) -> Result<Desc, TourFault>
+    ensures { IfOk result (λ desc. Describes reading text.now desc) }
+{
     if text.len() > csn_lexer::MOST_TEXT as usize {
         return Err(TourFault::TooLong);
     }
@@ -21,7 +30,10 @@ pub fn description(alloc: Global, text: &str, reading: Reading) -> Result<Desc, 
 }
 
 /// Its plan: csn_certify looks for conflicts, and where there is none, no bits have two trees.
-pub fn plan(alloc: Global, text: &str) -> Result<Plan, TourFault> {
+pub fn plan(alloc: Global, text: &str) -> Result<Plan, TourFault>
+    ensures certified { IfOk result (λ plan. Describes Reading.Received text.now plan × Certified plan 12) }
+    ensures one_tree { IfOk result (λ plan. HasOneTree plan) }
+{
     let desc = description(alloc, text, Reading::Received)?;
     match certify(alloc, desc) {
         Ok(plan) => Ok(plan),
@@ -30,7 +42,9 @@ pub fn plan(alloc: Global, text: &str) -> Result<Plan, TourFault> {
 }
 
 /// Whether every block of an old description has a tree by a new one, as csn_compat sees it.
-pub fn takes_old_blocks(alloc: Global, old: &str, new: &str) -> Result<bool, TourFault> {
+pub fn takes_old_blocks(alloc: Global, old: &str, new: &str) -> Result<bool, TourFault>
+    ensures { IfOk result (λ taken. IsTrue taken → (was : DescV) × (now : DescV) × Describes Reading.Received old.now was × Describes Reading.Received new.now now × TakesStrings was now) }
+{
     let old = description(alloc, old, Reading::Received)?;
     let new = description(alloc, new, Reading::Received)?;
     if old.reading() == new.reading() {
@@ -42,7 +56,9 @@ pub fn takes_old_blocks(alloc: Global, old: &str, new: &str) -> Result<bool, Tou
 
 /// Whether the certificate that csn_certmake makes of a plan, written and read again by csn_cert, is good for the
 /// description, as csn_good sees it, which knows nothing of how it was certified.
-pub fn is_verified(alloc: Global, text: &str) -> Result<bool, TourFault> {
+pub fn is_verified(alloc: Global, text: &str) -> Result<bool, TourFault>
+    ensures { IfOk result (λ good. IsTrue good → (d : DescV) × Describes Reading.Received text.now d × HasOneTree d) }
+{
     let desc = description(alloc, text, Reading::Received)?;
     let made = make_certificate(alloc, plan(alloc, text)?)?;
     let file = write_certificate(alloc, &made)?;
