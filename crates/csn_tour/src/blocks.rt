@@ -1,10 +1,12 @@
 //! From blocks to trees, and back.
 
-ghost use Rattle.std.specs.Prelude.{◌≡◌, ◌<◌, IfOk};
+ghost use Rattle.std.specs.Prelude.{◌≡◌, ◌<◌, ◌++◌, [], take, IfOk};
+ghost use Rattle.csn_bits.specs.Octets.{bits_of_octets};
+ghost use Rattle.csn_desc.specs.Means.{NMeans};
 ghost use Rattle.csn_encode.specs.Encoding.{IsBlockOf};
 
 use crate::fault::TourFault;
-use csn_bits::Bits;
+use csn_bits::{Bits, NoMemory};
 use csn_certify::{Plan, Steps};
 use csn_decode::{Decoder, Fed};
 use csn_desc::Tree;
@@ -24,16 +26,20 @@ fn decode<L: Ledger>(
     requires name { blank.name ≡ L.name }
     requires parts { blank.parts ≡ L.parts }
     requires some { 0 < blank.parts }
+    ensures { IfOk result (NMeans plan.now 0 0 [] (take 16 (bits_of_octets first.now) ++ take 16 (bits_of_octets second.now))) }
 {
     let mut steps = Steps::<L>::new(blank);
     let mut decoder = Decoder::new(alloc, plan);
-    if decoder.feed(first, 16, &mut steps) != Fed::Going {
-        return Err(TourFault::NotFollowed(decoder.seen()));
+    match decoder.feed(first, 16, &mut steps) {
+        Fed::Going => {}
+        Fed::Refused { place } => return Err(TourFault::NotFollowed(place)),
+        Fed::NoMemory => return Err(TourFault::Memory(NoMemory)),
     }
-    if decoder.feed(second, 16, &mut steps) != Fed::Going {
-        return Err(TourFault::NotFollowed(decoder.seen()));
+    match decoder.feed(second, 16, &mut steps) {
+        Fed::Going => Ok(decoder.finish(&mut steps)?),
+        Fed::Refused { place } => Err(TourFault::NotFollowed(place)),
+        Fed::NoMemory => Err(TourFault::Memory(NoMemory)),
     }
-    Ok(decoder.finish(&mut steps)?)
 }
 
 /// The tree of a block of two pieces.
@@ -42,7 +48,9 @@ pub fn tree_of(
     plan: &Plan,
     first: &[u8; 2],
     second: &[u8; 2],
-) -> Result<Tree, TourFault> {
+) -> Result<Tree, TourFault>
+    ensures { IfOk result (NMeans plan.now 0 0 [] (take 16 (bits_of_octets first.now) ++ take 16 (bits_of_octets second.now))) }
+{
     decode::<Brand>(alloc, plan, first, second, Blank::new(1))
 }
 
