@@ -39,7 +39,7 @@ use Rattle.csn_run.specs.Progress.{AnswersAll, Stops}
 use Rattle.csn_run.specs.declared.command.RuleCommand.{RuleCommand}
 use Rattle.csn_run.specs.declared.command.RuleReport.{RuleReport}
 use Rattle.csn_run.specs.Command.{IsReport, IsAnswer, IsMigrate, IsSegments, IsReplay, IsSoak, IsOverRule, over_downlink, over_all, over_soaked, leaves_report, leaves_soak}
-use Rattle.csn_run.specs.Compiled.{RuleOf, rule_of_entry, IsCompiled, HasNoPlan, no_rules, rules_refused, not_certified, IsReason, Tells, certified_line, soaked_line, AreCompiled}
+use Rattle.csn_run.specs.Compiled.{RuleOf, rule_of_entry, IsCompiled, HasNoPlan, no_rules, rules_refused, not_certified, IsReason, Tells, soaked_line, AreCompiled}
 use Rattle.csn_run.specs.Planned.{IsPlanned, IsWhy, Refuses}
 use Rattle.csn_run.specs.Job.{IsDescription, IsBeforeLines, Asked, EndedBefore, JobEnds, unread, before_lines, all_lines, some_lines}
 use Rattle.csn_run.proofs.Following.{Follows, all_follow, stops_follow, Watches}

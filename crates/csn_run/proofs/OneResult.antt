@@ -26,7 +26,7 @@ use Rattle.csn_run.specs.declared.ended.Ended.{Ended}
 use Rattle.csn_run.specs.declared.compile.TheConstants.{MOST_DESCRIPTION}
 use Rattle.csn_run.specs.Known.{KnownOfTexts}
 use Rattle.csn_run.specs.Command.{word_of, command_word, report_word, NamesRule, NamesReading, IsReport, IsAnswer, IsMigrate, IsSegments, IsReplay, IsSoak, IsOverRule, IsOverEntries, over_downlink, over_all, over_soaked}
-use Rattle.csn_run.specs.Compiled.{RuleOf, rule_of_entry, line_of, conflict_line, certified_line, soaked_line, AreCompiled, IsCompiled, HasNoPlan, no_rules, rules_refused, not_certified}
+use Rattle.csn_run.specs.Compiled.{RuleOf, rule_of_entry, line_of, conflict_line, soaked_line, AreCompiled, IsCompiled, HasNoPlan, no_rules, rules_refused, not_certified}
 use Rattle.csn_run.specs.Result.{LineJob, by_rule, segmenting, replaying, AsksFor, asks_by_rule, asks_migrate, asks_segments, asks_replay, AnswersInput, HasJob, Compiles, of_file, of_catalogue, HasNoJob, long_text, no_plan, Reports, EndsBefore, no_job, reported, soaked, no_line, lines}
 use Rattle.csn_run.specs.Laws.{LinesHaveOneAnswer, RunsHaveOneResult}
 use Rattle.csn_soak.specs.Soaking.{IsSoaked}
