@@ -16,3 +16,6 @@ mod Keyed
 mod Carried
 mod Apart
 mod KeepsRules
+mod Rising
+mod OneClaim
+mod OneCertificate

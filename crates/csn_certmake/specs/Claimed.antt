@@ -5,6 +5,7 @@ use Rattle.csn_desc.specs.declared.node.Node.{Node}
 use Rattle.csn_desc.specs.Nodes.{DescV}
 use Rattle.csn_cert.specs.PatternV.{PatternV}
 use Rattle.csn_cert.specs.CertificateV.{NodeV, IsCertificate}
+use Rattle.csn_cert.specs.CertificateText.{CertificateText}
 use Rattle.csn_claims.specs.Claims.{Claims}
 use Rattle.csn_look.specs.declared.symbol_set.Sign.{Sign}
 use Rattle.csn_look.specs.Signs.{bit_of_sign}
@@ -59,3 +60,9 @@ module _ (d : DescV) (c : List NodeV) where
     pub start : ClaimsStart
     pub follow : ClaimsFollow
     pub patterns : ClaimsPatterns
+
+-- the text is that of a certificate which claims of each node what look-ahead knows of it
+pub record IsCertificateText (d : DescV) (text : List ℕ) : Type 0 where
+  pub certificate : List NodeV
+  pub claims : ClaimsLookAhead d certificate
+  pub spelled : CertificateText certificate text

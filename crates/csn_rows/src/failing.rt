@@ -13,6 +13,7 @@ const FIELDS: &[u8] = b"<M> ::= <A : bit (3)> 0 <B : bit (4)> ;";
 const ROWS: &[(&[&str], &[u8])] = &[
     (&["check", "F", "M", "received"], b"A5\n"),
     (&["check", "F", "N", "received"], b"A5\n"),
+    (&["certificate", "F", "M", "received"], b"A5\n"),
     (&["show", "F", "M", "received"], b"A5\nB5\nA5GG\n\nA5"),
     (&["json", "F", "M", "received"], b"A5\nB5\nA5GG\n\nA5"),
     (

@@ -17,6 +17,8 @@ use std::collections::BTreeMap;
 #[cfg(test)]
 mod as_json;
 #[cfg(test)]
+mod certified;
+#[cfg(test)]
 mod failing;
 #[cfg(test)]
 mod replayed;

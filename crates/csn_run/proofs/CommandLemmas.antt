@@ -3,7 +3,7 @@ use Rattle.std.proofs.Common.{◌≡◌, ◌↔◌, ◌⊎◌, inl, inr, ℕ, Li
 use Rattle.csn_desc.specs.declared.reading.Reading.{Reading}
 use Rattle.csn_run.specs.declared.command.RuleCommand.{RuleCommand}
 use Rattle.csn_catalogue.specs.declared.entry.Entry.{Entry}
-use Rattle.csn_run.specs.Command.{IsCommand, IsOverRule, IsAnswer, IsMigrate, IsSoak, NamesFile, ReadsLines, leaves_check, leaves_soak}
+use Rattle.csn_run.specs.Command.{IsCommand, IsOverRule, IsAnswer, IsMigrate, IsSoak, NamesFile, ReadsLines, leaves_report, leaves_soak}
 use Rattle.csn_run.specs.declared.command.Command.{Command}
 use Rattle.csn_replay.specs.Watched.{Watched}
 use Rattle.csn_run.specs.Job.{Asked}
@@ -19,7 +19,7 @@ pub one_file : {words : List (List ℕ)} {file name : List ℕ} {reading : Readi
 one_file row other names = (one_rule (over row).row (over names.2).row).file_is
 
 pub answer_reads : {words : List (List ℕ)} {file name : List ℕ} {reading : Reading} (command : RuleCommand) → IsAnswer command words file name reading → ReadsLines words
-answer_reads command row (leaves_check file name reading check) = not_both command check row
+answer_reads command row (leaves_report report file name reading reports) = not_both report command reports row
 answer_reads command row (leaves_soak entry n soak) = not_three (answers command row) soak.words_are
 
 -- a job that reads lines and leaves the source alone, or has come to its lines
@@ -30,7 +30,7 @@ reads_too words files watchers reads (inl same) = inl same
 reads_too words files watchers reads (inr asked) = inr (reads, asked.0, asked.1)
 
 pub migrate_reads : {words : List (List ℕ)} → IsMigrate words → ReadsLines words
-migrate_reads is (leaves_check file name reading check) = not_migrate (over (inl check)) is
+migrate_reads is (leaves_report report file name reading reports) = not_migrate (over (inl (report, reports))) is
 migrate_reads is (leaves_soak entry n soak) = migrate_not_three is soak.words_are
 
 pub migrate_names : {words : List (List ℕ)} → IsMigrate words → (file : List ℕ) → NamesFile words file → ⊥
@@ -38,7 +38,7 @@ migrate_names is file names = not_migrate (over names.2) is
 
 -- words of two read lines, and name no file
 pub two_read : {words : List (List ℕ)} {first second : List ℕ} → words ≡ first ∷ second ∷ [] → ReadsLines words
-two_read is (leaves_check file name reading check) = not_two (over (inl check)) is
+two_read is (leaves_report report file name reading reports) = not_two (over (inl (report, reports))) is
 two_read is (leaves_soak entry n soak) = two_not_three is soak.words_are
 
 pub two_name : {words : List (List ℕ)} {first second : List ℕ} → words ≡ first ∷ second ∷ [] → (file : List ℕ) → NamesFile words file → ⊥

@@ -37,12 +37,13 @@ use Rattle.csn_run.specs.declared.planned.Unplanned.TheVariants.{File, Text}
 use Rattle.csn_run.specs.LineState.{LineState, Kept, closing, closing_of}
 use Rattle.csn_run.specs.Progress.{AnswersAll, Stops}
 use Rattle.csn_run.specs.declared.command.RuleCommand.{RuleCommand}
-use Rattle.csn_run.specs.Command.{IsCheck, IsAnswer, IsMigrate, IsSegments, IsReplay, IsSoak, IsOverRule, over_downlink, over_all, over_soaked, leaves_check, leaves_soak}
-use Rattle.csn_run.specs.Compiled.{RuleOf, rule_of_entry, IsCompiled, HasNoPlan, no_rules, rules_refused, not_certified, IsReason, Tells, certified_line, soaked_line, AreCompiled}
+use Rattle.csn_run.specs.declared.command.RuleReport.{RuleReport}
+use Rattle.csn_run.specs.Command.{IsReport, IsAnswer, IsMigrate, IsSegments, IsReplay, IsSoak, IsOverRule, over_downlink, over_all, over_soaked, leaves_report, leaves_soak}
+use Rattle.csn_run.specs.Compiled.{RuleOf, rule_of_entry, IsCompiled, HasNoPlan, no_rules, rules_refused, not_certified, IsReason, Tells, soaked_line, AreCompiled}
 use Rattle.csn_run.specs.Planned.{IsPlanned, IsWhy, Refuses}
 use Rattle.csn_run.specs.Job.{IsDescription, IsBeforeLines, Asked, EndedBefore, JobEnds, unread, before_lines, all_lines, some_lines}
 use Rattle.csn_run.proofs.Following.{Follows, all_follow, stops_follow, Watches}
-use Rattle.csn_run.specs.Result.{LineJob, by_rule, migrating, Steps, beginning, segmenting, asks_by_rule, asks_migrate, asks_segments, HasJob, Compiles, of_file, of_catalogue, long_text, no_plan, no_job, checked, soaked, end_of, replaying, asks_replay}
+use Rattle.csn_run.specs.Result.{LineJob, by_rule, migrating, Steps, beginning, segmenting, asks_by_rule, asks_migrate, asks_segments, HasJob, Compiles, of_file, of_catalogue, long_text, no_plan, no_job, Reports, reported, soaked, end_of, replaying, asks_replay}
 
 -- ---- what the words ask for over told files
 
@@ -80,14 +81,14 @@ pub asked_migrate : (words : List (List ℕ)) (files : Option (List ℕ → Opti
 asked_migrate words None watchers row = tt
 asked_migrate words (Some files) watchers row = asks_migrate row refl
 
--- `check` by a plan
-pub ended_checked :
-    (words : List (List ℕ)) (files : Option (List ℕ → Option (List ℕ))) (rule : RuleWords) (d : DescV)
-    → IsCheck words rule.file.now rule.name.now rule.reading → IsPlanned files rule d
-    → EndedBefore words files (certified_line d ++ 10 ∷ []) Done
-ended_checked words None rule d row is = inr (refl, λ reads. reads (leaves_check rule.file.now rule.name.now rule.reading row))
-ended_checked words (Some files) rule d row is =
-    checked rule.file.now rule.name.now is.text rule.reading is.rules d row (whole_file files rule.file.now is.text is.fetched) is.fetched.fits is.compiled refl refl
+-- a report by a plan
+pub ended_reported :
+    (words : List (List ℕ)) (files : Option (List ℕ → Option (List ℕ))) (report : RuleReport) (rule : RuleWords) (d : DescV) (written : List ℕ)
+    → IsReport report words rule.file.now rule.name.now rule.reading → IsPlanned files rule d → Reports report d written
+    → EndedBefore words files written Done
+ended_reported words None report rule d written row is told = inr (refl, λ reads. reads (leaves_report report rule.file.now rule.name.now rule.reading row))
+ended_reported words (Some files) report rule d written row is told =
+    reported report rule.file.now rule.name.now is.text rule.reading is.rules d row (whole_file files rule.file.now is.text is.fetched) is.fetched.fits is.compiled told refl
 
 -- the reason why a text gives no plan, with its line
 no_plan_of :
@@ -231,17 +232,16 @@ pub lines_end :
 lines_end Stands A kept words files watchers job left left' taken taken' waits refused (Ok ended) asked follows closes is ok err = all_lines job refused asked (all_follow Stands A (Steps job) follows kept (beginning job) is closes ok.0) (ap Ok ok.1)
 lines_end Stands A kept words files watchers job left left' taken taken' waits refused (Err fault) asked follows closes is ok err = some_lines job fault asked (stops_follow Stands A (Steps job) follows kept (beginning job) is fault err) refl
 
--- the job of `check` is over by a plan
-pub check_ends :
-    (words : List (List ℕ)) (files : Option (List ℕ → Option (List ℕ))) (watchers : List Watched) (rule : RuleWords) (d : DescV) (left taken : Option (List ℕ)) (waits : List ℕ) (end : Result Ended Fault)
-    → IsCheck words rule.file.now rule.name.now rule.reading → IsPlanned files rule d
-    → IfOk end (λ ended. (ended ≡ Done) × (waits ≡ certified_line d ++ 10 ∷ [])) → IfErr end (λ fault. (fault ≡ Memory) × (waits ≡ []))
+-- the job of a report is over by a plan
+pub report_ends :
+    (words : List (List ℕ)) (files : Option (List ℕ → Option (List ℕ))) (watchers : List Watched) (report : RuleReport) (rule : RuleWords) (d : DescV) (left taken : Option (List ℕ)) (waits : List ℕ) (end : Result Ended Fault)
+    → IsReport report words rule.file.now rule.name.now rule.reading → IsPlanned files rule d
+    → IfOk end (λ ended. (ended ≡ Done) × Reports report d waits) → IfErr end (λ fault. (fault ≡ Memory) × (waits ≡ []))
     → JobEnds words files watchers left left taken taken waits end
-check_ends words files watchers rule d left taken waits (Ok ended) row is ok err =
+report_ends words files watchers report rule d left taken waits (Ok ended) row is ok err =
     let P : Ended → Type 0 = λ e. EndedBefore words files waits e in
-    let Q : List ℕ → Type 0 = λ w. EndedBefore words files w Done in
-    before_lines (subst P (sym ok.0) (subst Q (sym ok.1) (ended_checked words files rule d row is))) refl refl
-check_ends words files watchers rule d left taken waits (Err fault) row is ok err = unread refl refl err.1 (inr (ap Err err.0))
+    before_lines (subst P (sym ok.0) (ended_reported words files report rule d waits row is ok.1)) refl refl
+report_ends words files watchers report rule d left taken waits (Err fault) row is ok err = unread refl refl err.1 (inr (ap Err err.0))
 
 -- the job of `soak` is over with its counts
 pub soak_ends :

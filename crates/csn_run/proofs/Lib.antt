@@ -27,3 +27,4 @@ pub mod EntryPlans
 pub mod WrittenLines
 pub mod OneTree
 pub mod SoakedBlocks
+mod CertificateTexts

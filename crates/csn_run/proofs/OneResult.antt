@@ -19,13 +19,15 @@ use Rattle.csn_certify.specs.declared.conflict.Conflict.{Conflict}
 use Rattle.csn_certify.specs.Conflicts.{IsFirstConflict}
 use Rattle.csn_run.specs.declared.command.RuleCommand.{RuleCommand}
 use Rattle.csn_run.specs.declared.command.RuleCommand.TheVariants.{Show, Write}
+use Rattle.csn_run.specs.declared.command.RuleReport.{RuleReport}
+use Rattle.csn_run.specs.declared.command.RuleReport.TheVariants.{Check, Certificate}
 use Rattle.csn_run.specs.declared.command.TreeForm.TheVariants.{Text, Json}
 use Rattle.csn_run.specs.declared.ended.Ended.{Ended}
 use Rattle.csn_run.specs.declared.compile.TheConstants.{MOST_DESCRIPTION}
 use Rattle.csn_run.specs.Known.{KnownOfTexts}
-use Rattle.csn_run.specs.Command.{word_of, command_word, NamesRule, NamesReading, IsCheck, IsAnswer, IsMigrate, IsSegments, IsReplay, IsSoak, IsOverRule, IsOverEntries, over_downlink, over_all, over_soaked}
-use Rattle.csn_run.specs.Compiled.{RuleOf, rule_of_entry, line_of, conflict_line, certified_line, soaked_line, AreCompiled, IsCompiled, HasNoPlan, no_rules, rules_refused, not_certified}
-use Rattle.csn_run.specs.Result.{LineJob, by_rule, segmenting, replaying, AsksFor, asks_by_rule, asks_migrate, asks_segments, asks_replay, AnswersInput, HasJob, Compiles, of_file, of_catalogue, HasNoJob, long_text, no_plan, EndsBefore, no_job, checked, soaked, no_line, lines}
+use Rattle.csn_run.specs.Command.{word_of, command_word, report_word, NamesRule, NamesReading, IsReport, IsAnswer, IsMigrate, IsSegments, IsReplay, IsSoak, IsOverRule, IsOverEntries, over_downlink, over_all, over_soaked}
+use Rattle.csn_run.specs.Compiled.{RuleOf, rule_of_entry, line_of, conflict_line, soaked_line, AreCompiled, IsCompiled, HasNoPlan, no_rules, rules_refused, not_certified}
+use Rattle.csn_run.specs.Result.{LineJob, by_rule, segmenting, replaying, AsksFor, asks_by_rule, asks_migrate, asks_segments, asks_replay, AnswersInput, HasJob, Compiles, of_file, of_catalogue, HasNoJob, long_text, no_plan, Reports, EndsBefore, no_job, reported, soaked, no_line, lines}
 use Rattle.csn_run.specs.Laws.{LinesHaveOneAnswer, RunsHaveOneResult}
 use Rattle.csn_soak.specs.Soaking.{IsSoaked}
 use Rattle.csn_run.proofs.OneInput.{Written, one_input}
@@ -61,7 +63,7 @@ pub record OverRule (words : List (List ℕ)) (file name : List ℕ) (reading : 
   pub row : NamesRule command words file name reading
 
 pub over : {words : List (List ℕ)} {file name : List ℕ} {reading : Reading} → IsOverRule words file name reading → OverRule words file name reading
-over (inl row) = record { command = codes "check"; row = row }
+over (inl report) = record { command = report_word report.0; row = report.1 }
 over (inr answer) = record { command = command_word answer.0; row = answer.1 }
 
 -- a command that answers lines by a rule
@@ -86,14 +88,24 @@ one_command (Write Json) (Show Json) e = absurd (let first : 117 ≡ 106 = ap (�
 one_command (Write Json) (Write Text) e = absurd (let first : 117 ≡ 119 = ap (λ w. slice_index w 0) e in omega (arith, first))
 one_command (Write Json) (Write Json) e = refl
 
-not_check : (command : RuleCommand) → codes "check" ≡ command_word command → ⊥
-not_check (Show Text) e = let first : 99 ≡ 115 = ap (λ w. slice_index w 0) e in omega (arith, first)
-not_check (Show Json) e = let first : 99 ≡ 106 = ap (λ w. slice_index w 0) e in omega (arith, first)
-not_check (Write Text) e = let first : 99 ≡ 119 = ap (λ w. slice_index w 0) e in omega (arith, first)
-not_check (Write Json) e = let first : 99 ≡ 117 = ap (λ w. slice_index w 0) e in omega (arith, first)
+one_report : (report other : RuleReport) → report_word report ≡ report_word other → report ≡ other
+one_report Check Check e = refl
+one_report Check Certificate e = absurd (let second : 104 ≡ 101 = ap (λ w. slice_index w 1) e in omega (arith, second))
+one_report Certificate Check e = absurd (let second : 101 ≡ 104 = ap (λ w. slice_index w 1) e in omega (arith, second))
+one_report Certificate Certificate e = refl
 
-pub not_both : {words : List (List ℕ)} {file name file' name' : List ℕ} {reading reading' : Reading} (command : RuleCommand) → IsCheck words file name reading → IsAnswer command words file' name' reading' → ⊥
-not_both command row row' = not_check command (one_rule row row').command_is
+reports_begin : (report : RuleReport) → slice_index (report_word report) 0 ≡ 99
+reports_begin Check = refl
+reports_begin Certificate = refl
+
+no_report : (command : RuleCommand) → slice_index (command_word command) 0 ≡ 99 → ⊥
+no_report (Show Text) first = omega (arith, first)
+no_report (Show Json) first = omega (arith, first)
+no_report (Write Text) first = omega (arith, first)
+no_report (Write Json) first = omega (arith, first)
+
+pub not_both : {words : List (List ℕ)} {file name file' name' : List ℕ} {reading reading' : Reading} (report : RuleReport) (command : RuleCommand) → IsReport report words file name reading → IsAnswer command words file' name' reading' → ⊥
+not_both report command row row' = no_report command (ap (λ w. slice_index w 0) (sym (one_rule row row').command_is) ∙ reports_begin report)
 
 pub not_migrate : {words : List (List ℕ)} {file name : List ℕ} {reading : Reading} → OverRule words file name reading → IsMigrate words → ⊥
 not_migrate {words} {file} {name} {reading} rule is =
@@ -296,6 +308,14 @@ module _ (known : KnownOfTexts) where
   one_first (first ∷ front) (first' ∷ front') rule rule' behind behind' w v e f same has has' none none' =
       one_first front front' rule rule' behind behind' w v e f (rest_of same) has.1 has'.1 none none'
 
+  -- a report tells one thing of a description
+  one_told :
+      {text name : List ℕ} {reading : Reading} {rules : RulesV} {d : DescV} {w v : List ℕ} (report : RuleReport)
+      → IsCompiled text name reading rules d → Reports report d w → Reports report d v → w ≡ v
+  one_told Check compiled is is' = is ∙ sym is'
+  one_told {text} {name} {reading} {rules} {d} {w} {v} Certificate compiled is is' =
+      known.one_certificate d w v (known.descriptions rules reading name d (known.shaped text rules compiled.has_rules) compiled.resolved) is is'
+
   -- ---- runs that come to no line
 
   module _ (words : List (List ℕ)) (files : List ℕ → Option (List ℕ)) where
@@ -304,7 +324,7 @@ module _ (known : KnownOfTexts) where
     all_or_none front rule behind all compiles others has none =
         job_or_none rule (holds_at front rule behind (subst (λ (l : List RuleOf). AllByRecursion HasJob l) (one_list_compiles words files all (front ++ rule ∷ behind) others compiles) has)) none
 
-    -- all rules that `check` compiles have a job
+    -- the rule that a report is on has a job
     pub checked_compiles :
         {file name text : List ℕ} {reading : Reading} {rules : RulesV} {d : DescV} → IsOverRule words file name reading → files file ≡ Some text
         → length text ≤ MOST_DESCRIPTION → IsCompiled text name reading rules d
@@ -323,23 +343,26 @@ module _ (known : KnownOfTexts) where
     one_before w v e f (no_job front rule behind compiles has none) (no_job front' rule' behind' compiles' has' none') =
         let same = one_first front front' rule rule' behind behind' w v e f (one_list_compiles words files _ _ compiles compiles') has has' none none' in
         one_no_job rule'.text rule'.name rule'.reading w v e f (subst (λ (r : RuleOf). HasNoJob r.text r.name r.reading w e) same none) none'
-    one_before w v e f (no_job front rule behind compiles has none) (checked file' name' text' reading' rules d row' held' fits compiled is end) =
-        let all = checked_compiles (inl row') held' fits compiled in absurd (all_or_none front rule behind _ compiles all.0 all.1 none)
-    one_before w v e f (checked file' name' text' reading' rules d row' held' fits compiled is end) (no_job front rule behind compiles has none) =
-        let all = checked_compiles (inl row') held' fits compiled in absurd (all_or_none front rule behind _ compiles all.0 all.1 none)
-    one_before w v e f (checked file name text reading rules d row held fits compiled is end) (checked file' name' text' reading' rules' d' row' held' fits' compiled' is' end') =
-        let same = first_of (one_list_compiles words files _ _ (checked_compiles (inl row) held fits compiled).0 (checked_compiles (inl row') held' fits' compiled').0) in
+    one_before w v e f (no_job front rule behind compiles has none) (reported report file' name' text' reading' rules d row' held' fits compiled is end) =
+        let all = checked_compiles (inl (report, row')) held' fits compiled in absurd (all_or_none front rule behind _ compiles all.0 all.1 none)
+    one_before w v e f (reported report file' name' text' reading' rules d row' held' fits compiled is end) (no_job front rule behind compiles has none) =
+        let all = checked_compiles (inl (report, row')) held' fits compiled in absurd (all_or_none front rule behind _ compiles all.0 all.1 none)
+    one_before w v e f (reported report file name text reading rules d row held fits compiled is end) (reported report' file' name' text' reading' rules' d' row' held' fits' compiled' is' end') =
+        let same = first_of (one_list_compiles words files _ _ (checked_compiles (inl (report, row)) held fits compiled).0 (checked_compiles (inl (report', row')) held' fits' compiled').0) in
         let P : RuleOf → Type 0 = λ r. IsCompiled r.text r.name r.reading rules d in
         let one = one_compiled (subst P same compiled) compiled' in
-        (is ∙ ap (λ x. certified_line x ++ 10 ∷ []) one ∙ sym is', end ∙ sym end')
+        let kind = one_report report report' (one_rule row row').command_is in
+        let Q : RuleReport → Type 0 = λ r. Reports r d w in
+        let R : DescV → Type 0 = λ x. Reports report' x w in
+        (one_told report' compiled' (subst R one (subst Q kind is)) is', end ∙ sym end')
     one_before w v e f (no_job front rule behind compiles has none) (soaked entry n rules d counts row fits compiled from is end) =
         let all = soaked_compiles row fits compiled in absurd (all_or_none front rule behind _ compiles all.0 all.1 none)
     one_before w v e f (soaked entry n rules d counts row fits compiled from is end) (no_job front rule behind compiles has none) =
         let all = soaked_compiles row fits compiled in absurd (all_or_none front rule behind _ compiles all.0 all.1 none)
-    one_before w v e f (checked file name text reading rules d row held fits compiled is end) (soaked entry n rules' d' counts row' fits' compiled' from is' end') =
-        absurd (not_three (over (inl row)) row'.words_are)
-    one_before w v e f (soaked entry n rules' d' counts row' fits' compiled' from is' end') (checked file name text reading rules d row held fits compiled is end) =
-        absurd (not_three (over (inl row)) row'.words_are)
+    one_before w v e f (reported report file name text reading rules d row held fits compiled is end) (soaked entry n rules' d' counts row' fits' compiled' from is' end') =
+        absurd (not_three (over (inl (report, row))) row'.words_are)
+    one_before w v e f (soaked entry n rules' d' counts row' fits' compiled' from is' end') (reported report file name text reading rules d row held fits compiled is end) =
+        absurd (not_three (over (inl (report, row))) row'.words_are)
     one_before w v e f (soaked entry n rules d counts row fits compiled from is end) (soaked entry' n' rules' d' counts' row' fits' compiled' from' is' end') =
         let same = one_soak row row' in
         let P : Entry → Type 0 = λ x. IsCompiled catalogue_text (entry_root x) Sent rules d in
@@ -396,10 +419,10 @@ module _ (known : KnownOfTexts) where
     -- a run that comes to no line has no job over lines
     pub before_or_job : {w : List ℕ} {e : Ended} {watchers : List Watched} (job : LineJob) → EndsBefore words files w e → AsksFor words files watchers job → ⊥
     before_or_job job (no_job front rule behind compiles has none) asked = job_or_none rule (holds_at front rule behind (jobs_compile job _ asked compiles)) none
-    before_or_job job (checked file name text reading rules d row held fits compiled is end) (asks_by_rule command file' name' text' reading' rules' d' row' held' fits' compiled' is') = not_both command row row'
-    before_or_job job (checked file name text reading rules d row held fits compiled is end) (asks_migrate row' is') = not_migrate (over (inl row)) row'
-    before_or_job job (checked file name text reading rules d row held fits compiled is end) (asks_segments reading' rules' d' row' fits' compiled' is') = not_two (over (inl row)) row'
-    before_or_job job (checked file name text reading rules d row held fits compiled is end) (asks_replay reading' rules' plans' row' fits' compiled' is') = not_two (over (inl row)) row'
+    before_or_job job (reported report file name text reading rules d row held fits compiled is end) (asks_by_rule command file' name' text' reading' rules' d' row' held' fits' compiled' is') = not_both report command row row'
+    before_or_job job (reported report file name text reading rules d row held fits compiled is end) (asks_migrate row' is') = not_migrate (over (inl (report, row))) row'
+    before_or_job job (reported report file name text reading rules d row held fits compiled is end) (asks_segments reading' rules' d' row' fits' compiled' is') = not_two (over (inl (report, row))) row'
+    before_or_job job (reported report file name text reading rules d row held fits compiled is end) (asks_replay reading' rules' plans' row' fits' compiled' is') = not_two (over (inl (report, row))) row'
     before_or_job job (soaked entry n rules d counts row fits compiled from is end) (asks_by_rule command file' name' text' reading' rules' d' row' held' fits' compiled' is') = not_three (answers command row') row.words_are
     before_or_job job (soaked entry n rules d counts row fits compiled from is end) (asks_migrate row' is') = migrate_not_three row' row.words_are
     before_or_job job (soaked entry n rules d counts row fits compiled from is end) (asks_segments reading' rules' d' row' fits' compiled' is') = two_not_three row' row.words_are

@@ -11,7 +11,7 @@ use Rattle.csn_run.specs.declared.fault.Fault.{Fault}
 use Rattle.csn_run.specs.Known.{Known}
 use Rattle.csn_run.specs.Compiled.{RuleOf, no_rules, rules_refused, not_certified}
 use Rattle.csn_run.specs.Job.{JobEnds, unread, before_lines, all_lines, some_lines, end_with}
-use Rattle.csn_run.specs.Result.{LineJob, AsksFor, HasJob, Compiles, EndsBefore, no_job, checked, soaked, long_text, no_plan, RulesHaveOneTree}
+use Rattle.csn_run.specs.Result.{LineJob, AsksFor, HasJob, Compiles, EndsBefore, no_job, reported, soaked, long_text, no_plan, RulesHaveOneTree}
 use Rattle.csn_run.proofs.OneResult.{holds_at, one_list_compiles, checked_compiles, soaked_compiles, jobs_compile}
 use Rattle.csn_run.proofs.ResultLemmas.{IsAnswered, fault_answered, ended_apart}
 use Rattle.csn_run.proofs.ShownLines.{one_tree}
@@ -34,8 +34,8 @@ module _ (known : Known) (words : List (List ℕ)) (files : List ℕ → Option 
   before_one_tree written ended (no_job front rule behind compiles earlier (no_plan line fits (no_rules place at is e) ends)) answered = absurd (ended_apart _ _ e (λ h. cc) (λ h. cc) answered)
   before_one_tree written ended (no_job front rule behind compiles earlier (no_plan line fits (rules_refused rules why place has why_not is e) ends)) answered = absurd (ended_apart _ _ e (λ h. cc) (λ h. cc) answered)
   before_one_tree written ended (no_job front rule behind compiles earlier (no_plan line fits (not_certified rules d c has resolved first is e) ends)) answered = absurd (ended_apart _ _ e (λ h. cc) (λ h. cc) answered)
-  before_one_tree written ended (checked file name text reading rules d row held fits compiled is e) answered =
-      let all = checked_compiles known.of_texts words files (inl row) held fits compiled in all_one_tree _ all.0 all.1
+  before_one_tree written ended (reported report file name text reading rules d row held fits compiled is e) answered =
+      let all = checked_compiles known.of_texts words files (inl (report, row)) held fits compiled in all_one_tree _ all.0 all.1
   before_one_tree written ended (soaked entry n rules d counts row fits compiled from is e) answered =
       let all = soaked_compiles known.of_texts words files row fits compiled in all_one_tree _ all.0 all.1
 

@@ -20,10 +20,12 @@ use Rattle.csn_run.specs.declared.ended.Ended.{Ended}
 use Rattle.csn_run.specs.declared.ended.Ended.TheVariants.{Done, BadDescription, NotCertified, TooLong}
 use Rattle.csn_run.specs.declared.compile.TheConstants.{MOST_DESCRIPTION}
 use Rattle.csn_run.specs.Known.{KnownOfTexts}
-use Rattle.csn_run.specs.Command.{IsOverRule, IsOverEntries, over_downlink, over_all, over_soaked, rule_row, entries_row, migrate_row}
+use Rattle.csn_run.specs.declared.command.RuleReport.{RuleReport}
+use Rattle.csn_run.specs.declared.command.RuleReport.TheVariants.{Check, Certificate}
+use Rattle.csn_run.specs.Command.{IsReport, IsOverRule, IsOverEntries, over_downlink, over_all, over_soaked, rule_row, entries_row, migrate_row}
 use Rattle.csn_run.specs.Compiled.{RuleOf, rule_of_entry, line_of, conflict_line, certified_line, soaked_line, HasNoPlan, no_rules, rules_refused, not_certified, AreCompiled, IsCompiled}
-use Rattle.csn_run.specs.Laws.{IsDecided, LinesHaveAnswers, RunsHaveResults}
-use Rattle.csn_run.specs.Result.{LineJob, by_rule, migrating, segmenting, AsksFor, asks_by_rule, asks_migrate, asks_segments, HasJob, Compiles, of_file, of_catalogue, HasNoJob, long_text, no_plan, no_job, checked, soaked, Result, no_line, lines, replaying, asks_replay}
+use Rattle.csn_run.specs.Laws.{IsDecided, HasCertificate, LinesHaveAnswers, RunsHaveResults}
+use Rattle.csn_run.specs.Result.{LineJob, by_rule, migrating, segmenting, AsksFor, asks_by_rule, asks_migrate, asks_segments, HasJob, Compiles, of_file, of_catalogue, HasNoJob, long_text, no_plan, no_job, reported, soaked, Result, no_line, lines, replaying, asks_replay}
 use Rattle.csn_look.specs.declared.word.TheConstants.{MOST_WORD}
 use Rattle.csn_certify.specs.declared.conflict.Conflict.{Conflict}
 use Rattle.csn_certify.specs.Conflicts.{Certified, IsFirstConflict}
@@ -86,7 +88,7 @@ module _ (known : KnownOfTexts) (decides : MeaningIsDecided) (each_in_job : Line
       ]
     ]
 
-  module _ (decided : IsDecided words files) where
+  module _ (decided : IsDecided words files) (told : HasCertificate words files) where
     -- the first rule that has no job is told, or all have one
     first_told : (front rest : List RuleOf) → Compiles words files (front ++ rest) → AllByRecursion HasJob front → HasResult ⊎ AllByRecursion HasJob (front ++ rest)
     first_told front [] compiles has = inr (subst (λ (l : List RuleOf). AllByRecursion HasJob l) (sym (append-nil front)) has)
@@ -107,8 +109,14 @@ module _ (known : KnownOfTexts) (decides : MeaningIsDecided) (each_in_job : Line
       | inr all ↦ compiled row all.0
     ]
       where
+        reported_result : (report : RuleReport) → IsReport report words file name reading → HasJob (rule_of text name reading) → HasResult
+        reported_result Check row job = (certified_line job.2 ++ 10 ∷ [], Done, no_line (reported Check file name text reading job.1 job.2 row held job.0 job.3 refl refl))
+        reported_result Certificate row job =
+            let certificate = told file name text reading job.1 job.2 row held job.3 in
+            (certificate.0, Done, no_line (reported Certificate file name text reading job.1 job.2 row held job.0 job.3 certificate.1 refl))
+
         compiled : IsOverRule words file name reading → HasJob (rule_of text name reading) → HasResult
-        compiled (inl check) job = (certified_line job.2 ++ 10 ∷ [], Done, no_line (checked file name text reading job.1 job.2 check held job.0 job.3 refl refl))
+        compiled (inl report) job = reported_result report.0 report.1 job
         compiled (inr answer) job = job_result (by_rule answer.0 job.1 name reading) (asks_by_rule answer.0 file name text reading job.1 job.2 answer.1 held job.0 job.3 refl)
 
     entries_result : (entries : List Entry) (reading : Reading) → IsOverEntries words entries reading → HasResult
@@ -134,8 +142,8 @@ module _ (known : KnownOfTexts) (decides : MeaningIsDecided) (each_in_job : Line
             (soaked_line n counts.0 ++ 10 ∷ [], Done, no_line (soaked entry n job.1 job.2 counts.0 row job.0 job.3 counts.1 refl refl))
 
 pub some_result : KnownOfTexts → MeaningIsDecided → LinesHaveAnswers → RunsHaveResults
-some_result known decides each_in_job words files watchers input (rule_row file name reading row) held decided =
+some_result known decides each_in_job words files watchers input (rule_row file name reading row) held decided told =
     let text = held_text (files file) (held file (name, reading, row)) in
-    rule_result known decides each_in_job words files watchers input decided file name text.0 reading row text.1
-some_result known decides each_in_job words files watchers input (entries_row entries reading row) held decided = entries_result known decides each_in_job words files watchers input decided entries reading row
-some_result known decides each_in_job words files watchers input (migrate_row row) held decided = job_result known decides each_in_job words files watchers input migrating (asks_migrate row refl)
+    rule_result known decides each_in_job words files watchers input decided told file name text.0 reading row text.1
+some_result known decides each_in_job words files watchers input (entries_row entries reading row) held decided told = entries_result known decides each_in_job words files watchers input decided told entries reading row
+some_result known decides each_in_job words files watchers input (migrate_row row) held decided told = job_result known decides each_in_job words files watchers input migrating (asks_migrate row refl)

@@ -11,7 +11,7 @@ use Rattle.csn_run.specs.declared.fault.Fault.{Fault}
 use Rattle.csn_run.specs.declared.fault.Fault.TheVariants.{Read, Write, Memory, TooLong}
 use Rattle.csn_run.specs.declared.lines.TheConstants.{MOST_INPUT}
 use Rattle.csn_run.specs.Progress.{EndsIn, StopsBy}
-use Rattle.csn_run.specs.Command.{ReadsLines, leaves_check, leaves_soak}
+use Rattle.csn_run.specs.Command.{ReadsLines, leaves_report, leaves_soak}
 use Rattle.csn_run.specs.Known.{KnownOfTexts}
 use Rattle.csn_run.specs.Compiled.{no_rules, rules_refused, not_certified}
 use Rattle.csn_run.specs.Job.{JobEnds, unread, before_lines, all_lines, some_lines, end_by, end_with, IsBeforeLines, EndedBefore, Asked}
@@ -142,7 +142,7 @@ module _ (words : List (List ℕ)) (files : List ℕ → Option (List ℕ)) (wat
       no_read written (whole.no_job front rule behind compiles earlier (whole.no_plan line fits (no_rules place at is e) ends)) = cc
       no_read written (whole.no_job front rule behind compiles earlier (whole.no_plan line fits (rules_refused rules why place has why_not is e) ends)) = cc
       no_read written (whole.no_job front rule behind compiles earlier (whole.no_plan line fits (not_certified rules d c has resolved first is e) ends)) = cc
-      no_read written (whole.checked file name text reading rules d row held fits compiled is e) = cc
+      no_read written (whole.reported report file name text reading rules d row held fits compiled is e) = cc
       no_read written (whole.soaked entry n rules d counts row fits compiled from is e) = cc
   read_of left' taken' taken'' waits end (all_lines job refused asked a e) handed fault = absurd (no_read refused (fault ∙ ap end_with e))
     where
@@ -178,7 +178,7 @@ pub ended_apart : (ended x : Ended) → ended ≡ x → (x ≡ Done → ⊥) →
 ended_apart ended x is done refused (inl e) = done (sym is ∙ e)
 ended_apart ended x is done refused (inr e) = refused (sym is ∙ e)
 
--- a run that comes to no line and is done has checked
+-- a run that comes to no line and is done has reported
 before_answered : (words : List (List ℕ)) (files : Option (List ℕ → Option (List ℕ))) (written : List ℕ) (ended : Ended) → EndedBefore words files written ended → IsAnswered ended → ReadsLines words → ⊥
 before_answered words None written ended (inl before) answered reads = no_line before
   where
@@ -194,7 +194,7 @@ before_answered words (Some files) written ended gives answered reads = by_end g
     by_end (whole.no_job front rule behind compiles earlier (whole.no_plan line fits (no_rules place at is e) ends)) answered = ended_apart ended BadDescription e (λ h. cc) (λ h. cc) answered
     by_end (whole.no_job front rule behind compiles earlier (whole.no_plan line fits (rules_refused rules why place has why_not is e) ends)) answered = ended_apart ended BadDescription e (λ h. cc) (λ h. cc) answered
     by_end (whole.no_job front rule behind compiles earlier (whole.no_plan line fits (not_certified rules d c has resolved first is e) ends)) answered = ended_apart ended NotCertified e (λ h. cc) (λ h. cc) answered
-    by_end (whole.checked file name text reading rules d row held fits compiled is e) answered = reads (leaves_check file name reading row)
+    by_end (whole.reported report file name text reading rules d row held fits compiled is e) answered = reads (leaves_report report file name reading row)
     by_end (whole.soaked entry n rules d counts row fits compiled from is e) answered = reads (leaves_soak entry n row)
 
 pub fault_answered : (fault : Fault) → IsAnswered (end_by fault) → ⊥
@@ -315,7 +315,7 @@ before_apart words (Some files) written ended gives only = by_end gives
     by_end (whole.no_job front rule behind compiles earlier (whole.no_plan line fits (no_rules place at is e) ends)) = only.2 e
     by_end (whole.no_job front rule behind compiles earlier (whole.no_plan line fits (rules_refused rules why place has why_not is e) ends)) = only.2 e
     by_end (whole.no_job front rule behind compiles earlier (whole.no_plan line fits (not_certified rules d c has resolved first is e) ends)) = only.3 e
-    by_end (whole.checked file name text reading rules d row held fits compiled is e) = only.0 e
+    by_end (whole.reported report file name text reading rules d row held fits compiled is e) = only.0 e
     by_end (whole.soaked entry n rules d counts row fits compiled from is e) = only.0 e
 
 -- a job that ends so met a fault

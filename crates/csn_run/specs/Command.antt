@@ -11,8 +11,10 @@ use Rattle.csn_run.specs.declared.command.RuleWords.{RuleWords}
 use Rattle.csn_run.specs.declared.command.TreeForm.TheVariants.{Text, Json}
 use Rattle.csn_run.specs.declared.command.RuleCommand.{RuleCommand}
 use Rattle.csn_run.specs.declared.command.RuleCommand.TheVariants.{Show, Write}
+use Rattle.csn_run.specs.declared.command.RuleReport.{RuleReport}
+use Rattle.csn_run.specs.declared.command.RuleReport.TheVariants.{Check, Certificate}
 use Rattle.csn_run.specs.declared.command.Command.{Command}
-use Rattle.csn_run.specs.declared.command.Command.TheVariants.{Check, Answer, Migrate, Segments, Soak, Replay}
+use Rattle.csn_run.specs.declared.command.Command.TheVariants.{Report, Answer, Migrate, Segments, Soak, Replay}
 
 -- a word that can be an argument: it is not empty, and does not begin with `-`
 abbrev pub IsArgument : List ℕ → Type 0
@@ -30,9 +32,14 @@ pub record NamesRule (command : List ℕ) (words : List (List ℕ)) (file name :
   pub file_fits : IsArgument file
   pub name_fits : IsArgument name
 
--- `check FILE NAME READING`
-abbrev pub IsCheck : List (List ℕ) → List ℕ → List ℕ → Reading → Type 0
-IsCheck = NamesRule (codes "check")
+-- the word of a command that reports on a rule
+abbrev pub report_word : RuleReport → List ℕ
+report_word Check = codes "check"
+report_word Certificate = codes "certificate"
+
+-- `check FILE NAME READING`, and `certificate` with the same words behind it
+abbrev pub IsReport : RuleReport → List (List ℕ) → List ℕ → List ℕ → Reading → Type 0
+IsReport report = NamesRule (report_word report)
 
 -- the word of a command that answers lines by a rule
 abbrev pub command_word : RuleCommand → List ℕ
@@ -70,7 +77,8 @@ pub record IsSoak (words : List (List ℕ)) (entry : Entry) (n : ℕ) : Type 0 w
 -- the words are a command over this rule of the description in this file
 abbrev pub IsOverRule : List (List ℕ) → List ℕ → List ℕ → Reading → Type 0
 IsOverRule words file name reading =
-    IsCheck words file name reading ⊎ ((command : RuleCommand) × IsAnswer command words file name reading)
+    ((report : RuleReport) × IsReport report words file name reading)
+    ⊎ ((command : RuleCommand) × IsAnswer command words file name reading)
 
 -- the words are a command over the rules of these entries of the catalogue, in their order
 pub data IsOverEntries (words : List (List ℕ)) (entries : List Entry) (reading : Reading) : Type 0 where
@@ -86,7 +94,8 @@ pub data IsCommand (words : List (List ℕ)) : Type 0 where
 
 -- the words are a command that leaves the input alone
 pub data LeavesInput (words : List (List ℕ)) : Type 0 where
-  leaves_check : (file name : List ℕ) (reading : Reading) → IsCheck words file name reading → LeavesInput words
+  leaves_report : (report : RuleReport) (file name : List ℕ) (reading : Reading) → IsReport report words file name reading
+      → LeavesInput words
   leaves_soak : (entry : Entry) (n : ℕ) → IsSoak words entry n → LeavesInput words
 
 -- all other commands read its lines
@@ -103,7 +112,7 @@ AreRuleWords command words rule = NamesRule command words rule.file.now rule.nam
 
 -- the words are the row of the command table that this command stands for
 abbrev pub IsRowOf : List (List ℕ) → Command → Type 0
-IsRowOf words (Check rule) = AreRuleWords (codes "check") words rule
+IsRowOf words (Report report rule) = AreRuleWords (report_word report) words rule
 IsRowOf words (Answer command rule) = AreRuleWords (command_word command) words rule
 IsRowOf words Migrate = IsMigrate words
 IsRowOf words (Segments reading) = IsSegments words reading

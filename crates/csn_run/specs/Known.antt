@@ -4,6 +4,7 @@ use Rattle.csn_desc.specs.Laws.{BlocksHaveAPlace, MeaningIsDecided}
 use Rattle.csn_grammar.specs.Laws.{BlocksHaveOnePlace, LabelsOfTextsAreLabels, MeaningsAreBits, RulesHaveNoFault, RulesOfTextsAreShaped, TextsAreDecided, TextsHaveOneListOfRules, TextsHaveOnePlace}
 use Rattle.csn_resolve.specs.Laws.{NamesAreAnswered, PlacesAreKept, RefusedOnce, RefusedOrResolved, ResolvedAreDescriptions, ResolvedOnce, StringsAreKept}
 use Rattle.csn_certify.specs.Laws.{BlocksHaveOneTree, CertifiedHasNoConflict, FirstConflictIsOne}
+use Rattle.csn_certmake.specs.Laws.{CertificatesHaveOneText}
 use Rattle.csn_encode.specs.Laws.{FirstMisfitIsOne, MisfitsHaveNoBits, OneBlock, TreesFitOrMiss}
 use Rattle.csn_segment.specs.Laws.{MessagesAreShort}
 use Rattle.csn_treetext.specs.Laws as texts
@@ -30,6 +31,7 @@ pub record KnownOfTexts : Type 0 where
   pub descriptions : ResolvedAreDescriptions
   pub first_is_one : FirstConflictIsOne
   pub no_conflict : CertifiedHasNoConflict
+  pub one_certificate : CertificatesHaveOneText
 
 -- of blocks
 pub record KnownOfBlocks : Type 0 where

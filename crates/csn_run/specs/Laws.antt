@@ -1,5 +1,5 @@
 -- Laws over the definitions.
-use Rattle.std.specs.Prelude.{◌≡◌, ◌⊎◌, ◌↔◌, ℕ, List, ◌∷◌, ◌++◌, Option, IsSome, codes}
+use Rattle.std.specs.Prelude.{◌≡◌, ◌⊎◌, ◌↔◌, ℕ, List, ◌∷◌, ◌++◌, Option, Some, IsSome, codes}
 use Rattle.csn_desc.specs.declared.reading.Reading.{Reading}
 use Rattle.csn_desc.specs.Nodes.{DescV}
 use Rattle.csn_desc.specs.TreeV.{TreeV}
@@ -10,13 +10,15 @@ use Rattle.csn_resolve.specs.Resolved.{IsResolved}
 use Rattle.csn_look.specs.declared.word.TheConstants.{MOST_WORD}
 use Rattle.csn_certify.specs.declared.conflict.Conflict.{Conflict}
 use Rattle.csn_certify.specs.Conflicts.{Certified, IsFirstConflict}
+use Rattle.csn_certmake.specs.Claimed.{IsCertificateText}
 use Rattle.csn_treetext.specs.Place.{TreeText}
 use Rattle.csn_json.specs.JsonText.{JsonText}
 use Rattle.csn_run.specs.declared.command.TreeForm.{TreeForm}
 use Rattle.csn_run.specs.declared.command.TreeForm.TheVariants.{Text, Json}
+use Rattle.csn_run.specs.declared.command.RuleReport.TheVariants.{Certificate}
 use Rattle.csn_run.specs.declared.ended.Ended.{Ended}
 use Rattle.csn_run.specs.LineState.{LineState}
-use Rattle.csn_run.specs.Command.{IsCommand, NamesFile}
+use Rattle.csn_run.specs.Command.{IsCommand, IsReport, NamesFile}
 use Rattle.csn_run.specs.Compiled.{IsCompiled, RuleOf}
 use Rattle.csn_run.specs.OutLine.{ShowsLine}
 use Rattle.csn_run.specs.Result.{LineJob, Steps, AsksFor, Compiles, Result}
@@ -60,12 +62,18 @@ IsDecided words files =
     → HasRules rule.text rules → IsResolved rules rule.name rule.reading d
     → Certified d MOST_WORD ⊎ ((conflict : Conflict) × IsFirstConflict d MOST_WORD conflict)
 
+-- where the words ask for the certificate of a rule, and the rule has a certified description, this has a certificate
+abbrev pub HasCertificate : List (List ℕ) → (List ℕ → Option (List ℕ)) → Type 0
+HasCertificate words files =
+    (file name text : List ℕ) (reading : Reading) (rules : RulesV) (d : DescV) → IsReport Certificate words file name reading
+    → files file ≡ Some text → IsCompiled text name reading rules d → (written : List ℕ) × IsCertificateText d written
+
 -- the words of a command whose files are there have a result, where that is decided
 abbrev pub RunsHaveResults : Type 0
 RunsHaveResults =
     (words : List (List ℕ)) (files : List ℕ → Option (List ℕ)) (watchers : List Watched) (input : List ℕ)
     → IsCommand words → ((file : List ℕ) → NamesFile words file → IsSome (files file)) → IsDecided words files
-    → (written : List ℕ) × (ended : Ended) × Result words files watchers input written ended
+    → HasCertificate words files → (written : List ℕ) × (ended : Ended) × Result words files watchers input written ended
 
 -- a run has one result
 abbrev pub RunsHaveOneResult : Type 0

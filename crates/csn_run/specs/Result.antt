@@ -7,6 +7,7 @@ use Rattle.csn_catalogue.specs.declared.entry.Entry.{Entry}
 use Rattle.csn_catalogue.specs.declared.entry.Entry.TheVariants.{Downlink}
 use Rattle.csn_catalogue.specs.Entries.{all_entries, entry_root}
 use Rattle.csn_catalogue.specs.Text.{catalogue_text}
+use Rattle.csn_certmake.specs.Claimed.{IsCertificateText}
 use Rattle.csn_desc.specs.declared.reading.Reading.{Reading}
 use Rattle.csn_desc.specs.declared.reading.Reading.TheVariants.{Sent}
 use Rattle.csn_desc.specs.Nodes.{DescV}
@@ -22,7 +23,9 @@ use Rattle.csn_run.specs.declared.ended.Ended.TheVariants.{Done, SomeRefused, Us
 use Rattle.csn_run.specs.declared.lines.TheConstants.{LINE_FEED, MOST_INPUT}
 use Rattle.csn_run.specs.declared.compile.TheConstants.{MOST_DESCRIPTION}
 use Rattle.csn_run.specs.declared.command.RuleCommand.{RuleCommand}
-use Rattle.csn_run.specs.Command.{IsCheck, IsAnswer, IsMigrate, IsSegments, IsSoak, IsOverRule, IsOverEntries, IsReplay}
+use Rattle.csn_run.specs.declared.command.RuleReport.{RuleReport}
+use Rattle.csn_run.specs.declared.command.RuleReport.TheVariants.{Check, Certificate}
+use Rattle.csn_run.specs.Command.{IsReport, IsAnswer, IsMigrate, IsSegments, IsSoak, IsOverRule, IsOverEntries, IsReplay}
 use Rattle.csn_run.specs.Compiled.{RuleOf, rule_of_entry, IsCompiled, HasNoPlan, certified_line, soaked_line, AreCompiled}
 use Rattle.csn_run.specs.Lines.{between_feeds}
 use Rattle.csn_run.specs.LineState.{LineState, nothing_yet, closing, AnswersAlone}
@@ -101,15 +104,20 @@ HasJob rule =
     (length rule.text ≤ MOST_DESCRIPTION) × (rules : RulesV) × (d : DescV)
     × IsCompiled rule.text rule.name rule.reading rules d
 
+-- a report on a rule writes this of its certified description: a line that tells of it, or its certificate
+abbrev pub Reports : RuleReport → DescV → List ℕ → Type 0
+Reports Check d written = written ≡ certified_line d ++ LINE_FEED ∷ []
+Reports Certificate d written = IsCertificateText d written
+
 -- what a run writes, and how it ends, where it comes to no line of the input and the files that its words name are
 -- there: by the first of what it compiles that is not certified, or where all is well and the command reads none
 pub data EndsBefore (words : List (List ℕ)) (files : List ℕ → Option (List ℕ)) (written : List ℕ) (ended : Ended) : Type 0 where
   no_job : (front : List RuleOf) (rule : RuleOf) (behind : List RuleOf) → Compiles words files (front ++ rule ∷ behind)
       → AllByRecursion HasJob front → HasNoJob rule.text rule.name rule.reading written ended
       → EndsBefore words files written ended
-  checked : (file name text : List ℕ) (reading : Reading) (rules : RulesV) (d : DescV) → IsCheck words file name reading
-      → files file ≡ Some text → length text ≤ MOST_DESCRIPTION → IsCompiled text name reading rules d
-      → written ≡ certified_line d ++ LINE_FEED ∷ [] → ended ≡ Done → EndsBefore words files written ended
+  reported : (report : RuleReport) (file name text : List ℕ) (reading : Reading) (rules : RulesV) (d : DescV)
+      → IsReport report words file name reading → files file ≡ Some text → length text ≤ MOST_DESCRIPTION
+      → IsCompiled text name reading rules d → Reports report d written → ended ≡ Done → EndsBefore words files written ended
   soaked : (entry : Entry) (n : ℕ) (rules : RulesV) (d : DescV) (counts : Soaked) → IsSoak words entry n
       → length catalogue_text ≤ MOST_DESCRIPTION → IsCompiled catalogue_text (entry_root entry) Sent rules d → IsSoaked d entry n counts
       → written ≡ soaked_line n counts ++ LINE_FEED ∷ [] → ended ≡ Done → EndsBefore words files written ended

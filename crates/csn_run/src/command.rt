@@ -28,6 +28,15 @@ pub enum TreeForm {
     Json,
 }
 
+/// What a command tells of a rule without the input.
+#[derive(Clone, Copy)]
+pub enum RuleReport {
+    /// Whether it has a certified description.
+    Check,
+    /// The certificate of its description.
+    Certificate,
+}
+
 /// A command that answers each line of the input by a rule.
 #[derive(Clone, Copy)]
 pub enum RuleCommand {
@@ -40,8 +49,8 @@ pub enum RuleCommand {
 /// A row of the command table, with what its words name.
 #[derive(Clone, Copy)]
 pub enum Command<'a> {
-    /// Tells whether the rule has a certified description. The input is not read.
-    Check(RuleWords<'a>),
+    /// Tells whether the rule has a certified description, or writes its certificate. The input is not read.
+    Report(RuleReport, RuleWords<'a>),
     /// Answers the lines of the input by the rule.
     Answer(RuleCommand, RuleWords<'a>),
     /// Writes the old texts of trees in the input as they are written today.
@@ -171,7 +180,7 @@ pub fn command_of(words: &[String]) -> Option<Command<'_>>
         return Some(Command::Soak(entry, blocks));
     }
     if let Some(rule) = rule_words("check", words) {
-        return Some(Command::Check(rule));
+        return Some(Command::Report(RuleReport::Check, rule));
     }
     if let Some(rule) = rule_words("show", words) {
         return Some(Command::Answer(RuleCommand::Show(TreeForm::Text), rule));
@@ -181,6 +190,9 @@ pub fn command_of(words: &[String]) -> Option<Command<'_>>
     }
     if let Some(rule) = rule_words("json", words) {
         return Some(Command::Answer(RuleCommand::Show(TreeForm::Json), rule));
+    }
+    if let Some(rule) = rule_words("certificate", words) {
+        return Some(Command::Report(RuleReport::Certificate, rule));
     }
     let rule = rule_words("unjson", words)?;
     Some(Command::Answer(RuleCommand::Write(TreeForm::Json), rule))

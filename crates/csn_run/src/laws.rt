@@ -23,6 +23,7 @@ pub(crate) fn known()
     csn_resolve::laws::resolving_keeps_meanings();
     csn_certify::laws::first_conflict_is_one();
     csn_certify::laws::blocks_have_one_tree();
+    csn_certmake::laws::certificates_are_one();
     csn_encode::laws::one_block();
     csn_encode::laws::misfits_have_no_bits();
     csn_encode::laws::first_misfit_is_one();

@@ -13,6 +13,7 @@ mod migrate;
 mod output;
 mod planned;
 mod replay;
+mod reporting;
 mod segments;
 mod show;
 mod soaking;

@@ -10,16 +10,14 @@ ghost use Rattle.csn_catalogue.specs.Entries.{all_entries, entry_root};
 ghost use Rattle.csn_catalogue.specs.Text.{catalogue_text};
 ghost use Rattle.csn_grammar.specs.Place.{HasRules};
 ghost use Rattle.csn_grammar.specs.RulesV.{RulesV};
-ghost use Rattle.csn_run.specs.Compiled.{AreCompiled, IsCompiled, IsReason, Tells, certified_line, rule_of_entry};
+ghost use Rattle.csn_run.specs.Compiled.{AreCompiled, IsCompiled, IsReason, Tells, rule_of_entry};
 ghost use Rattle.csn_run.specs.Job.{IsDescription};
 ghost use Rattle.csn_run.specs.Outside.{CannotRead, Keeps, LeftByFetch};
 ghost use Rattle.csn_run.specs.Planned.{IsPlanned, IsWhy, Refuses};
 ghost use Rattle.csn_run.specs.Result.{HasJob};
 
 use crate::command::RuleWords;
-use crate::compile::{
-    MOST_DESCRIPTION, NoPlan, compile, plan_by, push_certified, push_reason, rules_of,
-};
+use crate::compile::{MOST_DESCRIPTION, NoPlan, compile, plan_by, push_reason, rules_of};
 use crate::ended::Ended;
 use crate::fault::Fault;
 use crate::lines::LINE_FEED;
@@ -159,14 +157,4 @@ pub fn refuse(why: Unplanned, pending: &mut Vec<u8>) -> Result<Ended, Fault>
             end_line(line, pending)
         }
     }
-}
-
-/// Writes the line that tells of a certified description.
-pub fn tell_certified(plan: &TextPlan, pending: &mut Vec<u8>) -> Result<Ended, Fault>
-    requires { pending.old.items ≡ [] }
-    ensures ok { IfOk result (λ ended. (ended ≡ Ended.Done) × (pending.new.items ≡ certified_line plan.now ++ LINE_FEED ∷ [])) }
-    ensures err { IfErr result (λ fault. (fault ≡ Fault.Memory) × (pending.new.items ≡ [])) }
-{
-    let line = push_certified(plan, pending);
-    end_line(line, pending)
 }

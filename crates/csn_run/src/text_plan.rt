@@ -44,6 +44,14 @@ impl TextPlan {
         &self.plan
     }
 
+    /// The plan alone, and no longer the openings.
+    pub fn into_plan(self) -> Plan
+        ensures { result ≡ self }
+    {
+        let TextPlan { plan, openings: _ } = self;
+        plan
+    }
+
     /// Adds the text of the tree that a block has. Where there is none, nothing is added.
     pub fn write(&self, bits: &Bits, out: &mut Vec<u8>) -> Result<(), BlockFault>
         ensures text { OnOk result (AddsText self.now bits.now out.old.items out.new.items) }

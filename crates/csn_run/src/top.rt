@@ -6,7 +6,7 @@ ghost use Rattle.csn_io.specs.Put.{Appended, FlushedAll};
 ghost use Rattle.csn_io.specs.ShelfFault.{LacksFile};
 ghost use Rattle.csn_run.specs.declared.lines.TheConstants.{LINE_FEED, MOST_INPUT};
 ghost use Rattle.csn_replay.specs.Watched.{Watched};
-ghost use Rattle.csn_run.specs.Command.{IsCheck, IsCommand, IsReplay, IsRowOf, IsSegments, NamesFile, ReadsLines};
+ghost use Rattle.csn_run.specs.Command.{IsCommand, IsReplay, IsRowOf, IsSegments, NamesFile, ReadsLines};
 ghost use Rattle.csn_run.specs.Progress.{AnswersAll, Stops};
 ghost use Rattle.csn_run.specs.LineState.{closing_of};
 ghost use Rattle.csn_run.specs.OutLine.{Works};
@@ -15,15 +15,16 @@ ghost use Rattle.csn_run.specs.Job.{Asked, JobEnds, end_with};
 ghost use Rattle.csn_run.specs.Result.{AnswersPromptly, BeginsResult, EndsBefore, IsFinished, IsStopped, LineJob, Result, RulesHaveOneTree, StopsReading, end_of};
 
 use crate::by_plan::ByPlan;
-use crate::command::{Command, RuleCommand, RuleWords, command_of};
+use crate::command::{Command, RuleCommand, RuleReport, RuleWords, command_of};
 use crate::ended::Ended;
 use crate::fault::Fault;
 use crate::laws::{known, lines_have_one_answer};
 use crate::lines::{LineCommand, Lines};
 use crate::migrate::Migrate;
 use crate::output::{flush, pass_on};
-use crate::planned::{Unplanned, plan_of, plan_of_entry, plans_of_entries, refuse, tell_certified};
+use crate::planned::{Unplanned, plan_of, plan_of_entry, plans_of_entries, refuse};
 use crate::replay::Replay;
+use crate::reporting::report_plan;
 use crate::segments::Segments;
 use crate::soaking::soak_entry;
 use csn_catalogue::Entry;
@@ -61,15 +62,16 @@ fn answer_lines<C: LineCommand, S: Source, K: Sink>(
     })
 }
 
-/// Tells of the rule of a file whether it has a certified description.
-fn check<B: Shelf>(
+/// Reports on the rule of a file.
+fn report<B: Shelf>(
     alloc: Global,
+    report: RuleReport,
     rule: RuleWords<'_>,
     shelf: &mut B,
     pending: &mut Vec<u8>,
 ) -> Result<Ended, Fault>
     requires pending { pending.old.items ≡ [] }
-    ensures ends { (words : List (List ℕ)) → IsRowOf words (Command.Check rule.entry) → (watchers : List Watched) (left taken : Option (List ℕ))
+    ensures ends { (words : List (List ℕ)) → IsRowOf words (Command.Report report rule.entry) → (watchers : List Watched) (left taken : Option (List ℕ))
         → JobEnds words (B.files shelf.old) watchers left left taken taken pending.new.items result }
     ensures read { result ≡ Err Fault.Read
         → CannotRead (B.files shelf.old) (B.faults shelf.old) (B.faults shelf.new) (B.last_fault shelf.new) rule.entry.file.now }
@@ -83,7 +85,7 @@ fn check<B: Shelf>(
         Ok(plan) => plan,
         Err(why) => return refuse(why, pending),
     };
-    tell_certified(&plan, pending)
+    report_plan(alloc, report, plan, pending)
 }
 
 /// Answers each line of the input by the rule of a file.
@@ -229,7 +231,7 @@ fn perform<B: Shelf, S: Source, K: Sink>(
     ensures out { Keeps (K.steady out.old) (K.steady out.new) (K.faults out.old) (K.faults out.new) (result ≡ Err Fault.Write) }
 {
     match command {
-        Command::Check(rule) => check(alloc, rule, shelf, &mut lines.pending),
+        Command::Report(what, rule) => report(alloc, what, rule, shelf, &mut lines.pending),
         Command::Answer(command, rule) => {
             answer_by_rule(alloc, command, rule, shelf, input, out, lines)
         }

@@ -3,6 +3,7 @@ use Rattle.csn_catalogue.specs.declared.entry.Entry.TheVariants.{Downlink}
 use Rattle.csn_catalogue.specs.Entries.{all_entries}
 use Rattle.csn_desc.specs.declared.reading.Reading.TheVariants.{Sent}
 use Rattle.csn_run.specs.declared.command.RuleCommand.TheVariants.{Show, Write}
+use Rattle.csn_run.specs.declared.command.RuleReport.TheVariants.{Check, Certificate}
 use Rattle.csn_run.specs.declared.command.TreeForm.TheVariants.{Text, Json}
 use Rattle.csn_run.specs.Command.{rule_row, entries_row, over_downlink, over_all, over_soaked}
 use Rattle.csn_run.proofs.command.command_of.Goals as goal
@@ -14,7 +15,7 @@ pub returns-in-Some-reading_words-clause-row : goal.returns-in-Some-reading_word
 returns-in-Some-reading_words-clause-row c = (λ _. entries_row all_entries c.in-Some-reading_words.reading (over_all c.in-Some-reading_words.ensures.names refl), λ _. refl)
 
 pub returns-in-Some-rule_words-clause-row : goal.returns-in-Some-rule_words-clause-row
-returns-in-Some-rule_words-clause-row c = (λ _. rule_row _ _ _ (inl c.in-Some-rule_words.ensures.names), λ _. refl)
+returns-in-Some-rule_words-clause-row c = (λ _. rule_row _ _ _ (inl (Check, c.in-Some-rule_words.ensures.names)), λ _. refl)
 
 pub returns-in-Some-rule_words-2-clause-row : goal.returns-in-Some-rule_words-2-clause-row
 returns-in-Some-rule_words-2-clause-row c = (λ _. rule_row _ _ _ (inr (Show Text, c.in-Some-rule_words-2.ensures.names)), λ _. refl)
@@ -24,6 +25,9 @@ returns-in-Some-rule_words-3-clause-row c = (λ _. rule_row _ _ _ (inr (Write Te
 
 pub returns-in-Some-rule_words-4-clause-row : goal.returns-in-Some-rule_words-4-clause-row
 returns-in-Some-rule_words-4-clause-row c = (λ _. rule_row _ _ _ (inr (Show Json, c.in-Some-rule_words-4.ensures.names)), λ _. refl)
+
+pub returns-in-Some-rule_words-5-clause-row : goal.returns-in-Some-rule_words-5-clause-row
+returns-in-Some-rule_words-5-clause-row c = (λ _. rule_row _ _ _ (inl (Certificate, c.in-Some-rule_words-5.ensures.names)), λ _. refl)
 
 pub returns-clause-row : goal.returns-clause-row
 returns-clause-row c = (λ _. rule_row _ _ _ (inr (Write Json, c.in_ok-rule.ensures.names)), λ _. refl)

@@ -18,6 +18,7 @@ returns c =
         descriptions = c.resolved_are_descriptions.ensures;
         first_is_one = c.first_conflict_is_one.ensures.one;
         no_conflict = c.first_conflict_is_one.ensures.not_certified;
+        one_certificate = c.certificates_are_one.ensures.text;
       };
       of_blocks = record {
         strings = c.resolving_keeps_meanings.ensures.strings;

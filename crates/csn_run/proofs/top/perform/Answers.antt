@@ -7,14 +7,14 @@ use Rattle.csn_run.proofs.Following.{Watches, alone_follows, watches_close}
 use Rattle.csn_run.proofs.JobLemmas.{asked_migrate, lines_end}
 use Rattle.csn_run.proofs.top.perform.Goals as goal
 
-pub returns-in-Check-clause-ends : goal.returns-in-Check-clause-ends
-returns-in-Check-clause-ends g c = λ words row. c.check.ensures.ends words (rw c.in-Check.is at row) _ _ _
+pub returns-in-Report-clause-ends : goal.returns-in-Report-clause-ends
+returns-in-Report-clause-ends g c = λ words row. c.report.ensures.ends words (rw c.in-Report.is at row) _ _ _
 
-pub returns-in-Check-clause-read : goal.returns-in-Check-clause-read
-returns-in-Check-clause-read g c = λ e words row. inr (c.in-Check.rule.file.now, (c.in-Check.rule.name.now, c.in-Check.rule.reading, inl (rw c.in-Check.is at row)), c.check.ensures.read e)
+pub returns-in-Report-clause-read : goal.returns-in-Report-clause-read
+returns-in-Report-clause-read g c = λ e words row. inr (c.in-Report.rule.file.now, (c.in-Report.rule.name.now, c.in-Report.rule.reading, inl (c.in-Report.what, rw c.in-Report.is at row)), c.report.ensures.read e)
 
-pub returns-in-Check-clause-no_file : goal.returns-in-Check-clause-no_file
-returns-in-Check-clause-no_file g c = λ words row none. absurd (none c.in-Check.rule.file.now (c.in-Check.rule.name.now, c.in-Check.rule.reading, inl (rw c.in-Check.is at row)))
+pub returns-in-Report-clause-no_file : goal.returns-in-Report-clause-no_file
+returns-in-Report-clause-no_file g c = λ words row none. absurd (none c.in-Report.rule.file.now (c.in-Report.rule.name.now, c.in-Report.rule.reading, inl (c.in-Report.what, rw c.in-Report.is at row)))
 
 pub returns-in-Answer-clause-ends : goal.returns-in-Answer-clause-ends
 returns-in-Answer-clause-ends g c = λ words row. c.answer_by_rule.ensures.ends words _ (rw c.in-Answer.is at row)
