@@ -13,4 +13,6 @@ pub mod Runs
 pub mod Complete
 pub mod Alive
 pub mod Places
+pub mod ReadingFacts
+pub mod StopFacts
 pub mod TextDecided

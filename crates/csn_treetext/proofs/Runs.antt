@@ -20,10 +20,10 @@ use Rattle.csn_treetext.specs.declared.version.Version.{Version}
 use Rattle.csn_treetext.specs.declared.version.Version.TheVariants.{First, Second}
 use Rattle.csn_treetext.specs.declared.stack.Frame.{Frame}
 use Rattle.csn_treetext.specs.declared.stack.Frame.TheVariants.{Row, Alt, Named}
-use Rattle.csn_treetext.specs.declared.mode.NameAt.{NameAt}
-use Rattle.csn_treetext.specs.declared.mode.NameAt.TheVariants.{Front, Within}
-use Rattle.csn_treetext.specs.declared.mode.Mode.{Mode}
-use Rattle.csn_treetext.specs.declared.mode.Mode.TheVariants.{Start, Width, Quote, Value, Hash, Number, Name, Octets, Slash, Bare}
+use Rattle.csn_treetext.specs.declared.name.NameAt.{NameAt}
+use Rattle.csn_treetext.specs.declared.name.NameAt.TheVariants.{Front, Within}
+use Rattle.csn_treetext.specs.reader.Mode.{Mode}
+use Rattle.csn_treetext.specs.reader.Mode.{Start, Width, Quote, Value, Hash, Number, Name, Octets, Slash, Bare}
 use Rattle.csn_treetext.specs.Text.{bit_digits, leaf_text, is_short, short_text, other_text}
 use Rattle.csn_treetext.specs.reader.Numeral.{greatest_of}
 use Rattle.csn_treetext.specs.reader.Machine.{State, state, AreOctets, with_tree, closed, name_after, name_run, are_many, last_octet, upper_value, step, steps, root_of, ended}

@@ -3,7 +3,7 @@ use Rattle.std.proofs.Common.{◌≡◌, ℕ, zero, suc, ◌+◌, ◌<◌, ◌�
 use Rattle.std.proofs.lemmas.List.{take_all}
 use Rattle.csn_desc.specs.TreeV.{TreeV}
 use Rattle.csn_treetext.specs.declared.version.Version.{Version}
-use Rattle.csn_treetext.specs.declared.mode.Mode.TheVariants.{Start}
+use Rattle.csn_treetext.specs.reader.Mode.{Start}
 use Rattle.csn_treetext.specs.Place.{IsTextOf, IsFaultPlace, Decided}
 use Rattle.csn_treetext.specs.reader.Machine.{State, state, step, steps, ended}
 use Rattle.csn_treetext.proofs.Places.{start, step_more, refused_place, ended_place, ended_tree}

@@ -1,4 +1,5 @@
 ghost use Rattle.std.specs.Prelude.{◌≡◌, ◌∷◌, [], length, OnOk, MatchOption};
+ghost use Rattle.csn_treetext.specs.reader.Machine.{is_in_row};
 
 use csn_bits::NoMemory;
 use csn_desc::{Label, Rows};
@@ -50,6 +51,16 @@ impl Stack {
         ensures { result ≡ length self.now }
     {
         self.frames.len()
+    }
+
+    /// Whether the innermost tree that has begun is a row.
+    pub fn is_in_row(&self) -> bool
+        ensures { result ≡ is_in_row self.now }
+    {
+        match self.frames.last() {
+            Some(Frame::Row(_)) => true,
+            _ => false,
+        }
     }
 
     pub fn push(&mut self, frame: Frame) -> Result<(), NoMemory>
