@@ -1,7 +1,7 @@
 -- What one byte more makes of the reader's states, and the places where no text goes on.
-use Rattle.std.specs.Prelude.{nat_le, nat_lt, slice_index, option_map}
-use Rattle.std.proofs.Common.{◌≡◌, ℕ, zero, suc, ◌+◌, ◌-◌, ◌*◌, ◌%◌, ◌^◌, ◌<◌, ◌≤◌, ◌==◌, ◌&&◌, ◌⊎◌, true, false, List, [], ◌∷◌, ◌++◌, length, take, drop, Option, Some, None, refl, sym, ap, ◌∙◌, subst, arith, inl, inr}
-use Rattle.std.proofs.lemmas.Bool.{cases_lt, cases_Bool, le-leb, lt-ltb, leb-true, lt-leb, and_parts}
+use Rattle.std.specs.Prelude.{nat_le, nat_lt, slice_index, option_map, is_some, IfSome, IfNone}
+use Rattle.std.proofs.Common.{◌≡◌, ℕ, zero, suc, ◌+◌, ◌-◌, ◌*◌, ◌%◌, ◌^◌, ◌<◌, ◌≤◌, ◌==◌, ◌&&◌, ◌⊎◌, true, false, List, [], ◌∷◌, ◌++◌, length, take, drop, Option, Some, None, refl, sym, ap, ◌∙◌, subst, arith, inl, inr, eqb-true}
+use Rattle.std.proofs.lemmas.Bool.{agree_below_at, cases_lt, cases_Bool, le-leb, lt-ltb, leb-true, lt-leb, and_parts}
 use Rattle.csn_bits.specs.declared.bits.TheConstants.{MOST_BITS}
 use Rattle.csn_treetext.specs.declared.stack.TheConstants.{MOST_ROUND}
 use Rattle.csn_treetext.specs.declared.bounds.TheConstants.{GREATEST_ALTERNATIVE, MOST_SHORT, MOST_OCTETS}
@@ -98,6 +98,17 @@ octets_half text at octets high stack e low first room none =
     let half = came_on Second text at (state (Octets octets None) stack) (state (Octets octets (Some high)) stack) low e (rw (first, few) refl) in
     came_to_stop Second text (at + 1) (state (Octets octets (Some high)) stack) (omega arith) half (λ within. (let no = none within in rw no refl)) (λ past. refl)
 
+-- the digit behind the octets that were taken, where there was room for one more
+pub octets_unpaired : (text : List ℕ) (at : ℕ) (octets : List ℕ) (high : ℕ) (stack : List Frame) → Comes Second text at (state (Octets octets None) stack) → at < length text
+    → upper_value (slice_index text at) ≡ Some high
+    → (length octets ≡ MOST_OCTETS) ⊎ (at + 1 < length text → (upper_value (slice_index text at) ≡ None) ⊎ (upper_value (slice_index text (at + 1)) ≡ None))
+    → length octets < MOST_OCTETS → IsFaultPlace Second text (at + 1)
+octets_unpaired text at octets high stack e low first (inl full) room = absurd (omega arith)
+octets_unpaired text at octets high stack e low first (inr stops) room = octets_half text at octets high stack e low first room second
+  where
+    second : at + 1 < length text → upper_value (slice_index text (at + 1)) ≡ None
+    second within = elim (stops within) [ inl none ↦ absurd (let clash : None ≡ Some high = sym none ∙ first in cc) | inr none ↦ none ]
+
 -- the digit of an octet too many
 pub octets_full : (text : List ℕ) (at : ℕ) (octets : List ℕ) (high : ℕ) (stack : List Frame) → Comes Second text at (state (Octets octets None) stack) → at < length text
     → upper_value (slice_index text at) ≡ Some high → MOST_OCTETS ≤ length octets → IsFaultPlace Second text at
@@ -106,6 +117,17 @@ octets_full text at octets high stack e low first many = by_room (cases_Bool (na
     by_room : (nat_lt (length octets) MOST_OCTETS ≡ true) ⊎ (nat_lt (length octets) MOST_OCTETS ≡ false) → IsFaultPlace Second text at
     by_room (inl few) = absurd (let less : length octets < MOST_OCTETS = leb-true _ _ few in omega arith)
     by_room (inr full) = came_to_stop Second text at (state (Octets octets None) stack) (omega arith) e (λ within. rw (first, full) refl) (λ past. absurd (omega arith))
+
+-- a digit behind the octets that were taken
+pub digit_there : (text : List ℕ) (at : ℕ) (digit : Option ℕ) → IfSome digit (λ value. (at < length text) × (upper_value (slice_index text at) ≡ Some value)) → is_some digit ≡ true
+    → (value : ℕ) × (at < length text) × (upper_value (slice_index text at) ≡ Some value)
+digit_there text at None some is = absurd (cc)
+digit_there text at (Some value) (low, first) is = (value, low, first)
+
+pub no_digit : (text : List ℕ) (at : ℕ) (digit : Option ℕ) → IfNone digit (at < length text → upper_value (slice_index text at) ≡ None) → is_some digit ≡ false
+    → at < length text → upper_value (slice_index text at) ≡ None
+no_digit text at None none is low = none low
+no_digit text at (Some value) none is low = absurd (cc)
 
 pub octets_few : (text : List ℕ) (at : ℕ) (octets : List ℕ) (stack : List Frame) → at ≤ length text → Comes Second text at (state (Octets octets None) stack)
     → (at < length text → upper_value (slice_index text at) ≡ None) → length octets < 9 → IsFaultPlace Second text at
@@ -141,6 +163,10 @@ tail_stops text at octets stack within e other = came_to_stop Second text at (st
       | inl high ↦ (let no : nat_le (slice_index text at) 55 ≡ false = lt-leb (slice_index text at) 55 more in rw (high, no) refl)
       | inr low ↦ rw low refl
     ]
+
+-- what a program makes of a one, shifted
+pub one_shifted : (used : ℕ) → 1 ≤ used → used ≤ 7 → 1 * 2 ^ (8 - used) % 256 ≡ 2 ^ (8 - used)
+one_shifted used some few = eqb-true _ _ (agree_below_at (λ n. 1 * 2 ^ n % 256 == 2 ^ n) (λ _. true) 8 (8 - used) refl (omega arith))
 
 pub tail_unclear : (text : List ℕ) (at : ℕ) (octets : List ℕ) (used : ℕ) (stack : List Frame) → Comes Second text at (state (Slash octets) stack) → at < length text
     → slice_index text at ≡ 48 + used → 1 ≤ used → used ≤ 7 → (last_octet octets % 2 ^ (8 - used) == 0) ≡ false → IsFaultPlace Second text at
@@ -189,6 +215,18 @@ bits_full text at b bit stack e low is small full =
     let no : nat_lt (length b) MOST_BITS ≡ false = ap (λ n. nat_lt n MOST_BITS) full in
     let one : step First (Bare b) stack (48 + bit) ≡ None = rw (low_end, high_end, no) refl in
     came_to_stop First text at (state (Bare b) stack) (omega arith) e (λ within. ap (λ c. step First (Bare b) stack c) is ∙ one) (λ past. absurd (omega arith))
+
+pub bits_more : (text : List ℕ) (at : ℕ) (b : List ℕ) (digit : Option ℕ) (stack : List Frame) → Comes First text at (state (Bare b) stack)
+    → (length b ≡ MOST_BITS) ⊎ (at < length text → (slice_index text at < 48) ⊎ (49 < slice_index text at))
+    → IfSome digit (λ bit. (at < length text) × (slice_index text at ≡ 48 + bit) × (bit ≤ 1)) → is_some digit ≡ true → IsFaultPlace First text at
+bits_more text at b None stack e stops some there = absurd (cc)
+bits_more text at b (Some bit) stack e (inl full) (low, is, small) there = bits_full text at b bit stack e low is small full
+bits_more text at b (Some bit) stack e (inr stops) (low, is, small) there = elim (stops low) [ inl less ↦ absurd (omega arith) | inr more ↦ absurd (omega arith) ]
+
+pub bits_done : (text : List ℕ) (at : ℕ) (digit : Option ℕ) → IfNone digit (at < length text → (slice_index text at < 48) ⊎ (49 < slice_index text at)) → is_some digit ≡ false
+    → at < length text → is_bit_digit (slice_index text at) ≡ false
+bits_done text at None none is low = no_bit (slice_index text at) (none low)
+bits_done text at (Some bit) none is low = absurd (cc)
 
 pub bits_short : (text : List ℕ) (at : ℕ) (b : List ℕ) (stack : List Frame) → at ≤ length text → Comes First text at (state (Bare b) stack) → is_short b ≡ true
     → (length b ≡ MOST_BITS) ⊎ (at < length text → (slice_index text at < 48) ⊎ (49 < slice_index text at)) → IsFaultPlace First text at
