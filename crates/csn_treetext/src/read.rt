@@ -44,7 +44,8 @@ fn read_text(alloc: Global, version: Version, text: &[u8]) -> Result<Tree, TextF
                 at = end;
             }
             Taken::Whole(tree, end) if end == text.len() => return Ok(tree),
-            Taken::Whole(_, place) | Taken::Refused(place) => return Err(fault_at(place)),
+            Taken::Whole(_, end) => return Err(fault_at(end)),
+            Taken::Refused(place) => return Err(fault_at(place)),
         }
     }
     Err(fault_at(at))

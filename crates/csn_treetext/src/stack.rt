@@ -1,4 +1,4 @@
-ghost use Rattle.std.specs.Prelude.{◌≡◌, ◌∷◌, [], length, OnOk, MatchOption};
+ghost use Rattle.std.specs.Prelude.{◌≡◌, ◌∷◌, [], false, length, OnOk, MatchOption};
 ghost use Rattle.csn_treetext.specs.reader.Machine.{is_in_row};
 
 use csn_bits::NoMemory;
@@ -73,5 +73,15 @@ impl Stack {
         ensures { MatchOption result ((self.old ≡ []) × (self.new ≡ [])) (λ frame. self.old ≡ frame ∷ self.new) }
     {
         self.frames.pop()
+    }
+
+    /// The trees of the innermost tree that has begun, which is taken away, where it is a row.
+    pub fn pop_row(&mut self) -> Option<Rows>
+        ensures { MatchOption result (is_in_row self.old ≡ false) (λ rows. self.old ≡ Frame.Row rows ∷ self.new) }
+    {
+        match self.pop() {
+            Some(Frame::Row(rows)) => Some(rows),
+            Some(Frame::Alt(_) | Frame::Named(_)) | None => None,
+        }
     }
 }

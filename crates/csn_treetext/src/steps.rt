@@ -127,15 +127,13 @@ fn after_tree(
     if text[at] != b']' {
         return Ok(Taken::Refused(at));
     }
-    match stack.pop() {
-        Some(Frame::Row(rows)) => {
-            let row = Tree {
-                shape: Shape::Row(rows),
-            };
-            close(alloc, version, stack, row, text, at + 1)
-        }
-        _ => Ok(Taken::Refused(at)),
-    }
+    let Some(rows) = stack.pop_row() else {
+        return Ok(Taken::Refused(at));
+    };
+    let row = Tree {
+        shape: Shape::Row(rows),
+    };
+    close(alloc, version, stack, row, text, at + 1)
 }
 
 // Behind `#`: the number of an alternative and `:`.
