@@ -1,11 +1,10 @@
 -- How far the reader's code comes in a text, and where it stops.
-use Rattle.std.specs.Prelude.{nat_le, nat_lt, slice_index, option_map}
-use Rattle.std.proofs.Common.{◌≡◌, ℕ, zero, suc, ◌+◌, ◌-◌, ◌*◌, ◌%◌, ◌^◌, ◌<◌, ◌≤◌, ◌==◌, ◌⊎◌, true, false, List, [], ◌∷◌, ◌++◌, length, take, drop, Option, Some, None, refl, sym, ap, ◌∙◌, subst, arith, inl, inr}
+use Rattle.std.specs.Prelude.{slice_index}
+use Rattle.std.proofs.Common.{◌≡◌, ℕ, zero, suc, ◌+◌, ◌-◌, ◌*◌, ◌^◌, ◌<◌, ◌≤◌, ◌==◌, true, false, List, [], ◌∷◌, ◌++◌, length, take, drop, Option, Some, None, refl, sym, ap, ◌∙◌, subst, arith, inl, inr}
 use Rattle.std.proofs.lemmas.Bool.{cases_lt, le-leb}
 use Rattle.std.proofs.lemmas.List.{take_all, length-drop, get_or-drop}
 use Rattle.std.proofs.Math.Seq.{take-suc}
-use Rattle.csn_bits.specs.declared.bits.TheConstants.{MOST_BITS}
-use Rattle.csn_treetext.specs.declared.bounds.TheConstants.{GREATEST_ALTERNATIVE, MOST_SHORT, MOST_OCTETS}
+use Rattle.csn_treetext.specs.declared.bounds.TheConstants.{GREATEST_ALTERNATIVE, MOST_SHORT}
 use Rattle.csn_bits.specs.Numbers.{low_bits}
 use Rattle.csn_desc.specs.TreeV.{TreeV, bits}
 use Rattle.csn_treetext.specs.declared.version.Version.{Version}
@@ -14,11 +13,11 @@ use Rattle.csn_treetext.specs.declared.stack.Frame.{Frame}
 use Rattle.csn_treetext.specs.declared.name.NameAt.{NameAt}
 use Rattle.csn_treetext.specs.Text.{is_short}
 use Rattle.csn_treetext.specs.Place.{IsTextOf, IsFaultPlace}
-use Rattle.csn_treetext.specs.reader.Mode.{Mode, Start, Opened, Behind, Done, Width, Quote, Value, Hash, Number, Name, NameEnd, Octets, Slash, Bare}
+use Rattle.csn_treetext.specs.reader.Mode.{Start, Done, Width, Value, Number, Name, Octets, Bare}
 use Rattle.csn_treetext.specs.reader.Numeral.{digit_of, grown, greatest_of}
 use Rattle.csn_treetext.specs.reader.Machine.{State, state, with_tree, after_number, are_many, cut_octets, upper_value, is_bit_digit, name_after, step, steps, ended}
 use Rattle.csn_treetext.specs.reader.Reading.{Comes, Stands, Grows}
-use Rattle.csn_treetext.proofs.Numerals.{grew_next, digit_of-some, at_most-some}
+use Rattle.csn_treetext.proofs.Numerals.{grew_next, at_most-some}
 use Rattle.csn_treetext.proofs.Names.{not_greater}
 use Rattle.csn_treetext.proofs.WholeTrees.{eqb-lt, eqb-below}
 use Rattle.csn_treetext.proofs.Runs.{tree_ended, tree_closed}

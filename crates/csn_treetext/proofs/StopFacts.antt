@@ -1,11 +1,10 @@
 -- What one byte more makes of the reader's states, and the places where no text goes on.
-use Rattle.std.specs.Prelude.{nat_le, nat_lt, slice_index, option_map, is_some, IfSome, IfNone}
-use Rattle.std.proofs.Common.{◌≡◌, ℕ, zero, suc, ◌+◌, ◌-◌, ◌*◌, ◌%◌, ◌^◌, ◌<◌, ◌≤◌, ◌==◌, ◌&&◌, ◌⊎◌, true, false, List, [], ◌∷◌, ◌++◌, length, take, drop, Option, Some, None, refl, sym, ap, ◌∙◌, subst, arith, inl, inr, eqb-true}
-use Rattle.std.proofs.lemmas.Bool.{agree_below_at, cases_lt, cases_Bool, le-leb, lt-ltb, leb-true, lt-leb, and_parts}
+use Rattle.std.specs.Prelude.{nat_le, nat_lt, slice_index, is_some, IfSome, IfNone}
+use Rattle.std.proofs.Common.{◌≡◌, ℕ, ◌+◌, ◌-◌, ◌*◌, ◌%◌, ◌^◌, ◌<◌, ◌≤◌, ◌==◌, ◌&&◌, ◌⊎◌, true, false, List, [], ◌∷◌, ◌++◌, length, Option, Some, None, refl, sym, ap, ◌∙◌, subst, arith, inl, inr, eqb-true}
+use Rattle.std.proofs.lemmas.Bool.{agree_below_at, cases_Bool, le-leb, lt-ltb, le-ltb, leb-true, lt-leb, and_parts}
 use Rattle.csn_bits.specs.declared.bits.TheConstants.{MOST_BITS}
 use Rattle.csn_treetext.specs.declared.stack.TheConstants.{MOST_ROUND}
 use Rattle.csn_treetext.specs.declared.bounds.TheConstants.{GREATEST_ALTERNATIVE, MOST_SHORT, MOST_OCTETS}
-use Rattle.csn_desc.specs.TreeV.{TreeV, row, trees_of}
 use Rattle.csn_treetext.specs.declared.version.Version.{Version}
 use Rattle.csn_treetext.specs.declared.version.Version.TheVariants.{First, Second}
 use Rattle.csn_treetext.specs.declared.stack.Frame.{Frame}
@@ -15,12 +14,12 @@ use Rattle.csn_treetext.specs.declared.next.Next.{Next}
 use Rattle.csn_treetext.specs.declared.next.Next.TheVariants as next
 use Rattle.csn_treetext.specs.Text.{is_short}
 use Rattle.csn_treetext.specs.Place.{IsFaultPlace}
-use Rattle.csn_treetext.specs.reader.Mode.{Mode, Start, Opened, Behind, Done, Width, Quote, Value, Hash, Number, Name, NameEnd, Octets, Slash, Bare}
+use Rattle.csn_treetext.specs.reader.Mode.{Mode, Start, Width, Quote, Value, Hash, Number, Name, NameEnd, Octets, Slash, Bare}
 use Rattle.csn_treetext.specs.reader.Numeral.{grown, greatest_of}
-use Rattle.csn_treetext.specs.reader.Machine.{State, state, with_tree, with_stack, are_many, cut_octets, last_octet, upper_value, is_in_row, is_bit_digit, may_end, name_after, after_tree, begun, step, steps, ended}
+use Rattle.csn_treetext.specs.reader.Machine.{State, state, with_tree, are_many, cut_octets, last_octet, upper_value, is_in_row, is_bit_digit, may_end, name_after, after_tree, inside, begun, step, ended}
 use Rattle.csn_treetext.specs.reader.Reading.{Comes, Stands, mode_of}
 use Rattle.csn_treetext.proofs.WholeTrees.{is_byte, eqb-lt, eqb-below}
-use Rattle.csn_treetext.proofs.Runs.{eqb-is}
+use Rattle.csn_treetext.proofs.Runs.{eqb-isnt}
 use Rattle.csn_treetext.proofs.ReadingFacts.{came_on, led_on, stopped, came_to_stop}
 
 -- ---- numbers
@@ -243,6 +242,46 @@ begins_with version text at byte stack s low h is one = led_on version text at (
 pub begins_not : (version : Version) (text : List ℕ) (at : ℕ) (stack : List Frame) → at < length text → Stands version text at (state Start stack)
     → begun version stack (slice_index text at) ≡ None → IsFaultPlace version text at
 begins_not version text at stack low h none = stopped version text at (state Start stack) (omega arith) h (λ within. none) (λ past. absurd (omega arith))
+
+-- a tree that has another one inside
+pub inside_begins : (stack : List Frame) (mode : Mode) → length stack < MOST_ROUND → inside stack mode ≡ Some (state mode stack)
+inside_begins stack mode low = (let room : nat_lt (length stack) MOST_ROUND ≡ true = lt-ltb (length stack) MOST_ROUND low in rw room refl)
+
+pub inside_full : (stack : List Frame) (mode : Mode) → MOST_ROUND ≤ length stack → inside stack mode ≡ None
+inside_full stack mode high = (let full : nat_lt (length stack) MOST_ROUND ≡ false = le-ltb (length stack) MOST_ROUND high in rw full refl)
+
+-- the first digit of a width
+pub digit_begins : (version : Version) (stack : List Frame) (byte : ℕ) → 49 ≤ byte → byte ≤ 57 → begun version stack byte ≡ Some (state (Width (byte - 48)) stack)
+digit_begins version stack byte low high =
+    let no_dot : (byte == 46) ≡ false = eqb-lt byte 46 (omega arith) in
+    let no_bracket : (byte == 91) ≡ false = eqb-below byte 91 (omega arith) in
+    let no_hash : (byte == 35) ≡ false = eqb-lt byte 35 (omega arith) in
+    let no_less : (byte == 60) ≡ false = eqb-below byte 60 (omega arith) in
+    let no_b : (byte == 98) ≡ false = eqb-below byte 98 (omega arith) in
+    let no_x : (byte == 120) ≡ false = eqb-below byte 120 (omega arith) in
+    let low_end : nat_le 49 byte ≡ true = le-leb 49 byte low in
+    let high_end : nat_le byte 57 ≡ true = le-leb byte 57 high in
+    rw (no_dot, no_bracket, no_hash, no_less, no_b, no_x, low_end, high_end) refl
+
+-- a byte that begins no tree
+pub none_begins : (version : Version) (stack : List Frame) (byte : ℕ) → (byte ≡ 46 → ⊥) → (byte ≡ 91 → ⊥) → (byte ≡ 35 → ⊥) → (byte ≡ 60 → ⊥) → (byte ≡ 98 → ⊥) → (byte ≡ 120 → ⊥)
+    → (byte < 49) ⊎ (57 < byte) → begun version stack byte ≡ None
+none_begins version stack byte dot bracket hash less b x digit =
+    let no_dot : (byte == 46) ≡ false = eqb-isnt byte 46 dot in
+    let no_bracket : (byte == 91) ≡ false = eqb-isnt byte 91 bracket in
+    let no_hash : (byte == 35) ≡ false = eqb-isnt byte 35 hash in
+    let no_less : (byte == 60) ≡ false = eqb-isnt byte 60 less in
+    let no_b : (byte == 98) ≡ false = eqb-isnt byte 98 b in
+    let no_x : (byte == 120) ≡ false = eqb-isnt byte 120 x in
+    let no_digit = outside digit in
+    rw (no_dot, no_bracket, no_hash, no_less, no_b, no_x, no_digit) refl
+  where
+    outside : (byte < 49) ⊎ (57 < byte) → nat_le 49 byte && nat_le byte 57 ≡ false
+    outside (inl low) = (let no : nat_le 49 byte ≡ false = lt-leb 49 byte low in rw no refl)
+    outside (inr high) = elim (cases_Bool (nat_le 49 byte)) [
+      | inl past ↦ (let no : nat_le byte 57 ≡ false = lt-leb byte 57 high in rw (past, no) refl)
+      | inr below ↦ rw below refl
+    ]
 
 pub behind_space : (stack : List Frame) → is_in_row stack ≡ true → after_tree stack 32 ≡ Some (state Start stack)
 behind_space [] h = absurd (cc)

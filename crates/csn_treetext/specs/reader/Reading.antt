@@ -1,5 +1,5 @@
 -- How far the reader's code has come in a text.
-use Rattle.std.specs.Prelude.{◌≡◌, ℕ, ◌≤◌, ◌<◌, List, [], ◌∷◌, length, take, slice_index, Option, Some, None}
+use Rattle.std.specs.Prelude.{◌≡◌, ℕ, ◌≤◌, ◌<◌, List, [], length, take, slice_index, Option, Some, None}
 use Rattle.csn_desc.specs.TreeV.{TreeV}
 use Rattle.csn_treetext.specs.declared.version.Version.{Version}
 use Rattle.csn_treetext.specs.declared.stack.Frame.{Frame}

@@ -1,4 +1,4 @@
-use Rattle.std.proofs.Common.{◌≡◌, ◌+◌, ◌++◌, ◌∷◌, [], List, length, sym, ap, ◌∙◌, subst, arith}
+use Rattle.std.proofs.Common.{◌+◌, sym, subst, arith}
 use Rattle.csn_treetext.specs.declared.version.Version.TheVariants.{First}
 use Rattle.csn_treetext.specs.reader.Mode.{Bare}
 use Rattle.csn_treetext.specs.reader.Machine.{state}

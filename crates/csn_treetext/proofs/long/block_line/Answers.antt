@@ -1,5 +1,4 @@
-use Rattle.std.proofs.Common.{◌≡◌, ◌+◌, ◌<◌, ◌≤◌, ◌⊎◌, None, Some, length, slice_index, refl, sym, ap, ◌∙◌, subst, arith}
-use Rattle.csn_treetext.specs.declared.bounds.TheConstants.{MOST_OCTETS}
+use Rattle.std.proofs.Common.{length, refl, sym, ap, ◌∙◌, subst, arith}
 use Rattle.csn_treetext.specs.declared.version.Version.TheVariants.{Second}
 use Rattle.csn_treetext.specs.Place.{IsFaultPlace}
 use Rattle.csn_treetext.specs.reader.Machine.{with_tree}

@@ -1,5 +1,5 @@
 use Rattle.std.specs.Prelude.{slice_index}
-use Rattle.std.proofs.Common.{◌≡◌, ℕ, ◌+◌, ◌-◌, ◌==◌, ◌&&◌, Bool, true, false, List, ◌∷◌, length, take, drop, refl, sym, ap, ◌∙◌, subst, arith}
+use Rattle.std.proofs.Common.{◌≡◌, ◌+◌, ◌-◌, ◌==◌, ◌&&◌, Bool, true, false, ◌∷◌, take, drop, refl, sym, ap, ◌∙◌, subst, arith}
 use Rattle.csn_treetext.specs.declared.stack.Frame.TheVariants.{Named}
 use Rattle.csn_treetext.specs.reader.Mode.{Start, Name}
 use Rattle.csn_treetext.specs.reader.Machine.{HasRoom, may_end, state}

@@ -1,5 +1,5 @@
 use Rattle.std.specs.Prelude.{slice_index}
-use Rattle.std.proofs.Common.{sym, ◌∙◌, ap, arith, ◌+◌, subst, refl}
+use Rattle.std.proofs.Common.{sym, ◌∙◌, ap, arith, ◌+◌, refl}
 use Rattle.csn_desc.specs.TreeV.{row, trees_of}
 use Rattle.csn_treetext.specs.reader.Machine.{state, after_tree, with_tree}
 use Rattle.csn_treetext.specs.reader.Mode.{Start, Behind}

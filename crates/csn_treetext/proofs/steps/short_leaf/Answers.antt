@@ -1,5 +1,5 @@
 use Rattle.std.proofs.Common.{slice_index, Some, refl, sym, ap, subst, ◌∙◌}
-use Rattle.csn_treetext.specs.reader.Mode.{Width, Quote}
+use Rattle.csn_treetext.specs.reader.Mode.{Width}
 use Rattle.csn_treetext.specs.reader.Numeral.{grown}
 use Rattle.csn_treetext.specs.reader.Machine.{state}
 use Rattle.csn_treetext.specs.reader.Reading.{Comes, Grows}
