@@ -15,9 +15,9 @@ returns-then-is_some c =
     let count = ap length c.as_slice-count.ensures in
     elim c.if-count-lt-MOST_OCTETS.branch [
       | then-count-lt-MOST_OCTETS w ↦ subst (λ p. IsFaultPlace Second c.args.text.now p) (sym w.place-is)
-        (octets_unpaired c.args.text.now c.in_ok-octets.field-0.end c.in_ok-octets.field-0.octets high c.args.stack.now e low first c.in_ok-octets.ensures.stops (omega arith))
+          (octets_unpaired c.args.text.now c.in_ok-octets.field-0.end c.in_ok-octets.field-0.octets high c.args.stack.now e low first c.in_ok-octets.ensures.stops (omega arith))
       | else-count-lt-MOST_OCTETS w ↦ subst (λ p. IsFaultPlace Second c.args.text.now p) (sym w.place-is)
-        (octets_full c.args.text.now c.in_ok-octets.field-0.end c.in_ok-octets.field-0.octets high c.args.stack.now e low first (omega arith))
+          (octets_full c.args.text.now c.in_ok-octets.field-0.end c.in_ok-octets.field-0.octets high c.args.stack.now e low first (omega arith))
     ]
 
 pub returns-then-count-lt-FEWEST_OCTETS : goal.returns-then-count-lt-FEWEST_OCTETS

@@ -60,5 +60,5 @@ returns c =
       omega arith,
       subst HasRoom same c.requires.room,
       subst (λ s. Stands c.args.version text (end + 2) (state Start s)) same
-      (subst (λ n. Stands c.args.version text n (state Start (Named label ∷ c.args.stack.now))) count (led begins)),
+          (subst (λ n. Stands c.args.version text n (state Start (Named label ∷ c.args.stack.now))) count (led begins)),
     )
