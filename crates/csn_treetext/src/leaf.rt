@@ -1,10 +1,11 @@
 //! Leaves of bits.
 
-ghost use Rattle.std.specs.Prelude.{◌≡◌, ◌<◌, ◌≤◌, ◌++◌, ◌∷◌, [], length, IfOk, OnOk};
+ghost use Rattle.std.specs.Prelude.{◌≡◌, ◌<◌, ◌≤◌, ◌*◌, ◌++◌, ◌∷◌, [], length, take, IfOk, OnOk};
 ghost use Rattle.csn_treetext.specs.declared.bounds.TheConstants.{MOST_SHORT, MOST_OCTETS};
 ghost use Rattle.csn_bits.specs.declared.bits.TheConstants.{MOST_BITS};
 ghost use Rattle.csn_desc.specs.TreeV.{bits};
 ghost use Rattle.csn_bits.specs.Numbers.{low_bits};
+ghost use Rattle.csn_bits.specs.Octets.{bits_of_octets};
 ghost use Rattle.csn_treetext.specs.Text.{is_short};
 ghost use Rattle.csn_treetext.specs.reader.Machine.{cut_octets, last_octet};
 
@@ -30,20 +31,28 @@ pub fn is_short(bits: &Bits) -> bool
     bits.len() >= 1 && bits.len() <= MOST_SHORT
 }
 
+// The leaf of the first bits of some octets.
+fn first_bits(alloc: Global, octets: &[u8], len: u32) -> Result<Tree, NoMemory>
+    requires within { len ≤ 8 * length octets.now }
+    requires few { len ≤ MOST_BITS }
+    ensures { IfOk result (λ tree. tree ≡ bits (take len (bits_of_octets octets.now))) }
+{
+    match Bits::from_octets(alloc, octets, len) {
+        Ok(of) => Ok(leaf(of)),
+        Err(BitsFault::NoMemory) => Err(NoMemory),
+        Err(_) => unreachable!(),
+    }
+}
+
 /// The leaf of so many bits that writes a number.
 pub fn number_leaf(alloc: Global, width: u8, number: u64) -> Result<Tree, NoMemory>
-    requires { width ≤ MOST_SHORT }
+    requires some { 1 ≤ width }
+    requires few { width ≤ MOST_SHORT }
     ensures { IfOk result (λ tree. tree ≡ bits (low_bits width number)) }
 {
-    let mut leaf = Bits::new(alloc);
-    let mut left = width;
-    while left > 0 {
-        left -= 1;
-        push_bit(&mut leaf, ((number >> left) % 2) as u8)?;
-    }
-    Ok(Tree {
-        shape: Shape::Bits(leaf),
-    })
+    let width = u32::from(width);
+    let octets = (number << (MOST_SHORT - width)).to_be_bytes();
+    first_bits(alloc, &octets, width)
 }
 
 /// Adds a bit to bits that are not as many as a block has.
@@ -68,13 +77,7 @@ pub fn octets_leaf(alloc: Global, octets: &Bytes, used: u8) -> Result<Tree, NoMe
 {
     let octets = octets.as_slice();
     let len = 8 * octets.len() as u32 - 8 + u32::from(used);
-    match Bits::from_octets(alloc, octets, len) {
-        Ok(leaf) => Ok(Tree {
-            shape: Shape::Bits(leaf),
-        }),
-        Err(BitsFault::NoMemory) => Err(NoMemory),
-        Err(_) => unreachable!(),
-    }
+    first_bits(alloc, octets, len)
 }
 
 /// The last of some octets; 0 where there are none.
