@@ -14,5 +14,6 @@ pub mod Complete
 pub mod Alive
 pub mod Places
 pub mod ReadingFacts
+mod Stacked
 pub mod StopFacts
 pub mod TextDecided

@@ -1,7 +1,6 @@
 //! What a whole tree ends.
 
-ghost use Rattle.std.specs.Prelude.{◌≡◌, ◌<◌, ◌≤◌, [], ◌∷◌, ◌++◌, length, IfOk, OnOk};
-ghost use Rattle.csn_desc.specs.declared.tree.TheConstants.{MOST_TREES};
+ghost use Rattle.std.specs.Prelude.{◌≡◌, ◌≤◌, length, IfOk, OnOk};
 ghost use Rattle.csn_treetext.specs.reader.Machine.{HasRoom, HasRoomBelow, with_tree};
 ghost use Rattle.csn_treetext.specs.reader.Reading.{Stands, Takes, ended_with};
 
@@ -9,19 +8,8 @@ use crate::next::{Next, Taken};
 use crate::stack::{Frame, Stack};
 use crate::version::Version;
 use csn_bits::NoMemory;
-use csn_desc::{Rows, Shape, Tree};
+use csn_desc::{Shape, Tree};
 use std::alloc::Global;
-
-// A tree more in the innermost row, which was taken from the stack.
-fn behind(stack: &mut Stack, mut rows: Rows, tree: Tree) -> Result<(), NoMemory>
-    requires { length rows < MOST_TREES }
-    ensures { OnOk result (stack.new ≡ Frame.Row (rows ++ tree ∷ []) ∷ stack.old) }
-{
-    if rows.push(tree).is_err() {
-        return Err(NoMemory);
-    }
-    stack.push(Frame::Row(rows))
-}
 
 // After a whole tree: it ends the alternatives and labelled parts that it is the tree of. The outermost
 // tree that it ends, where that stands in no row.
@@ -31,18 +19,17 @@ fn with_tree(alloc: Global, stack: &mut Stack, tree: Tree) -> Result<Option<Tree
     ensures room { OnOk result (HasRoomBelow stack.new) }
 {
     let mut tree = tree;
-    while let Some(frame) = stack.pop() {
-        let shape = match frame {
-            Frame::Row(rows) => {
-                behind(stack, rows, tree)?;
-                return Ok(None);
-            }
-            Frame::Alt(number) => Shape::Alt(number, Box::new(alloc, tree)?),
-            Frame::Named(label) => Shape::Named(label, Box::new(alloc, tree)?),
+    while !stack.is_in_row() {
+        let shape = match stack.pop() {
+            Some(Frame::Alt(number)) => Shape::Alt(number, Box::new(alloc, tree)?),
+            Some(Frame::Named(label)) => Shape::Named(label, Box::new(alloc, tree)?),
+            Some(Frame::Row(_)) => unreachable!(),
+            None => return Ok(Some(tree)),
         };
         tree = Tree { shape };
     }
-    Ok(Some(tree))
+    stack.push_tree(tree)?;
+    Ok(None)
 }
 
 /// Behind a whole tree, at a place.

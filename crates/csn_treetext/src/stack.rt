@@ -1,8 +1,9 @@
-ghost use Rattle.std.specs.Prelude.{◌≡◌, ◌∷◌, [], false, length, OnOk, MatchOption};
-ghost use Rattle.csn_treetext.specs.reader.Machine.{is_in_row};
+ghost use Rattle.std.specs.Prelude.{◌≡◌, ◌∷◌, [], true, false, length, OnOk, MatchOption};
+ghost use Rattle.csn_treetext.specs.reader.Machine.{HasRoom, is_in_row, state, with_tree};
+ghost use Rattle.csn_treetext.specs.reader.Mode.{Behind};
 
 use csn_bits::NoMemory;
-use csn_desc::{Label, Rows};
+use csn_desc::{Label, Rows, Tree};
 use std::alloc::Global;
 use std::marker::Model;
 
@@ -82,6 +83,22 @@ impl Stack {
         match self.pop() {
             Some(Frame::Row(rows)) => Some(rows),
             Some(Frame::Alt(_) | Frame::Named(_)) | None => None,
+        }
+    }
+
+    /// Adds a tree at the end of the innermost tree that has begun, which is a row.
+    pub fn push_tree(&mut self, tree: Tree) -> Result<(), NoMemory>
+        requires row { is_in_row self.old ≡ true }
+        requires room { HasRoom self.old }
+        ensures { OnOk result (with_tree self.old tree ≡ state Behind self.new) }
+    {
+        let last = self.frames.len() - 1;
+        match &mut self.frames[last] {
+            Frame::Row(rows) => match rows.push(tree) {
+                Ok(()) => Ok(()),
+                Err(_) => Err(NoMemory),
+            },
+            Frame::Alt(_) | Frame::Named(_) => unreachable!(),
         }
     }
 }
