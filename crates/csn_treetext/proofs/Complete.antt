@@ -12,7 +12,7 @@ use Rattle.csn_treetext.specs.declared.version.Version.{Version}
 use Rattle.csn_treetext.specs.declared.version.Version.TheVariants.{First, Second}
 use Rattle.csn_treetext.specs.declared.stack.Frame.{Frame}
 use Rattle.csn_treetext.specs.declared.stack.Frame.TheVariants.{Row, Alt, Named}
-use Rattle.csn_treetext.specs.declared.mode.Mode.TheVariants.{Start, Opened, Behind, Hash}
+use Rattle.csn_treetext.specs.reader.Mode.{Start, Opened, Behind, Hash}
 use Rattle.csn_treetext.specs.Text.{text_of, row_text, rest_text, bit_digits, leaf_text, is_short, short_text, other_text}
 use Rattle.csn_desc.specs.TreeParts.{HasTreeParts, AllHaveTreeParts}
 use Rattle.csn_treetext.specs.Fits.{FitsInside, AllFitInside}

@@ -13,4 +13,7 @@ pub mod Runs
 pub mod Complete
 pub mod Alive
 pub mod Places
+pub mod ReadingFacts
+mod Stacked
+pub mod StopFacts
 pub mod TextDecided

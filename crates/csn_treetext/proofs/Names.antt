@@ -6,8 +6,8 @@ use Rattle.std.specs.Char.{is_ascii_alphanumeric}
 use Rattle.std.proofs.lemmas.Bool.{cases_Bool}
 use Rattle.csn_lexer.specs.Word.{begins_word, goes_on_in_word, joins_pieces, starts_alphanumeric, is_word_tail, is_word}
 use Rattle.csn_desc.specs.Label.{is_label, IsLabel}
-use Rattle.csn_treetext.specs.declared.mode.NameAt.{NameAt}
-use Rattle.csn_treetext.specs.declared.mode.NameAt.TheVariants.{Front, Within, Joint}
+use Rattle.csn_treetext.specs.declared.name.NameAt.{NameAt}
+use Rattle.csn_treetext.specs.declared.name.NameAt.TheVariants.{Front, Within, Joint}
 use Rattle.csn_treetext.specs.reader.Machine.{name_after, name_from, name_run, may_end}
 
 pub accepts : Option NameAt → Bool

@@ -11,8 +11,8 @@ use Rattle.csn_treetext.specs.declared.version.Version.{Version}
 use Rattle.csn_treetext.specs.declared.version.Version.TheVariants.{First, Second}
 use Rattle.csn_treetext.specs.declared.stack.Frame.{Frame}
 use Rattle.csn_treetext.specs.declared.stack.Frame.TheVariants.{Row, Alt, Named}
-use Rattle.csn_treetext.specs.declared.mode.Mode.{Mode}
-use Rattle.csn_treetext.specs.declared.mode.Mode.TheVariants.{Start, Opened, Behind, Done, Width, Quote, Value, Hash, Number, Name, NameEnd, Octets, Slash, Bare}
+use Rattle.csn_treetext.specs.reader.Mode.{Mode}
+use Rattle.csn_treetext.specs.reader.Mode.{Start, Opened, Behind, Done, Width, Quote, Value, Hash, Number, Name, NameEnd, Octets, Slash, Bare}
 use Rattle.csn_treetext.specs.Text.{text_of, row_text, leaf_text, is_short, short_text, other_text}
 use Rattle.csn_treetext.specs.Place.{IsTextOf, BeginsText, IsFaultPlace}
 use Rattle.csn_treetext.specs.reader.Machine.{State, state, HasRoom, step, step_from, steps, ended}

@@ -3,7 +3,7 @@ use Rattle.std.specs.Prelude.{option_map, nat_lt, nat_le, slice_index}
 use Rattle.std.proofs.Common.{◌≡◌, ℕ, zero, suc, ◌+◌, ◌-◌, ◌*◌, ◌/◌, ◌%◌, ◌^◌, ◌<◌, ◌≤◌, ◌==◌, true, false, List, [], ◌∷◌, ◌++◌, length, Option, Some, None, refl, sym, ap, ◌∙◌, arith, inl, inr, append_assoc, append-nil}
 use Rattle.std.specs.Fmt.{decimal}
 use Rattle.std.proofs.lemmas.Fmt.{decimal_by_steps}
-use Rattle.std.proofs.lemmas.Bool.{eqb-false}
+use Rattle.std.proofs.lemmas.Bool.{eqb-false, eqb-true}
 use Rattle.std.proofs.lemmas.Bool.{cases_Bool, cases_lt, le-leb, lt-ltb, leb-true, and_parts}
 use Rattle.std.proofs.lemmas.List.{length_push}
 use Rattle.csn_treetext.specs.declared.stack.TheConstants.{MOST_ROUND}
@@ -20,10 +20,10 @@ use Rattle.csn_treetext.specs.declared.version.Version.{Version}
 use Rattle.csn_treetext.specs.declared.version.Version.TheVariants.{First, Second}
 use Rattle.csn_treetext.specs.declared.stack.Frame.{Frame}
 use Rattle.csn_treetext.specs.declared.stack.Frame.TheVariants.{Row, Alt, Named}
-use Rattle.csn_treetext.specs.declared.mode.NameAt.{NameAt}
-use Rattle.csn_treetext.specs.declared.mode.NameAt.TheVariants.{Front, Within}
-use Rattle.csn_treetext.specs.declared.mode.Mode.{Mode}
-use Rattle.csn_treetext.specs.declared.mode.Mode.TheVariants.{Start, Width, Quote, Value, Hash, Number, Name, Octets, Slash, Bare}
+use Rattle.csn_treetext.specs.declared.name.NameAt.{NameAt}
+use Rattle.csn_treetext.specs.declared.name.NameAt.TheVariants.{Front, Within}
+use Rattle.csn_treetext.specs.reader.Mode.{Mode}
+use Rattle.csn_treetext.specs.reader.Mode.{Start, Width, Quote, Value, Hash, Number, Name, Octets, Slash, Bare}
 use Rattle.csn_treetext.specs.Text.{bit_digits, leaf_text, is_short, short_text, other_text}
 use Rattle.csn_treetext.specs.reader.Numeral.{greatest_of}
 use Rattle.csn_treetext.specs.reader.Machine.{State, state, AreOctets, with_tree, closed, name_after, name_run, are_many, last_octet, upper_value, step, steps, root_of, ended}
@@ -201,6 +201,13 @@ pub eqb-is : (a b : ℕ) → a ≡ b → (a == b) ≡ true
 eqb-is a b same = elim (cases_Bool (a == b)) [
   | inl is ↦ is
   | inr other ↦ absurd (eqb-false a b other same)
+]
+
+-- a number that is not another one
+pub eqb-isnt : (a b : ℕ) → (a ≡ b → ⊥) → (a == b) ≡ false
+eqb-isnt a b differs = elim (cases_Bool (a == b)) [
+  | inl is ↦ absurd (differs (eqb-true a b is))
+  | inr other ↦ other
 ]
 
 pub octets_end : (stack : List Frame) (octets b : List ℕ) → 9 ≤ length octets → cut_bits octets 8 ≡ b → (rest : List ℕ) → Stops rest → run Second (At (Octets octets None) stack) rest ≡ run Second (Some (with_tree stack (bits b))) rest

@@ -13,9 +13,9 @@ use Rattle.csn_treetext.specs.declared.version.Version.{Version}
 use Rattle.csn_treetext.specs.declared.version.Version.TheVariants.{First, Second}
 use Rattle.csn_treetext.specs.declared.stack.Frame.{Frame}
 use Rattle.csn_treetext.specs.declared.stack.Frame.TheVariants.{Row}
-use Rattle.csn_treetext.specs.declared.mode.NameAt.TheVariants.{Front}
-use Rattle.csn_treetext.specs.declared.mode.Mode.{Mode}
-use Rattle.csn_treetext.specs.declared.mode.Mode.TheVariants.{Start, Opened, Behind, Done, Width, Quote, Value, Hash, Number, Name, NameEnd, Octets, Slash, Bare}
+use Rattle.csn_treetext.specs.declared.name.NameAt.TheVariants.{Front}
+use Rattle.csn_treetext.specs.reader.Mode.{Mode}
+use Rattle.csn_treetext.specs.reader.Mode.{Start, Opened, Behind, Done, Width, Quote, Value, Hash, Number, Name, NameEnd, Octets, Slash, Bare}
 use Rattle.csn_treetext.specs.Text.{text_of, bit_digits, is_short}
 use Rattle.csn_bits.specs.Numbers.{low_bits}
 use Rattle.csn_treetext.specs.reader.Machine.{State, state, IsMode, AreOctets, with_tree, begun, begun_b, begun_x, inside, after_name, after_width, after_quote, after_hash, after_high, are_many, upper_value, cut_octets, step, step_from, steps, root_of, root_at, ended}

@@ -1,10 +1,10 @@
 -- Each text is the text of a tree that fits, or has a place where it is wrong, in either version.
-use Rattle.std.proofs.Common.{◌≡◌, ℕ, zero, suc, ◌+◌, ◌<◌, ◌⊎◌, inl, inr, List, [], length, take, get_or, Option, Some, None, refl, sym, ◌∙◌, ap, arith}
+use Rattle.std.proofs.Common.{◌≡◌, ℕ, zero, suc, ◌+◌, ◌<◌, inl, inr, List, [], length, take, get_or, Option, Some, None, refl, sym, ◌∙◌, ap, arith}
 use Rattle.std.proofs.lemmas.List.{take_all}
 use Rattle.csn_desc.specs.TreeV.{TreeV}
 use Rattle.csn_treetext.specs.declared.version.Version.{Version}
-use Rattle.csn_treetext.specs.declared.mode.Mode.TheVariants.{Start}
-use Rattle.csn_treetext.specs.Place.{IsTextOf, IsFaultPlace, Decided}
+use Rattle.csn_treetext.specs.reader.Mode.{Start}
+use Rattle.csn_treetext.specs.Place.{Decided}
 use Rattle.csn_treetext.specs.reader.Machine.{State, state, step, steps, ended}
 use Rattle.csn_treetext.proofs.Places.{start, step_more, refused_place, ended_place, ended_tree}
 

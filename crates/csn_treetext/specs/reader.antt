@@ -3,4 +3,6 @@
 -- folder: what bytes are the text of a tree is `Text` and `Fits`, and where they are none is `Place`.
 pub mod FrameCode
 pub mod Numeral
+pub mod Mode
 pub mod Machine
+pub mod Reading

@@ -4,12 +4,14 @@
 mod bounds;
 mod bytes;
 mod closing;
+mod decimals;
 pub mod examples;
 mod fault;
 pub mod laws;
 mod leaf;
-mod leaf_steps;
-mod mode;
+mod long;
+mod name;
+mod next;
 mod read;
 mod stack;
 mod steps;

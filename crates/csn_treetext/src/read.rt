@@ -1,12 +1,12 @@
-ghost use Rattle.std.specs.Prelude.{◌≤◌, length, IfOk, IfErr};
+ghost use Rattle.std.specs.Prelude.{◌≡◌, ◌≤◌, length, IfOk, IfErr};
 ghost use Rattle.csn_bits.specs.declared.feed.TheConstants.{MOST_LINE};
 ghost use Rattle.csn_treetext.specs.declared.version.Version.TheVariants.{First, Second};
 ghost use Rattle.csn_treetext.specs.Place.{IsTextOf, TreeText, OldText, IsFaultOf};
 
 use crate::fault::TextFault;
-use crate::mode::Mode;
+use crate::next::{Next, Taken};
 use crate::stack::Stack;
-use crate::steps::{finish, step};
+use crate::steps::take;
 use crate::version::Version;
 use csn_desc::Tree;
 use std::alloc::Global;
@@ -35,17 +35,28 @@ fn read_text(alloc: Global, version: Version, text: &[u8]) -> Result<Tree, TextF
     ensures refused { IfErr result (λ fault. IsFaultOf version text.now fault) }
 {
     let mut stack = Stack::new(alloc);
-    let mut mode = Mode::Start;
-    for (at, byte) in text.iter().enumerate() {
-        match step(alloc, version, &mut stack, mode, *byte)? {
-            Some(next) => mode = next,
-            None => return Err(TextFault::Place { place: at as u32 }),
+    let mut next = Next::Start;
+    let mut at = 0;
+    while at < text.len() {
+        match take(alloc, version, &mut stack, next, text, at)? {
+            Taken::Up(other, end) => {
+                next = other;
+                at = end;
+            }
+            Taken::Whole(tree, end) if end == text.len() => return Ok(tree),
+            Taken::Whole(_, end) => return Err(fault_at(end)),
+            Taken::Refused(place) => return Err(fault_at(place)),
         }
     }
-    match finish(alloc, &mut stack, mode)? {
-        Some(tree) => Ok(tree),
-        None => Err(TextFault::Place {
-            place: text.len() as u32,
-        }),
+    Err(fault_at(at))
+}
+
+// The fault at a place in a line.
+fn fault_at(place: usize) -> TextFault
+    requires { place ≤ MOST_LINE }
+    ensures { result ≡ TextFault.Place place }
+{
+    TextFault::Place {
+        place: place as u32,
     }
 }

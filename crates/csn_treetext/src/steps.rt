@@ -1,196 +1,209 @@
-//! One byte more of a text, and its end.
+//! One piece more of a text: what begins a tree, a whole leaf, or what ends a tree.
 
-ghost use Rattle.std.specs.Prelude.{◌≡◌, IfOk};
-ghost use Rattle.csn_treetext.specs.reader.Machine.{HasRoom, IsMode, with_stack, begun, name_after, after_name, after_hash, step, ended, after_bracket, after_alternative, after_name_end};
+ghost use Rattle.std.specs.Prelude.{◌≡◌, ◌+◌, ◌<◌, ◌≤◌, length, IfOk};
+ghost use Rattle.csn_bits.specs.declared.feed.TheConstants.{MOST_LINE};
+ghost use Rattle.csn_treetext.specs.declared.bounds.TheConstants.{MOST_SHORT};
+ghost use Rattle.csn_treetext.specs.reader.Machine.{HasRoom, HasRoomBelow, state};
+ghost use Rattle.csn_treetext.specs.reader.Mode.{Start, Opened, Behind, Width, Quote, Hash};
+ghost use Rattle.csn_treetext.specs.reader.Reading.{Comes, HasRoomFor, Stands, Takes, mode_of};
 
-use crate::bounds::GREATEST_ALTERNATIVE;
-use crate::bytes::Bytes;
-use crate::closing::{after_tree, root, with_tree};
-use crate::leaf::{grown, number_leaf};
-use crate::leaf_steps::{
-    after_bits, after_digits, after_number, after_quote, after_slash, after_width, finish_octets,
-    is_short, leaf,
-};
-use crate::mode::{Mode, NameAt};
+use crate::bounds::{GREATEST_ALTERNATIVE, MOST_SHORT};
+use crate::closing::close;
+use crate::decimals::{digits, first_digit, greatest_of, stands_at};
+use crate::leaf::{leaf, number_leaf};
+use crate::long::{bit_digits, block_line};
+use crate::name::name;
+use crate::next::{Next, Taken};
 use crate::stack::{Frame, MOST_ROUND, Stack};
 use crate::version::Version;
 use csn_bits::{Bits, NoMemory};
-use csn_desc::{Label, LabelFault, Rows, Shape, Tree};
+use csn_desc::{Rows, Shape, Tree};
 use std::alloc::Global;
 
-/// What was read with one byte more; None where no text of a tree begins so.
-pub fn step(
+/// Reads one piece more.
+pub fn take(
     alloc: Global,
     version: Version,
     stack: &mut Stack,
-    mode: Mode,
-    byte: u8,
-) -> Result<Option<Mode>, NoMemory>
-    requires room { HasRoom stack.old }
-    requires mode { IsMode mode }
-    ensures { IfOk result (λ next. step version mode stack.old byte ≡ with_stack stack.new next) }
+    next: Next,
+    text: &[u8],
+    at: usize,
+) -> Result<Taken, NoMemory>
+    requires within { at < length text.now }
+    requires line { length text.now ≤ MOST_LINE }
+    requires room { HasRoomFor next stack.old }
+    requires stands { Stands version text.now at (state (mode_of next) stack.old) }
+    ensures { IfOk result (Takes version text.now (at + 1) stack.new) }
 {
-    match mode {
-        Mode::Start => begin(alloc, version, stack, byte),
-        Mode::Opened => begin_row(alloc, version, stack, byte),
-        Mode::Behind => after_tree(alloc, stack, byte),
-        Mode::Done(_) => Ok(None),
-        Mode::Width(width) => Ok(after_width(width, byte)),
-        Mode::Quote(width) => Ok(after_quote(width, byte)),
-        Mode::Value(width, number) => after_number(alloc, stack, width, number, byte),
-        Mode::Hash => Ok(after_hash(None, byte)),
-        Mode::Number(number) => after_alternative(stack, number, byte),
-        Mode::Name(name, at) => after_name(alloc, name, at, byte),
-        Mode::NameEnd(name) => after_name_end(stack, name, byte),
-        Mode::Octets(octets, high) => after_digits(alloc, stack, octets, high, byte),
-        Mode::Slash(octets) => after_slash(alloc, stack, octets, byte),
-        Mode::Bare(leaf) => after_bits(alloc, stack, leaf, byte),
+    match next {
+        Next::Start => begin(alloc, version, stack, text, at),
+        Next::Opened => begin_row(alloc, version, stack, text, at),
+        Next::Behind => after_tree(alloc, version, stack, text, at),
     }
 }
 
-// The first byte of a tree.
+// A tree begins.
 fn begin(
     alloc: Global,
     version: Version,
     stack: &mut Stack,
-    byte: u8,
-) -> Result<Option<Mode>, NoMemory>
-    requires { HasRoom stack.old }
-    ensures { IfOk result (λ next. begun version stack.old byte ≡ with_stack stack.new next) }
+    text: &[u8],
+    at: usize,
+) -> Result<Taken, NoMemory>
+    requires within { at < length text.now }
+    requires room { HasRoom stack.old }
+    requires stands { Stands version text.now at (state Start stack.old) }
+    ensures { IfOk result (Takes version text.now (at + 1) stack.new) }
 {
-    let next = match byte {
+    let byte = text[at];
+    match byte {
         b'.' => {
             let tree = Tree {
                 shape: Shape::Empty,
             };
-            with_tree(alloc, stack, tree)?
+            close(alloc, version, stack, tree, text, at + 1)
         }
-        b'[' => Mode::Opened,
-        b'#' if stack.len() < MOST_ROUND => Mode::Hash,
-        b'<' if stack.len() < MOST_ROUND => Mode::Name(Bytes::new(alloc), NameAt::Front),
+        b'[' => Ok(Taken::Up(Next::Opened, at + 1)),
+        b'#' if stack.len() < MOST_ROUND => alternative(version, stack, text, at + 1),
+        b'<' if stack.len() < MOST_ROUND => name(alloc, version, stack, text, at + 1),
         b'b' => match version {
-            Version::First => Mode::Bare(Bits::new(alloc)),
-            Version::Second => with_tree(alloc, stack, leaf(Bits::new(alloc)))?,
+            Version::First => bit_digits(alloc, stack, text, at + 1),
+            Version::Second => {
+                close(alloc, version, stack, leaf(Bits::new(alloc)), text, at + 1)
+            }
         },
         b'x' => match version {
-            Version::First => return Ok(None),
-            Version::Second => Mode::Octets(Bytes::new(alloc), None),
+            Version::First => Ok(Taken::Refused(at)),
+            Version::Second => block_line(alloc, stack, text, at + 1),
         },
-        b'1'..=b'9' => Mode::Width(byte - b'0'),
-        _ => return Ok(None),
-    };
-    Ok(Some(next))
+        b'1'..=b'9' => short_leaf(alloc, version, stack, byte - b'0', text, at + 1),
+        _ => Ok(Taken::Refused(at)),
+    }
 }
 
-// The byte after `[`.
+// Behind `[`.
 fn begin_row(
     alloc: Global,
     version: Version,
     stack: &mut Stack,
-    byte: u8,
-) -> Result<Option<Mode>, NoMemory>
-    requires { HasRoom stack.old }
-    ensures { IfOk result (λ next. after_bracket version stack.old byte ≡ with_stack stack.new next) }
+    text: &[u8],
+    at: usize,
+) -> Result<Taken, NoMemory>
+    requires within { at < length text.now }
+    requires room { HasRoom stack.old }
+    requires stands { Stands version text.now at (state Opened stack.old) }
+    ensures { IfOk result (Takes version text.now (at + 1) stack.new) }
 {
-    if byte == b']' {
+    if text[at] == b']' {
         let row = Tree {
             shape: Shape::Row(Rows::new(alloc)),
         };
-        return Ok(Some(with_tree(alloc, stack, row)?));
+        return close(alloc, version, stack, row, text, at + 1);
     }
     if stack.len() >= MOST_ROUND {
-        return Ok(None);
+        return Ok(Taken::Refused(at));
     }
     stack.push(Frame::Row(Rows::new(alloc)))?;
-    begin(alloc, version, stack, byte)
+    begin(alloc, version, stack, text, at)
 }
 
-fn after_hash(number: Option<u64>, byte: u8) -> Option<Mode>
-    ensures { result ≡ after_hash number byte }
-{
-    let next = grown(u64::from(GREATEST_ALTERNATIVE), number, byte)?;
-    Some(Mode::Number(next as u16))
-}
-
-fn after_alternative(stack: &mut Stack, number: u16, byte: u8) -> Result<Option<Mode>, NoMemory>
-    ensures { IfOk result (λ next. after_alternative number stack.old byte ≡ with_stack stack.new next) }
-{
-    if byte == b':' {
-        stack.push(Frame::Alt(number))?;
-        return Ok(Some(Mode::Start));
-    }
-    Ok(after_hash(Some(u64::from(number)), byte))
-}
-
-// Where a label stands after one byte more.
-fn name_after(at: NameAt, byte: u8) -> Option<NameAt>
-    ensures { result ≡ name_after at byte }
-{
-    match (at, byte) {
-        (NameAt::Within, b' ') => Some(NameAt::Front),
-        (NameAt::Within, b'/' | b'-') => Some(NameAt::Joint),
-        (NameAt::Within, b'_' | b'\'' | b'.' | b',') => Some(NameAt::Within),
-        (NameAt::Front, b'_') => Some(NameAt::Within),
-        _ if byte.is_ascii_alphanumeric() => Some(NameAt::Within),
-        _ => None,
-    }
-}
-
-fn after_name(
+// Behind a tree of the innermost row.
+fn after_tree(
     alloc: Global,
-    mut name: Bytes,
-    at: NameAt,
-    byte: u8,
-) -> Result<Option<Mode>, NoMemory>
-    requires { IsMode (Mode.Name name at) }
-    ensures { IfOk result (λ next. after_name name at byte ≡ next) }
+    version: Version,
+    stack: &mut Stack,
+    text: &[u8],
+    at: usize,
+) -> Result<Taken, NoMemory>
+    requires within { at < length text.now }
+    requires line { length text.now ≤ MOST_LINE }
+    requires room { HasRoomBelow stack.old }
+    requires stands { Stands version text.now at (state Behind stack.old) }
+    ensures { IfOk result (Takes version text.now (at + 1) stack.new) }
 {
-    if byte == b'>' && at.may_end() {
-        return match Label::new(alloc, name.as_slice()) {
-            Ok(label) => Ok(Some(Mode::NameEnd(label))),
-            Err(LabelFault::NoMemory) => Err(NoMemory),
-            // the bytes were read as a label
-            Err(LabelFault::BadLabel) => unreachable!(),
-        };
+    if text[at] == b' ' && stack.is_in_row() {
+        return Ok(Taken::Up(Next::Start, at + 1));
     }
-    match name_after(at, byte) {
-        Some(next) => {
-            name.push(byte)?;
-            Ok(Some(Mode::Name(name, next)))
-        }
-        None => Ok(None),
+    if text[at] != b']' {
+        return Ok(Taken::Refused(at));
     }
+    let Some(rows) = stack.pop_row() else {
+        return Ok(Taken::Refused(at));
+    };
+    let row = Tree {
+        shape: Shape::Row(rows),
+    };
+    close(alloc, version, stack, row, text, at + 1)
 }
 
-fn after_name_end(stack: &mut Stack, name: Label, byte: u8) -> Result<Option<Mode>, NoMemory>
-    ensures { IfOk result (λ next. after_name_end name stack.old byte ≡ with_stack stack.new next) }
-{
-    if byte != b'=' {
-        return Ok(None);
-    }
-    stack.push(Frame::Named(name))?;
-    Ok(Some(Mode::Start))
-}
-
-/// The tree of the whole text, at its end; None where the text is none.
-pub fn finish(alloc: Global, stack: &mut Stack, mode: Mode) -> Result<Option<Tree>, NoMemory>
+// Behind `#`: the number of an alternative and `:`.
+fn alternative(
+    version: Version,
+    stack: &mut Stack,
+    text: &[u8],
+    from: usize,
+) -> Result<Taken, NoMemory>
+    requires within { from ≤ length text.now }
     requires room { HasRoom stack.old }
-    requires mode { IsMode mode }
-    ensures { IfOk result (λ root. root ≡ ended mode stack.old) }
+    requires comes { Comes version text.now from (state Hash stack.old) }
+    ensures { IfOk result (Takes version text.now from stack.new) }
 {
-    match mode {
-        Mode::Done(tree) => Ok(Some(tree)),
-        Mode::Value(width, number) => {
-            let tree = number_leaf(alloc, width, number)?;
-            root(alloc, stack, tree)
-        }
-        Mode::Octets(octets, high) => finish_octets(alloc, stack, octets, high),
-        Mode::Bare(front) => {
-            if is_short(&front) {
-                return Ok(None);
-            }
-            root(alloc, stack, leaf(front))
-        }
-        _ => Ok(None),
+    let most = u64::from(GREATEST_ALTERNATIVE);
+    let Some(first) = first_digit(most, text, from) else {
+        return Ok(Taken::Refused(from));
+    };
+    let (number, end) = digits(most, first, text, from + 1);
+    if !stands_at(text, end, b':') {
+        return Ok(Taken::Refused(end));
     }
+    stack.push(Frame::Alt(number as u16))?;
+    Ok(Taken::Up(Next::Start, end + 1))
+}
+
+// Behind the first digit of a width: its other digits, `'` and a number.
+fn short_leaf(
+    alloc: Global,
+    version: Version,
+    stack: &mut Stack,
+    first: u8,
+    text: &[u8],
+    from: usize,
+) -> Result<Taken, NoMemory>
+    requires within { from ≤ length text.now }
+    requires some { 1 ≤ first }
+    requires few { first ≤ MOST_SHORT }
+    requires room { HasRoom stack.old }
+    requires comes { Comes version text.now from (state (Width first) stack.old) }
+    ensures { IfOk result (Takes version text.now from stack.new) }
+{
+    let (width, end) = digits(u64::from(MOST_SHORT), u64::from(first), text, from);
+    if !stands_at(text, end, b'\'') {
+        return Ok(Taken::Refused(end));
+    }
+    value(alloc, version, stack, width as u8, text, end + 1)
+}
+
+// Behind `'`: the number that the bits of a leaf write.
+fn value(
+    alloc: Global,
+    version: Version,
+    stack: &mut Stack,
+    width: u8,
+    text: &[u8],
+    from: usize,
+) -> Result<Taken, NoMemory>
+    requires within { from ≤ length text.now }
+    requires room { HasRoom stack.old }
+    requires some { 1 ≤ width }
+    requires few { width ≤ MOST_SHORT }
+    requires comes { Comes version text.now from (state (Quote width) stack.old) }
+    ensures { IfOk result (Takes version text.now from stack.new) }
+{
+    let most = greatest_of(width);
+    let Some(first) = first_digit(most, text, from) else {
+        return Ok(Taken::Refused(from));
+    };
+    let (number, end) = digits(most, first, text, from + 1);
+    let tree = number_leaf(alloc, width, number)?;
+    close(alloc, version, stack, tree, text, end)
 }

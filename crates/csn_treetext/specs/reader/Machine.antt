@@ -14,10 +14,10 @@ use Rattle.csn_treetext.specs.declared.version.Version.{Version}
 use Rattle.csn_treetext.specs.declared.version.Version.TheVariants.{First, Second}
 use Rattle.csn_treetext.specs.declared.stack.Frame.{Frame}
 use Rattle.csn_treetext.specs.declared.stack.Frame.TheVariants.{Row, Alt, Named}
-use Rattle.csn_treetext.specs.declared.mode.NameAt.{NameAt}
-use Rattle.csn_treetext.specs.declared.mode.NameAt.TheVariants.{Front, Within, Joint}
-use Rattle.csn_treetext.specs.declared.mode.Mode.{Mode}
-use Rattle.csn_treetext.specs.declared.mode.Mode.TheVariants.{Start, Opened, Behind, Done, Width, Quote, Value, Hash, Number, Name, NameEnd, Octets, Slash, Bare}
+use Rattle.csn_treetext.specs.declared.name.NameAt.{NameAt}
+use Rattle.csn_treetext.specs.declared.name.NameAt.TheVariants.{Front, Within, Joint}
+use Rattle.csn_treetext.specs.reader.Mode.{Mode}
+use Rattle.csn_treetext.specs.reader.Mode.{Start, Opened, Behind, Done, Width, Quote, Value, Hash, Number, Name, NameEnd, Octets, Slash, Bare}
 use Rattle.csn_treetext.specs.Text.{is_short}
 use Rattle.csn_bits.specs.Numbers.{low_bits}
 use Rattle.csn_treetext.specs.reader.Numeral.{grown, greatest_of}
@@ -101,6 +101,13 @@ with_tree [] t = state (Done t) []
 with_tree (Row ts ∷ stack) t = state Behind (Row (ts ++ t ∷ []) ∷ stack)
 with_tree (Alt j ∷ stack) t = with_tree stack (alt j t)
 with_tree (Named l ∷ stack) t = with_tree stack (named l t)
+
+-- whether the innermost tree that has begun is a row
+abbrev pub is_in_row : List Frame → Bool
+is_in_row [] = false
+is_in_row (Row ts ∷ stack) = true
+is_in_row (Alt j ∷ stack) = false
+is_in_row (Named l ∷ stack) = false
 
 -- a byte behind a tree of the innermost row
 abbrev pub after_tree : List Frame → ℕ → Option State

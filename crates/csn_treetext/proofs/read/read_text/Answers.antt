@@ -1,43 +1,32 @@
-use Rattle.std.proofs.Common.{◌∙◌, sym, ap, arith, take}
-use Rattle.std.proofs.lemmas.List.{take_all}
-use Rattle.csn_treetext.specs.reader.Machine.{state, with_stack, steps}
-use Rattle.csn_treetext.proofs.Places.{start, reached, room_reached, step_more, refused_place, ended_place, ended_tree}
+use Rattle.std.proofs.Common.{◌+◌, refl, sym, subst, arith}
+use Rattle.csn_treetext.specs.Place.{IsFaultOf}
+use Rattle.csn_treetext.specs.reader.Mode.{Start, Done}
+use Rattle.csn_treetext.specs.reader.Machine.{HasRoom, state}
+use Rattle.csn_treetext.specs.reader.Reading.{Stands, Takes, mode_of}
+use Rattle.csn_treetext.proofs.ReadingFacts.{led, stopped, whole_tree}
+use Rattle.csn_treetext.proofs.StopFacts.{next_ends}
 use Rattle.csn_treetext.proofs.read.read_text.Goals as goal
 
-pub step-requires-clause-room : goal.step-requires-clause-room
-step-requires-clause-room c =
-    room_reached c.args.version c.args.text.now c.loop-at.at c.loop-at.mode c.loop-at.stack (omega arith) (omega arith) c.loop-at.invariant
+pub loop-at-init : goal.loop-at-init
+loop-at-init c = (
+  omega arith,
+  subst HasRoom (sym c.new-stack.ensures) tt,
+  subst (λ s. Stands c.args.version c.args.text.now 0 (state Start s)) (sym c.new-stack.ensures) (led refl),
+)
 
-pub step-requires-clause-mode : goal.step-requires-clause-mode
-step-requires-clause-mode c =
-    (reached c.args.version (take c.loop-at.at c.args.text.now) (state c.loop-at.mode c.loop-at.stack) c.loop-at.invariant).mode
+pub returns-in-Whole-clause-ok : goal.returns-in-Whole-clause-ok
+returns-in-Whole-clause-ok c =
+    let (within, stands) = subst (Takes c.args.version c.args.text.now (c.loop-at.at + 1) c.take.new.stack) c.in-Whole.is c.in_ok-other.ensures in
+    whole_tree c.args.version c.args.text.now c.in-Whole.end c.in-Whole.tree c.take.new.stack (omega arith) stands
 
-pub returns-in-None-clause-refused : goal.returns-in-None-clause-refused
-returns-in-None-clause-refused c =
-    refused_place c.args.version c.args.text.now c.loop-at.at (state c.loop-at.mode c.loop-at.stack) c.loop-at-test.true c.loop-at.invariant
-    (c.in_ok-next.ensures ∙ ap (λ o. with_stack c.step.new.stack o) c.in-None.is)
-
-pub loop-at-preserved : goal.loop-at-preserved
-loop-at-preserved c =
-    step_more c.args.version c.args.text.now c.loop-at.at (state c.loop-at.mode c.loop-at.stack) c.loop-at-test.true c.loop-at.invariant
-    ∙ c.in_ok-next.ensures ∙ ap (λ o. with_stack c.step.new.stack o) c.in-Some.is
-
-pub finish-requires-clause-room : goal.finish-requires-clause-room
-finish-requires-clause-room c =
-    room_reached c.args.version c.args.text.now c.loop-at.at c.loop-at.mode c.loop-at.stack (omega arith) (omega arith) c.loop-at.invariant
-
-pub finish-requires-clause-mode : goal.finish-requires-clause-mode
-finish-requires-clause-mode c =
-    (reached c.args.version (take c.loop-at.at c.args.text.now) (state c.loop-at.mode c.loop-at.stack) c.loop-at.invariant).mode
-
-pub returns-in-Some-2-clause-ok : goal.returns-in-Some-2-clause-ok
-returns-in-Some-2-clause-ok c =
-    ended_tree c.args.version c.args.text.now (state c.loop-at.mode c.loop-at.stack) c.in-Some-2.tree
-    (ap (λ l. steps c.args.version start l) (sym (take_all c.loop-at.at c.args.text.now (omega arith))) ∙ c.loop-at.invariant)
-    (sym c.in_ok-tree.ensures ∙ c.in-Some-2.is)
+pub returns-in-Whole-2-clause-refused : goal.returns-in-Whole-2-clause-refused
+returns-in-Whole-2-clause-refused c =
+    let (within, stands) = subst (Takes c.args.version c.args.text.now (c.loop-at.at + 1) c.take.new.stack) c.in-Whole.is c.in_ok-other.ensures in
+    subst (IsFaultOf c.args.version c.args.text.now) (sym c.fault_at.ensures)
+    (stopped c.args.version c.args.text.now c.in-Whole.end (state (Done c.in-Whole.tree) c.take.new.stack) within stands (λ low. refl) (λ past. absurd (c.if-end-text.false (omega arith))))
 
 pub returns-clause-refused : goal.returns-clause-refused
 returns-clause-refused c =
-    ended_place c.args.version c.args.text.now (state c.loop-at.mode c.loop-at.stack)
-    (ap (λ l. steps c.args.version start l) (sym (take_all c.loop-at.at c.args.text.now (omega arith))) ∙ c.loop-at.invariant)
-    (sym c.in_ok-tree.ensures ∙ c.in-None-2.is)
+    let (within, room, stands) = c.loop-at.invariant in
+    subst (IsFaultOf c.args.version c.args.text.now) (sym c.fault_at-2.ensures)
+    (stopped c.args.version c.args.text.now c.loop-at.at (state (mode_of c.loop-at.next) c.loop-at.stack) within stands (λ low. absurd (omega arith)) (λ past. next_ends c.loop-at.next c.loop-at.stack))

@@ -1,0 +1,216 @@
+//! Leaves of more than 64 bits.
+
+ghost use Rattle.std.specs.Prelude.{◌≡◌, ◌⊎◌, ◌+◌, ◌*◌, ◌<◌, ◌≤◌, ◌==◌, true, [], List, ℕ, length, slice_index, Some, None, IfOk, IfSome, IfNone};
+ghost use Rattle.csn_bits.specs.declared.bits.TheConstants.{MOST_BITS};
+ghost use Rattle.csn_treetext.specs.declared.bounds.TheConstants.{MOST_OCTETS};
+ghost use Rattle.csn_treetext.specs.declared.stack.Frame.{Frame};
+ghost use Rattle.csn_treetext.specs.declared.version.Version.TheVariants.{First, Second};
+ghost use Rattle.csn_treetext.specs.reader.Machine.{HasRoom, state, upper_value};
+ghost use Rattle.csn_treetext.specs.reader.Mode.{Octets, Slash, Bare};
+ghost use Rattle.csn_treetext.specs.reader.Reading.{Comes, Takes};
+
+use crate::bounds::MOST_OCTETS;
+use crate::bytes::Bytes;
+use crate::closing::close;
+use crate::decimals::{byte_at, stands_at};
+use crate::leaf::{is_short, last_octet, leaf, octets_leaf, push_bit};
+use crate::next::Taken;
+use crate::stack::Stack;
+use crate::version::Version;
+use csn_bits::{Bits, MOST_BITS, NoMemory};
+use std::alloc::Global;
+
+// The fewest octets of a leaf that is written as a block line: they hold more than 64 bits, whatever
+// bits of the last one belong to it.
+const FEWEST_OCTETS: usize = 9;
+
+// The value of a hexadecimal digit in upper case.
+fn upper_value(byte: u8) -> Option<u8>
+    ensures value { result ≡ upper_value byte }
+    ensures small { IfSome result (λ value. value < 16) }
+{
+    match byte {
+        b'0'..=b'9' => Some(byte - b'0'),
+        b'A'..=b'F' => Some(byte - b'A' + 10),
+        _ => None,
+    }
+}
+
+// The value of the hexadecimal digit at a place, if one stands there.
+fn digit_at(text: &[u8], at: usize) -> Option<u8>
+    ensures some { IfSome result (λ value. (at < length text.now) × (upper_value (slice_index text.now at) ≡ Some value)) }
+    ensures small { IfSome result (λ value. value < 16) }
+    ensures none { IfNone result (at < length text.now → upper_value (slice_index text.now at) ≡ None) }
+{
+    upper_value(byte_at(text, at)?)
+}
+
+// The octet whose two digits stand at a place.
+fn octet_at(text: &[u8], at: usize) -> Option<u8>
+    ensures some { IfSome result (λ octet. (at + 1 < length text.now) × ((high low : ℕ) × (upper_value (slice_index text.now at) ≡ Some high)
+        × (upper_value (slice_index text.now (at + 1)) ≡ Some low) × (octet ≡ 16 * high + low))) }
+    ensures none { IfNone result (at + 1 < length text.now
+        → (upper_value (slice_index text.now at) ≡ None) ⊎ (upper_value (slice_index text.now (at + 1)) ≡ None)) }
+{
+    let high = digit_at(text, at)?;
+    let low = digit_at(text, at + 1)?;
+    Some(16 * high + low)
+}
+
+// Octets in hexadecimal digits.
+struct OctetRun {
+    octets: Bytes,
+    end: usize,
+}
+
+// The octets whose digits stand from a place on, and where they end.
+fn octet_run(alloc: Global, text: &[u8], from: usize) -> Result<OctetRun, NoMemory>
+    requires { from ≤ length text.now }
+    ensures comes { IfOk result (λ run. (stack : List Frame) → Comes Second text.now from (state (Octets [] None) stack)
+        → Comes Second text.now run.end (state (Octets run.octets None) stack)) }
+    ensures stops { IfOk result (λ run. (length run.octets ≡ MOST_OCTETS) ⊎ (run.end + 1 < length text.now
+        → (upper_value (slice_index text.now run.end) ≡ None) ⊎ (upper_value (slice_index text.now (run.end + 1)) ≡ None))) }
+    ensures from { IfOk result (λ run. from ≤ run.end) }
+    ensures within { IfOk result (λ run. run.end ≤ length text.now) }
+    ensures few { IfOk result (λ run. length run.octets ≤ MOST_OCTETS) }
+{
+    let mut octets = Bytes::new(alloc);
+    let mut end = from;
+    while octets.as_slice().len() < MOST_OCTETS {
+        match octet_at(text, end) {
+            Some(octet) => octets.push(octet)?,
+            None => return Ok(OctetRun { octets, end }),
+        }
+        end += 2;
+    }
+    Ok(OctetRun { octets, end })
+}
+
+/// Behind `x`: the block line of a leaf.
+pub fn block_line(
+    alloc: Global,
+    stack: &mut Stack,
+    text: &[u8],
+    from: usize,
+) -> Result<Taken, NoMemory>
+    requires within { from ≤ length text.now }
+    requires room { HasRoom stack.old }
+    requires comes { Comes Second text.now from (state (Octets [] None) stack.old) }
+    ensures { IfOk result (Takes Second text.now from stack.new) }
+{
+    let OctetRun { octets, end } = octet_run(alloc, text, from)?;
+    let count = octets.as_slice().len();
+    if digit_at(text, end).is_some() {
+        // the digit has no partner, or is one of an octet too many
+        let place = if count < MOST_OCTETS { end + 1 } else { end };
+        return Ok(Taken::Refused(place));
+    }
+    if count < FEWEST_OCTETS {
+        return Ok(Taken::Refused(end));
+    }
+    if stands_at(text, end, b'/') {
+        return slash(alloc, stack, &octets, text, end);
+    }
+    let tree = octets_leaf(alloc, &octets, 8)?;
+    close(alloc, Version::Second, stack, tree, text, end)
+}
+
+// How many bits of the last octet the digit at a place says to belong to the leaf.
+fn used_at(text: &[u8], at: usize) -> Option<u8>
+    ensures some { IfSome result (λ used. (at < length text.now) × (slice_index text.now at ≡ 48 + used) × (1 ≤ used) × (used ≤ 7)) }
+    ensures none { IfNone result (at < length text.now → (slice_index text.now at < 49) ⊎ (55 < slice_index text.now at)) }
+{
+    match byte_at(text, at)? {
+        byte @ b'1'..=b'7' => Some(byte - b'0'),
+        _ => None,
+    }
+}
+
+// The tail of a block line, whose `/` stands at a place.
+fn slash(
+    alloc: Global,
+    stack: &mut Stack,
+    octets: &Bytes,
+    text: &[u8],
+    at: usize,
+) -> Result<Taken, NoMemory>
+    requires within { at < length text.now }
+    requires room { HasRoom stack.old }
+    requires slash { (slice_index text.now at == 47) ≡ true }
+    requires some { 9 ≤ length octets.now }
+    requires few { length octets.now ≤ MOST_OCTETS }
+    requires comes { Comes Second text.now at (state (Octets octets.now None) stack.old) }
+    ensures { IfOk result (Takes Second text.now at stack.new) }
+{
+    if last_octet(octets) % 2 != 0 {
+        return Ok(Taken::Refused(at));
+    }
+    let Some(used) = used_at(text, at + 1) else {
+        return Ok(Taken::Refused(at + 1));
+    };
+    if last_octet(octets) % (1 << (8 - used)) != 0 {
+        return Ok(Taken::Refused(at + 1));
+    }
+    let tree = octets_leaf(alloc, octets, used)?;
+    close(alloc, Version::Second, stack, tree, text, at + 2)
+}
+
+// The bit whose digit stands at a place.
+fn bit_at(text: &[u8], at: usize) -> Option<u8>
+    ensures some { IfSome result (λ bit. (at < length text.now) × (slice_index text.now at ≡ 48 + bit) × (bit ≤ 1)) }
+    ensures none { IfNone result (at < length text.now → (slice_index text.now at < 48) ⊎ (49 < slice_index text.now at)) }
+{
+    match byte_at(text, at)? {
+        byte @ b'0'..=b'1' => Some(byte - b'0'),
+        _ => None,
+    }
+}
+
+// Bits as digits.
+struct BitRun {
+    bits: Bits,
+    end: usize,
+}
+
+// The bits whose digits stand from a place on, and where they end.
+fn bit_run(alloc: Global, text: &[u8], from: usize) -> Result<BitRun, NoMemory>
+    requires { from ≤ length text.now }
+    ensures comes { IfOk result (λ run. (stack : List Frame) → Comes First text.now from (state (Bare []) stack)
+        → Comes First text.now run.end (state (Bare run.bits) stack)) }
+    ensures stops { IfOk result (λ run. (length run.bits ≡ MOST_BITS) ⊎ (run.end < length text.now → (slice_index text.now run.end < 48) ⊎ (49 < slice_index text.now run.end))) }
+    ensures from { IfOk result (λ run. from ≤ run.end) }
+    ensures within { IfOk result (λ run. run.end ≤ length text.now) }
+{
+    let mut bits = Bits::new(alloc);
+    let mut end = from;
+    while bits.len() < MOST_BITS {
+        match bit_at(text, end) {
+            Some(bit) => push_bit(&mut bits, bit)?,
+            None => return Ok(BitRun { bits, end }),
+        }
+        end += 1;
+    }
+    Ok(BitRun { bits, end })
+}
+
+/// Behind `b` in the first version: the bits of a leaf as digits.
+pub fn bit_digits(
+    alloc: Global,
+    stack: &mut Stack,
+    text: &[u8],
+    from: usize,
+) -> Result<Taken, NoMemory>
+    requires within { from ≤ length text.now }
+    requires room { HasRoom stack.old }
+    requires comes { Comes First text.now from (state (Bare []) stack.old) }
+    ensures { IfOk result (Takes First text.now from stack.new) }
+{
+    let BitRun { bits, end } = bit_run(alloc, text, from)?;
+    if is_short(&bits) {
+        return Ok(Taken::Refused(end));
+    }
+    if bit_at(text, end).is_some() {
+        return Ok(Taken::Refused(end));
+    }
+    close(alloc, Version::First, stack, leaf(bits), text, end)
+}
