@@ -47,7 +47,7 @@ use Rattle.csn_run.specs.Result.{LineJob, by_rule, migrating, Steps, beginning, 
 -- ---- what the words ask for over told files
 
 -- a file of which so few bytes were asked for that more were left is longer
-long_file : (files : List ℕ → Option (List ℕ)) (file front : List ℕ) → BeginsFile (Some files) file (MOST_DESCRIPTION + 1) front → MOST_DESCRIPTION < length front → (text : List ℕ) × (files file ≡ Some text) × (MOST_DESCRIPTION < length text)
+pub long_file : (files : List ℕ → Option (List ℕ)) (file front : List ℕ) → BeginsFile (Some files) file (MOST_DESCRIPTION + 1) front → MOST_DESCRIPTION < length front → (text : List ℕ) × (files file ≡ Some text) × (MOST_DESCRIPTION < length text)
 long_file files file front begins long = go (files file) refl begins
   where
     go : (o : Option (List ℕ)) → files file ≡ o → option_map (take (MOST_DESCRIPTION + 1)) o ≡ Some front → (text : List ℕ) × (files file ≡ Some text) × (MOST_DESCRIPTION < length text)
@@ -57,7 +57,7 @@ long_file files file front begins long = go (files file) refl begins
         (text, is, omega (arith, ap length same, length-take (MOST_DESCRIPTION + 1) text))
 
 -- the whole description in a file is what the file has
-whole_file : (files : List ℕ → Option (List ℕ)) (file text : List ℕ) → IsDescription (Some files) file text → files file ≡ Some text
+pub whole_file : (files : List ℕ → Option (List ℕ)) (file text : List ℕ) → IsDescription (Some files) file text → files file ≡ Some text
 whole_file files file text is = go (files file) refl is.front
   where
     go : (o : Option (List ℕ)) → files file ≡ o → option_map (take (MOST_DESCRIPTION + 1)) o ≡ Some text → files file ≡ Some text
@@ -85,7 +85,7 @@ pub ended_checked :
     (words : List (List ℕ)) (files : Option (List ℕ → Option (List ℕ))) (rule : RuleWords) (d : DescV)
     → IsCheck words rule.file.now rule.name.now rule.reading → IsPlanned files rule d
     → EndedBefore words files (certified_line d ++ 10 ∷ []) Done
-ended_checked words None rule d row is = inr (refl, λ reads. reads (leaves_check rule.file.now rule.name.now rule.reading row))
+ended_checked words None rule d row is = inr (inl refl, λ reads. reads (leaves_check rule.file.now rule.name.now rule.reading row))
 ended_checked words (Some files) rule d row is =
     checked rule.file.now rule.name.now is.text rule.reading is.rules d row (whole_file files rule.file.now is.text is.fetched) is.fetched.fits is.compiled refl refl
 
@@ -101,7 +101,7 @@ no_plan_of text name reading (Plan (Conflict conflict)) line ended is tells = no
 no_plan_of text name reading (Plan no_memory_for_plan) line ended is tells = absurd tells
 
 -- it comes before the lines
-tells_before : (reason : NoPlan) (line : List ℕ) (ended : Ended) → Tells reason line ended → IsBeforeLines ended
+pub tells_before : (reason : NoPlan) (line : List ℕ) (ended : Ended) → Tells reason line ended → IsBeforeLines ended
 tells_before (Rules (Syntax place)) line ended tells = inl tells.1
 tells_before (Rules no_memory_for_rules) line ended tells = absurd tells
 tells_before (Description (Refused why place)) line ended tells = inl tells.1
@@ -250,7 +250,7 @@ pub soak_ends :
     → IfOk end (λ ended. (ended ≡ Done) × (waits ≡ soaked_line n counts ++ 10 ∷ [])) → IfErr end (λ fault. (fault ≡ Memory) × (waits ≡ []))
     → JobEnds words files watchers left left taken taken waits end
 soak_ends words None watchers entry n rules d counts left taken waits (Ok ended) row fits is from ok err =
-    before_lines (inr (ok.0, λ reads. reads (leaves_soak entry n row))) refl refl
+    before_lines (inr (inl ok.0, λ reads. reads (leaves_soak entry n row))) refl refl
 soak_ends words (Some files) watchers entry n rules d counts left taken waits (Ok ended) row fits is from ok err =
     before_lines (soaked entry n rules d counts row fits is from ok.1 ok.0) refl refl
 soak_ends words files watchers entry n rules d counts left taken waits (Err fault) row fits is from ok err = unread refl refl err.1 (inr (ap Err err.0))

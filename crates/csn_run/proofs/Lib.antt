@@ -26,4 +26,6 @@ pub mod ReplayedLines
 pub mod EntryPlans
 pub mod WrittenLines
 pub mod OneTree
+pub mod PairLemmas
+pub mod OldBlocks
 pub mod SoakedBlocks

@@ -6,6 +6,7 @@ use Rattle.csn_resolve.specs.Laws.{NamesAreAnswered, PlacesAreKept, RefusedOnce,
 use Rattle.csn_certify.specs.Laws.{BlocksHaveOneTree, CertifiedHasNoConflict, FirstConflictIsOne}
 use Rattle.csn_encode.specs.Laws.{FirstMisfitIsOne, MisfitsHaveNoBits, OneBlock, TreesFitOrMiss}
 use Rattle.csn_segment.specs.Laws.{MessagesAreShort}
+use Rattle.csn_compat.specs.Laws.{BlocksAreTaken}
 use Rattle.csn_treetext.specs.Laws as texts
 use Rattle.csn_movetext.specs.Laws.{TreesFit}
 use Rattle.csn_json.specs.Laws as json
@@ -72,3 +73,4 @@ pub record Known : Type 0 where
   pub of_json : KnownOfJson
   pub of_misfits : KnownOfMisfits
   pub of_messages : MessagesAreShort
+  pub of_takers : BlocksAreTaken
