@@ -29,6 +29,7 @@ const ROWS: &[(&[&str], &[u8])] = &[
         b"si1 2B\ndownlink FF\nia GG\nsi9 00\nsi1 83",
     ),
     (&["soak", "ia", "16"], b"A5\n"),
+    (&["compat", "F", "F", "M", "received"], b"A5\n"),
     (&["migrate"], b"b\n<A>=3'9\n.\n"),
     (
         &["segments", "received"],

@@ -5,8 +5,8 @@ ghost use Rattle.std.specs.Prelude.{◌≡◌, ◌≢◌, ◌↔◌, [], List, �
 ghost use Rattle.std.specs.String.{string_bytes};
 ghost use Rattle.csn_io.specs.Files.{file_of};
 ghost use Rattle.csn_io.specs.ShelfFault.{LacksFile};
-ghost use Rattle.csn_run.specs.Command.{IsCommand, NamesFile};
-ghost use Rattle.csn_run.specs.Result.{BeginsResult, IsFinished, Result};
+ghost use Rattle.csn_run.specs.Command.{IsCommand};
+ghost use Rattle.csn_run.specs.Result.{BeginsResult, ComesToFile, IsFinished, Result};
 
 use csn_io::{MemShelf, MemSink, MemSource};
 use csn_replay::Watcher;
@@ -18,6 +18,8 @@ use std::collections::BTreeMap;
 mod as_json;
 #[cfg(test)]
 mod certified;
+#[cfg(test)]
+mod compared;
 #[cfg(test)]
 mod failing;
 #[cfg(test)]
@@ -57,7 +59,7 @@ pub fn run_watched(
         → BeginsResult (map string_bytes words.now) (file_of files) (map (λ b. watched b) watchers.items) input.items ran.text.items) }
     ensures no_write_fault { IfOk result (λ ran. ran.ended ≢ Ended.WriteFault) }
     ensures read_fault { IfOk result (λ ran. ran.ended ≡ Ended.ReadFault
-        → (name : List ℕ) × NamesFile (map string_bytes words.now) name × LacksFile (Some (file_of files)) name) }
+        → (name : List ℕ) × ComesToFile (map string_bytes words.now) (file_of files) name × LacksFile (Some (file_of files)) name) }
 {
     let mut shelf = MemShelf::new(files, Vec::new(alloc));
     let mut source = MemSource::new(input, 4096, Vec::new(alloc));
@@ -79,7 +81,7 @@ pub fn run_in_memory(
     ensures begins { IfOk result (λ ran. ran.ended ≢ Ended.Usage → BeginsResult (map string_bytes words.now) (file_of files) [] input.items ran.text.items) }
     ensures no_write_fault { IfOk result (λ ran. ran.ended ≢ Ended.WriteFault) }
     ensures read_fault { IfOk result (λ ran. ran.ended ≡ Ended.ReadFault
-        → (name : List ℕ) × NamesFile (map string_bytes words.now) name × LacksFile (Some (file_of files)) name) }
+        → (name : List ℕ) × ComesToFile (map string_bytes words.now) (file_of files) name × LacksFile (Some (file_of files)) name) }
 {
     run_watched(alloc, words, files, input, Vec::new(alloc))
 }

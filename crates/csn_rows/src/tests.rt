@@ -205,6 +205,9 @@ fn words_are_held_against_the_table(rt: HostRuntime) -> Result<(), Fail> {
         &["segments", "both"],
         &["segments", "sent", "more"],
         &["soak", "uplink", "0"],
+        &["compat", "F", "M", "sent"],
+        &["compat", "F", "-F", "M", "sent"],
+        &["compat", "F", "F", "M", "both"],
     ];
     for case in cases {
         let words = words_of(alloc, case)?;

@@ -1,26 +1,66 @@
 -- Words, and the rows of the command table.
-use Rattle.std.proofs.Common.{◌≡◌, ◌↔◌, ◌⊎◌, inl, inr, ℕ, List, [], ◌∷◌, Option, None, IsSome, subst}
+use Rattle.std.proofs.Common.{◌≡◌, ◌↔◌, ◌≤◌, ◌⊎◌, inl, inr, ℕ, List, [], ◌∷◌, ◌++◌, length, Option, Some, None, IsSome, refl, sym, ◌∙◌, ap, subst, arith}
 use Rattle.csn_desc.specs.declared.reading.Reading.{Reading}
 use Rattle.csn_run.specs.declared.command.RuleCommand.{RuleCommand}
 use Rattle.csn_catalogue.specs.declared.entry.Entry.{Entry}
-use Rattle.csn_run.specs.Command.{IsCommand, IsOverRule, IsAnswer, IsMigrate, IsSoak, NamesFile, ReadsLines, leaves_report, leaves_soak}
+use Rattle.csn_run.specs.Command.{IsCommand, IsOverRule, IsAnswer, IsMigrate, IsSoak, IsCompat, NamesFile, NamesFiles, names_one, names_pair, rule_row, compat_row, ReadsLines, leaves_report, leaves_soak, leaves_compat}
 use Rattle.csn_run.specs.declared.command.Command.{Command}
 use Rattle.csn_replay.specs.Watched.{Watched}
-use Rattle.csn_run.specs.Job.{Asked}
-use Rattle.csn_run.specs.Result.{LineJob}
-use Rattle.csn_run.proofs.OneResult.{one_rule, over, answers, not_both, not_migrate, migrate_not_three, not_two, not_three, two_not_three}
+use Rattle.csn_run.specs.Job.{Asked, ComesTo}
+use Rattle.csn_run.specs.Result.{LineJob, comes_first, comes_second}
+use Rattle.csn_run.proofs.OneResult.{one_rule, one_pair, over, answers, not_both, not_migrate, migrate_not_three, not_two, not_three, not_five, two_not_three}
 
 -- words that no command stands for are no row
 pub no_row : (words : List (List ℕ)) (command : Option Command) → (IsSome command ↔ IsCommand words) → command ≡ None → IsCommand words → ⊥
 no_row words command row none is = let some : IsSome {T = Command} None = subst IsSome none (row.1 is) in absurd (cc)
 
 -- words that name a rule name its file alone
-pub one_file : {words : List (List ℕ)} {file name : List ℕ} {reading : Reading} → IsOverRule words file name reading → (other : List ℕ) → NamesFile words other → file ≡ other
-one_file row other names = (one_rule (over row).row (over names.2).row).file_is
+pub one_file : {words : List (List ℕ)} {file name : List ℕ} {reading : Reading} {files : List (List ℕ)} → IsOverRule words file name reading → NamesFiles words files → files ≡ file ∷ []
+one_file row (names_one other name reading row' is) = is ∙ ap (λ f. f ∷ []) (sym (one_rule (over row).row (over row').row).file_is)
+one_file row (names_pair before after name reading row' is) = absurd (not_five (over row) row'.words_are)
+
+-- and those of `compat` name both files
+pub two_files : {words : List (List ℕ)} {before after name : List ℕ} {reading : Reading} {files : List (List ℕ)} → IsCompat words before after name reading → NamesFiles words files → files ≡ before ∷ after ∷ []
+two_files row (names_one file name reading row' is) = absurd (not_five (over row') row.words_are)
+two_files {before = before} {after} row (names_pair before' after' name reading row' is) =
+    let same = one_pair row row' in is ∙ ap (λ b. b ∷ after' ∷ []) (sym same.before_is) ∙ ap (λ a. before ∷ a ∷ []) (sym same.after_is)
+
+-- words that name files are four or more, and are a row
+names_long : {words : List (List ℕ)} {files : List (List ℕ)} → NamesFiles words files → 4 ≤ length words
+names_long (names_one file name reading row is) = omega (arith, ap length (over row).row.words_are)
+names_long (names_pair before after name reading row is) = omega (arith, ap length row.words_are)
+
+pub no_files : {words : List (List ℕ)} {files : List (List ℕ)} → length words ≤ 3 → NamesFiles words files → ⊥
+no_files few names = omega (arith, few, names_long names)
+
+pub row_named : {words : List (List ℕ)} {files : List (List ℕ)} → NamesFiles words files → IsCommand words
+row_named (names_one file name reading row is) = rule_row file name reading row
+row_named (names_pair before after name reading row is) = compat_row before after name reading row
+
+-- a file that the run comes to is one that the words name
+pub comes_named : {words : List (List ℕ)} {file : List ℕ} (files : Option (List ℕ → Option (List ℕ))) → ComesTo words files file → NamesFile words file
+comes_named None named = named
+comes_named (Some files) (comes_first behind names) = ([], behind, names)
+comes_named (Some files) (comes_second before name text reading row held fits) = (before ∷ [], [], names_pair before _ name reading row refl)
+
+-- the one file that words name is what the run comes to
+pub one_comes : {words : List (List ℕ)} {file name other : List ℕ} {reading : Reading} (files : Option (List ℕ → Option (List ℕ))) → IsOverRule words file name reading → ComesTo words files other → other ≡ file
+one_comes {file = file} {other = other} files row comes = let named = comes_named files comes in go named.0 named.1 (one_file row named.2)
+  where
+    go : (front behind : List (List ℕ)) → front ++ other ∷ behind ≡ file ∷ [] → other ≡ file
+    go [] behind e = cc
+    go (x ∷ []) behind e = cc
+    go (x ∷ y ∷ front) behind e = cc
+
+-- and the run comes to it
+pub comes_to_one : {words : List (List ℕ)} {file name : List ℕ} {reading : Reading} (files : Option (List ℕ → Option (List ℕ))) → IsOverRule words file name reading → ComesTo words files file
+comes_to_one {file = file} {name} {reading} None row = ([], [], names_one file name reading row refl)
+comes_to_one {file = file} {name} {reading} (Some files) row = comes_first [] (names_one file name reading row refl)
 
 pub answer_reads : {words : List (List ℕ)} {file name : List ℕ} {reading : Reading} (command : RuleCommand) → IsAnswer command words file name reading → ReadsLines words
 answer_reads command row (leaves_report report file name reading reports) = not_both report command reports row
 answer_reads command row (leaves_soak entry n soak) = not_three (answers command row) soak.words_are
+answer_reads command row (leaves_compat before after name reading compat) = not_five (answers command row) compat.words_are
 
 -- a job that reads lines and leaves the source alone, or has come to its lines
 pub reads_too :
@@ -32,18 +72,24 @@ reads_too words files watchers reads (inr asked) = inr (reads, asked.0, asked.1)
 pub migrate_reads : {words : List (List ℕ)} → IsMigrate words → ReadsLines words
 migrate_reads is (leaves_report report file name reading reports) = not_migrate (over (inl (report, reports))) is
 migrate_reads is (leaves_soak entry n soak) = migrate_not_three is soak.words_are
+migrate_reads is (leaves_compat before after name reading compat) = omega (arith, ap length is, ap length compat.words_are)
 
 pub migrate_names : {words : List (List ℕ)} → IsMigrate words → (file : List ℕ) → NamesFile words file → ⊥
-migrate_names is file names = not_migrate (over names.2) is
+migrate_names is file names = omega (arith, ap length is, names_long names.2)
 
 -- words of two read lines, and name no file
 pub two_read : {words : List (List ℕ)} {first second : List ℕ} → words ≡ first ∷ second ∷ [] → ReadsLines words
 two_read is (leaves_report report file name reading reports) = not_two (over (inl (report, reports))) is
 two_read is (leaves_soak entry n soak) = two_not_three is soak.words_are
+two_read is (leaves_compat before after name reading compat) = omega (arith, ap length is, ap length compat.words_are)
 
 pub two_name : {words : List (List ℕ)} {first second : List ℕ} → words ≡ first ∷ second ∷ [] → (file : List ℕ) → NamesFile words file → ⊥
-two_name is file names = not_two (over names.2) is
+two_name is file names = omega (arith, ap length is, names_long names.2)
 
 -- and neither do words of three
 pub soak_names : {words : List (List ℕ)} {entry : Entry} {n : ℕ} → IsSoak words entry n → (file : List ℕ) → NamesFile words file → ⊥
-soak_names is file names = not_three (over names.2) is.words_are
+soak_names is file names = omega (arith, ap length is.words_are, names_long names.2)
+
+-- words of three or fewer come to no file
+pub comes_to_none : (words : List (List ℕ)) (file : List ℕ) (files : Option (List ℕ → Option (List ℕ))) → length words ≤ 3 → ComesTo words files file → ⊥
+comes_to_none words file files few comes = no_files few (comes_named files comes).2

@@ -17,12 +17,12 @@ use Rattle.csn_run.proofs.FormLemmas.{shown_text, shown_fits, shown_parts}
 use Rattle.csn_run.proofs.ShownLines.{one_tree}
 
 -- a line that is answered by a tree
-record Told (form : TreeForm) (rules : RulesV) (name : List ℕ) (reading : Reading) (line text : List ℕ) : Type 0 where
-  block : List ℕ
-  tree : TreeV
-  spells : BlockLine line block
-  string : Strings rules name reading block tree
-  shown : IsShown form tree text
+pub record Told (form : TreeForm) (rules : RulesV) (name : List ℕ) (reading : Reading) (line text : List ℕ) : Type 0 where
+  pub block : List ℕ
+  pub tree : TreeV
+  pub spells : BlockLine line block
+  pub string : Strings rules name reading block tree
+  pub shown : IsShown form tree text
 
 -- no fault is answered by a tree
 not_a_fault : (why : LineWhy) (text : List ℕ) → codes "ok " ++ text ≡ fault_text (fault_for why) → ⊥
@@ -31,7 +31,7 @@ not_a_fault BadLength text e = let first : 111 ≡ 98 = ap (λ w. slice_index w 
 not_a_fault BadFill text e = let first : 111 ≡ 98 = ap (λ w. slice_index w 0) e in omega (arith, first)
 not_a_fault TooManyBits text e = let first : 111 ≡ 98 = ap (λ w. slice_index w 0) e in omega (arith, first)
 
-told : (form : TreeForm) (rules : RulesV) (name : List ℕ) (reading : Reading) (line text : List ℕ) → Tells form rules name reading line text → Told form rules name reading line text
+pub told : (form : TreeForm) (rules : RulesV) (name : List ℕ) (reading : Reading) (line text : List ℕ) → Tells form rules name reading line text → Told form rules name reading line text
 told form rules name reading line text (shows_block block spells (shows_tree t written string shown e)) =
     let same : written ≡ text = cc in
     record { block = block; tree = t; spells = spells; string = string; shown = subst (λ w. IsShown form t w) same shown }

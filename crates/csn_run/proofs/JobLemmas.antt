@@ -48,7 +48,7 @@ use Rattle.csn_run.specs.Result.{LineJob, by_rule, migrating, Steps, beginning, 
 -- ---- what the words ask for over told files
 
 -- a file of which so few bytes were asked for that more were left is longer
-long_file : (files : List ℕ → Option (List ℕ)) (file front : List ℕ) → BeginsFile (Some files) file (MOST_DESCRIPTION + 1) front → MOST_DESCRIPTION < length front → (text : List ℕ) × (files file ≡ Some text) × (MOST_DESCRIPTION < length text)
+pub long_file : (files : List ℕ → Option (List ℕ)) (file front : List ℕ) → BeginsFile (Some files) file (MOST_DESCRIPTION + 1) front → MOST_DESCRIPTION < length front → (text : List ℕ) × (files file ≡ Some text) × (MOST_DESCRIPTION < length text)
 long_file files file front begins long = go (files file) refl begins
   where
     go : (o : Option (List ℕ)) → files file ≡ o → option_map (take (MOST_DESCRIPTION + 1)) o ≡ Some front → (text : List ℕ) × (files file ≡ Some text) × (MOST_DESCRIPTION < length text)
@@ -58,7 +58,7 @@ long_file files file front begins long = go (files file) refl begins
         (text, is, omega (arith, ap length same, length-take (MOST_DESCRIPTION + 1) text))
 
 -- the whole description in a file is what the file has
-whole_file : (files : List ℕ → Option (List ℕ)) (file text : List ℕ) → IsDescription (Some files) file text → files file ≡ Some text
+pub whole_file : (files : List ℕ → Option (List ℕ)) (file text : List ℕ) → IsDescription (Some files) file text → files file ≡ Some text
 whole_file files file text is = go (files file) refl is.front
   where
     go : (o : Option (List ℕ)) → files file ≡ o → option_map (take (MOST_DESCRIPTION + 1)) o ≡ Some text → files file ≡ Some text
@@ -86,7 +86,7 @@ pub ended_reported :
     (words : List (List ℕ)) (files : Option (List ℕ → Option (List ℕ))) (report : RuleReport) (rule : RuleWords) (d : DescV) (written : List ℕ)
     → IsReport report words rule.file.now rule.name.now rule.reading → IsPlanned files rule d → Reports report d written
     → EndedBefore words files written Done
-ended_reported words None report rule d written row is told = inr (refl, λ reads. reads (leaves_report report rule.file.now rule.name.now rule.reading row))
+ended_reported words None report rule d written row is told = inr (inl refl, λ reads. reads (leaves_report report rule.file.now rule.name.now rule.reading row))
 ended_reported words (Some files) report rule d written row is told =
     reported report rule.file.now rule.name.now is.text rule.reading is.rules d row (whole_file files rule.file.now is.text is.fetched) is.fetched.fits is.compiled told refl
 
@@ -102,7 +102,7 @@ no_plan_of text name reading (Plan (Conflict conflict)) line ended is tells = no
 no_plan_of text name reading (Plan no_memory_for_plan) line ended is tells = absurd tells
 
 -- it comes before the lines
-tells_before : (reason : NoPlan) (line : List ℕ) (ended : Ended) → Tells reason line ended → IsBeforeLines ended
+pub tells_before : (reason : NoPlan) (line : List ℕ) (ended : Ended) → Tells reason line ended → IsBeforeLines ended
 tells_before (Rules (Syntax place)) line ended tells = inl tells.1
 tells_before (Rules no_memory_for_rules) line ended tells = absurd tells
 tells_before (Description (Refused why place)) line ended tells = inl tells.1
@@ -250,7 +250,7 @@ pub soak_ends :
     → IfOk end (λ ended. (ended ≡ Done) × (waits ≡ soaked_line n counts ++ 10 ∷ [])) → IfErr end (λ fault. (fault ≡ Memory) × (waits ≡ []))
     → JobEnds words files watchers left left taken taken waits end
 soak_ends words None watchers entry n rules d counts left taken waits (Ok ended) row fits is from ok err =
-    before_lines (inr (ok.0, λ reads. reads (leaves_soak entry n row))) refl refl
+    before_lines (inr (inl ok.0, λ reads. reads (leaves_soak entry n row))) refl refl
 soak_ends words (Some files) watchers entry n rules d counts left taken waits (Ok ended) row fits is from ok err =
     before_lines (soaked entry n rules d counts row fits is from ok.1 ok.0) refl refl
 soak_ends words files watchers entry n rules d counts left taken waits (Err fault) row fits is from ok err = unread refl refl err.1 (inr (ap Err err.0))

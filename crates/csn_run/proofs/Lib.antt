@@ -26,5 +26,7 @@ pub mod ReplayedLines
 pub mod EntryPlans
 pub mod WrittenLines
 pub mod OneTree
+pub mod PairLemmas
+pub mod OldBlocks
 pub mod SoakedBlocks
 mod CertificateTexts

@@ -25,9 +25,9 @@ use Rattle.csn_run.specs.declared.command.TreeForm.TheVariants.{Text, Json}
 use Rattle.csn_run.specs.declared.ended.Ended.{Ended}
 use Rattle.csn_run.specs.declared.compile.TheConstants.{MOST_DESCRIPTION}
 use Rattle.csn_run.specs.Known.{KnownOfTexts}
-use Rattle.csn_run.specs.Command.{word_of, command_word, report_word, NamesRule, NamesReading, IsReport, IsAnswer, IsMigrate, IsSegments, IsReplay, IsSoak, IsOverRule, IsOverEntries, over_downlink, over_all, over_soaked}
-use Rattle.csn_run.specs.Compiled.{RuleOf, rule_of_entry, line_of, conflict_line, soaked_line, AreCompiled, IsCompiled, HasNoPlan, no_rules, rules_refused, not_certified}
-use Rattle.csn_run.specs.Result.{LineJob, by_rule, segmenting, replaying, AsksFor, asks_by_rule, asks_migrate, asks_segments, asks_replay, AnswersInput, HasJob, Compiles, of_file, of_catalogue, HasNoJob, long_text, no_plan, Reports, EndsBefore, no_job, reported, soaked, no_line, lines}
+use Rattle.csn_run.specs.Command.{word_of, command_word, report_word, NamesRule, NamesReading, IsReport, IsAnswer, IsMigrate, IsSegments, IsReplay, IsSoak, IsCompat, IsOverRule, IsOverEntries, over_downlink, over_all, over_soaked}
+use Rattle.csn_run.specs.Compiled.{RuleOf, rule_of_entry, line_of, conflict_line, soaked_line, AreCompiled, IsCompiled, HasNoPlan, no_rules, rules_refused, not_certified, Compares, compares_ok, compares_no}
+use Rattle.csn_run.specs.Result.{LineJob, by_rule, segmenting, replaying, AsksFor, asks_by_rule, asks_migrate, asks_segments, asks_replay, AnswersInput, HasJob, Compiles, of_file, of_catalogue, of_pair, HasNoJob, long_text, no_plan, Reports, EndsPair, long_before, long_after, compared, EndsBefore, no_job, reported, soaked, of_two, no_line, lines}
 use Rattle.csn_run.specs.Laws.{LinesHaveOneAnswer, RunsHaveOneResult}
 use Rattle.csn_soak.specs.Soaking.{IsSoaked}
 use Rattle.csn_run.proofs.OneInput.{Written, one_input}
@@ -121,6 +121,10 @@ pub not_three : {words : List (List ℕ)} {file name first second third : List �
 not_three {words} {file} {name} {first} {second} {third} {reading} rule is =
     let all : rule.command ∷ file ∷ name ∷ word_of reading ∷ [] ≡ first ∷ second ∷ third ∷ [] = sym rule.row.words_are ∙ is in cc
 
+-- nor of five
+pub not_five : {words : List (List ℕ)} {file name first second third fourth fifth : List ℕ} {reading : Reading} → OverRule words file name reading → words ≡ first ∷ second ∷ third ∷ fourth ∷ fifth ∷ [] → ⊥
+not_five rule is = omega (arith, ap length rule.row.words_are, ap length is)
+
 pub two_not_three : {words : List (List ℕ)} {one other first second third : List ℕ} → words ≡ one ∷ other ∷ [] → words ≡ first ∷ second ∷ third ∷ [] → ⊥
 two_not_three {words} {one} {other} {first} {second} {third} is has =
     let all : one ∷ other ∷ [] ≡ first ∷ second ∷ third ∷ [] = sym is ∙ has in cc
@@ -132,6 +136,22 @@ migrate_not_three {words} {first} {second} {third} row is =
 pub migrate_alone : {words : List (List ℕ)} {first second : List ℕ} → IsMigrate words → words ≡ first ∷ second ∷ [] → ⊥
 migrate_alone {words} {first} {second} row is =
     let all : codes "migrate" ∷ [] ≡ first ∷ second ∷ [] = sym row ∙ is in cc
+
+-- words of `compat` name one pair of files, one rule and one reading
+pub record OnePair (before before' after after' name name' : List ℕ) (reading reading' : Reading) : Type 0 where
+  pub before_is : before ≡ before'
+  pub after_is : after ≡ after'
+  pub name_is : name ≡ name'
+  pub reading_is : reading ≡ reading'
+
+pub one_pair :
+    {words : List (List ℕ)} {before before' after after' name name' : List ℕ} {reading reading' : Reading}
+    → IsCompat words before after name reading → IsCompat words before' after' name' reading'
+    → OnePair before before' after after' name name' reading reading'
+one_pair {words} {before} {before'} {after} {after'} {name} {name'} {reading} {reading'} row row' =
+    let all : codes "compat" ∷ before ∷ after ∷ name ∷ word_of reading ∷ [] ≡ codes "compat" ∷ before' ∷ after' ∷ name' ∷ word_of reading' ∷ [] = sym row.words_are ∙ row'.words_are in
+    let read : word_of reading ≡ word_of reading' = cc in
+    record { before_is = cc; after_is = cc; name_is = cc; reading_is = one_reading_word reading reading' read }
 
 -- words of two name one reading
 pub same_reading : {words : List (List ℕ)} {command other : List ℕ} {reading reading' : Reading} → NamesReading command words reading → NamesReading other words reading' → reading ≡ reading'
@@ -151,6 +171,14 @@ not_segments_and_replay {words} reading reading' is is' =
 abbrev pub rule_of : List ℕ → List ℕ → Reading → RuleOf
 rule_of text name reading = record { text = text; name = name; reading = reading }
 
+same_rule : {text text' name name' : List ℕ} {reading reading' : Reading} → text ≡ text' → name ≡ name' → reading ≡ reading' → rule_of text name reading ≡ rule_of text' name' reading'
+same_rule {text} {text'} {name} {name'} {reading} {reading'} texts names readings =
+    ap (λ t. rule_of t name reading) texts ∙ ap (λ n. rule_of text' n reading) names ∙ ap (λ r. rule_of text' name' r) readings
+
+-- a file has one text
+pub one_held : {held : Option (List ℕ)} {text other : List ℕ} → held ≡ Some text → held ≡ Some other → text ≡ other
+one_held {held} {text} {other} is has = let there : Some text ≡ Some other = sym is ∙ has in cc
+
 pub first_of : {rule other : RuleOf} {rest others : List RuleOf} → rule ∷ rest ≡ other ∷ others → rule ≡ other
 first_of e = cc
 
@@ -162,6 +190,12 @@ not_entries : {words : List (List ℕ)} {file name : List ℕ} {reading reading'
 not_entries rule (over_downlink row is) = not_two rule row
 not_entries rule (over_all row is) = not_two rule row
 not_entries rule (over_soaked entry n row is sent) = not_three rule row.words_are
+
+-- words over entries are three at most
+pub entries_short : {words : List (List ℕ)} {reading : Reading} {entries : List Entry} → IsOverEntries words entries reading → length words ≤ 3
+entries_short (over_downlink row is) = omega (arith, ap length row)
+entries_short (over_all row is) = omega (arith, ap length row)
+entries_short (over_soaked entry n row is sent) = omega (arith, ap length row.words_are)
 
 migrate_no_entries : {words : List (List ℕ)} {reading : Reading} {entries : List Entry} → IsMigrate words → IsOverEntries words entries reading → ⊥
 migrate_no_entries row (over_downlink row' is) = migrate_alone row row'
@@ -197,6 +231,15 @@ one_list_compiles words files all others (of_catalogue entries reading row is) (
 one_list_compiles words files all others (of_catalogue entries reading row is) (of_catalogue entries' reading' row' is') =
     let same = one_entries row row' in
     is ∙ ap (λ r. map (rule_of_entry r) entries) same.1 ∙ ap (map (rule_of_entry reading')) same.0 ∙ sym is'
+one_list_compiles words files all others (of_file file name text reading row held is) (of_pair before after name' was now reading' row' held' has' fits fits' is') = absurd (not_five (over row) row'.words_are)
+one_list_compiles words files all others (of_pair before after name' was now reading' row' held' has' fits fits' is') (of_file file name text reading row held is) = absurd (not_five (over row) row'.words_are)
+one_list_compiles words files all others (of_catalogue entries reading row is) (of_pair before after name' was now reading' row' held' has' fits fits' is') = absurd (omega (arith, entries_short row, ap length row'.words_are))
+one_list_compiles words files all others (of_pair before after name' was now reading' row' held' has' fits fits' is') (of_catalogue entries reading row is) = absurd (omega (arith, entries_short row, ap length row'.words_are))
+one_list_compiles words files all others (of_pair before after name was now reading row held has few small is) (of_pair before' after' name' was' now' reading' row' held' has' few' small' is') =
+    let same = one_pair row row' in
+    let old = same_rule (one_held held (ap files same.before_is ∙ held')) same.name_is same.reading_is in
+    let new = same_rule (one_held has (ap files same.after_is ∙ has')) same.name_is same.reading_is in
+    is ∙ ap (λ r. r ∷ rule_of now name reading ∷ []) old ∙ ap (λ r. rule_of was' name' reading' ∷ r ∷ []) new ∙ sym is'
 
 -- where all rules have a job, each has one
 pub holds_at : (front : List RuleOf) (rule : RuleOf) (behind : List RuleOf) → AllByRecursion HasJob (front ++ rule ∷ behind) → HasJob rule
@@ -339,6 +382,78 @@ module _ (known : KnownOfTexts) where
     soaked_compiles {entry} {n} {rules} {d} row fits compiled =
         (of_catalogue (entry ∷ []) Sent (over_soaked entry n row refl refl) refl, ((fits, rules, d, compiled), tt))
 
+    -- and both that `compat` compiles
+    pub pair_compiles :
+        {before after name was now : List ℕ} {reading : Reading} {rules others : RulesV} {d e : DescV} → IsCompat words before after name reading
+        → files before ≡ Some was → files after ≡ Some now → length was ≤ MOST_DESCRIPTION → length now ≤ MOST_DESCRIPTION
+        → IsCompiled was name reading rules d → IsCompiled now name reading others e
+        → Compiles words files (rule_of was name reading ∷ rule_of now name reading ∷ []) × AllByRecursion HasJob (rule_of was name reading ∷ rule_of now name reading ∷ [])
+    pair_compiles {before} {after} {name} {was} {now} {reading} {rules} {others} {d} {e} row held has few small is js =
+        (of_pair before after name was now reading row held has few small refl, ((few, rules, d, is), ((small, others, e, js), tt)))
+
+    -- both texts that `compat` compiles fit
+    record BothFit (before after : List ℕ) : Type 0 where
+      was : List ℕ
+      now : List ℕ
+      held : files before ≡ Some was
+      has : files after ≡ Some now
+      few : length was ≤ MOST_DESCRIPTION
+      small : length now ≤ MOST_DESCRIPTION
+
+    both_fit : {before after name : List ℕ} {reading : Reading} {all : List RuleOf} → IsCompat words before after name reading → Compiles words files all → BothFit before after
+    both_fit row (of_file file name' text reading' row' held' is) = absurd (not_five (over row') row.words_are)
+    both_fit row (of_catalogue entries reading' row' is) = absurd (omega (arith, entries_short row', ap length row.words_are))
+    both_fit row (of_pair before' after' name' was now reading' row' held has few small is) =
+        let same = one_pair row row' in
+        record { was = was; now = now; held = ap files same.before_is ∙ held; has = ap files same.after_is ∙ has; few = few; small = small }
+
+    -- a pair of files that is told has no rule without a job
+    pair_or_none :
+        {before after name : List ℕ} {reading : Reading} (front : List RuleOf) (rule : RuleOf) (behind : List RuleOf) {w v : List ℕ} {e f : Ended} → IsCompat words before after name reading
+        → Compiles words files (front ++ rule ∷ behind) → HasNoJob rule.text rule.name rule.reading w e → EndsPair files before after name reading v f → ⊥
+    pair_or_none front rule behind row compiles none (long_before was held long is end) =
+        let fit = both_fit row compiles in omega (arith, long, fit.few, ap length (one_held held fit.held))
+    pair_or_none front rule behind row compiles none (long_after was now held few has long is end) =
+        let fit = both_fit row compiles in omega (arith, long, fit.small, ap length (one_held has fit.has))
+    pair_or_none front rule behind row compiles none (compared was now line rules others d e held has few small compiled compiled' compares is) =
+        let all = pair_compiles row held has few small compiled compiled' in all_or_none front rule behind _ compiles all.0 all.1 none
+
+    one_compares : {d e : DescV} {w v : List ℕ} {x y : Ended} → Compares d e w x → Compares d e v y → Written w x v y
+    one_compares (compares_ok takes is end) (compares_ok takes' is' end') = (is ∙ sym is', end ∙ sym end')
+    one_compares (compares_ok takes is end) (compares_no not is' end') = absurd (not takes)
+    one_compares (compares_no not is end) (compares_ok takes is' end') = absurd (not takes)
+    one_compares (compares_no not is end) (compares_no not' is' end') = (is ∙ sym is', end ∙ sym end')
+
+    one_pair_ends : {before after name : List ℕ} {reading : Reading} (w v : List ℕ) (e f : Ended) → EndsPair files before after name reading w e → EndsPair files before after name reading v f → Written w e v f
+    one_pair_ends w v e f (long_before was held long is end) (long_before was' held' long' is' end') = (is ∙ sym is', end ∙ sym end')
+    one_pair_ends w v e f (long_before was held long is end) (long_after was' now' held' few' has' long' is' end') = absurd (omega (arith, long, few', ap length (one_held held held')))
+    one_pair_ends w v e f (long_before was held long is end) (compared was' now' line' rules' others' d' e' held' has' few' small' a' b' compares' is') = absurd (omega (arith, long, few', ap length (one_held held held')))
+    one_pair_ends w v e f (long_after was now held few has long is end) (long_before was' held' long' is' end') = absurd (omega (arith, long', few, ap length (one_held held held')))
+    one_pair_ends w v e f (long_after was now held few has long is end) (long_after was' now' held' few' has' long' is' end') = (is ∙ sym is', end ∙ sym end')
+    one_pair_ends w v e f (long_after was now held few has long is end) (compared was' now' line' rules' others' d' e' held' has' few' small' a' b' compares' is') = absurd (omega (arith, long, small', ap length (one_held has has')))
+    one_pair_ends w v e f (compared was now line rules others d e' held has few small a b compares is) (long_before was' held' long' is' end') = absurd (omega (arith, long', few, ap length (one_held held held')))
+    one_pair_ends w v e f (compared was now line rules others d e' held has few small a b compares is) (long_after was' now' held' few' has' long' is' end') = absurd (omega (arith, long', small, ap length (one_held has has')))
+    one_pair_ends {name = name} {reading} w v e f (compared was now line rules others d x held has few small a b compares is) (compared was' now' line' rules' others' d' x' held' has' few' small' a' b' compares' is') =
+        let P : List ℕ → Type 0 = λ t. IsCompiled t name reading rules d in
+        let Q : List ℕ → Type 0 = λ t. IsCompiled t name reading others x in
+        let old = one_compiled (subst P (one_held held held') a) a' in
+        let new = one_compiled (subst Q (one_held has has') b) b' in
+        let R : DescV → Type 0 = λ y. Compares y x line e in
+        let S : DescV → Type 0 = λ y. Compares d' y line e in
+        let same = one_compares (subst S new (subst R old compares)) compares' in
+        (is ∙ ap (λ l. l ++ 10 ∷ []) same.0 ∙ sym is', same.1)
+
+    one_two :
+        {before before' after after' name name' : List ℕ} {reading reading' : Reading} (w v : List ℕ) (e f : Ended) → IsCompat words before after name reading → IsCompat words before' after' name' reading'
+        → EndsPair files before after name reading w e → EndsPair files before' after' name' reading' v f → Written w e v f
+    one_two {before} {before'} {after} {after'} {name} {name'} {reading} {reading'} w v e f row row' ends ends' =
+        let same = one_pair row row' in
+        let P : List ℕ → Type 0 = λ b. EndsPair files b after name reading w e in
+        let Q : List ℕ → Type 0 = λ a. EndsPair files before' a name reading w e in
+        let R : List ℕ → Type 0 = λ n. EndsPair files before' after' n reading w e in
+        let S : Reading → Type 0 = λ r. EndsPair files before' after' name' r w e in
+        one_pair_ends w v e f (subst S same.reading_is (subst R same.name_is (subst Q same.after_is (subst P same.before_is ends)))) ends'
+
     one_before : (w v : List ℕ) (e f : Ended) → EndsBefore words files w e → EndsBefore words files v f → Written w e v f
     one_before w v e f (no_job front rule behind compiles has none) (no_job front' rule' behind' compiles' has' none') =
         let same = one_first front front' rule rule' behind behind' w v e f (one_list_compiles words files _ _ compiles compiles') has has' none none' in
@@ -372,6 +487,13 @@ module _ (known : KnownOfTexts) where
         let S : DescV → Type 0 = λ x. IsSoaked x entry' n' counts in
         let all = one_soaked (subst S one (subst R same.1 (subst Q same.0 from))) from' in
         (is ∙ ap (λ m. soaked_line m counts ++ 10 ∷ []) same.1 ∙ ap (λ s. soaked_line n' s ++ 10 ∷ []) all ∙ sym is', end ∙ sym end')
+    one_before w v e f (no_job front rule behind compiles has none) (of_two before after name reading row ends) = absurd (pair_or_none front rule behind row compiles none ends)
+    one_before w v e f (of_two before after name reading row ends) (no_job front rule behind compiles has none) = absurd (pair_or_none front rule behind row compiles none ends)
+    one_before w v e f (reported report file name text reading rules d row held fits compiled is end) (of_two before' after' name' reading' row' ends) = absurd (not_five (over (inl (report, row))) row'.words_are)
+    one_before w v e f (of_two before' after' name' reading' row' ends) (reported report file name text reading rules d row held fits compiled is end) = absurd (not_five (over (inl (report, row))) row'.words_are)
+    one_before w v e f (soaked entry n rules d counts row fits compiled from is end) (of_two before' after' name' reading' row' ends) = absurd (omega (arith, ap length row.words_are, ap length row'.words_are))
+    one_before w v e f (of_two before' after' name' reading' row' ends) (soaked entry n rules d counts row fits compiled from is end) = absurd (omega (arith, ap length row.words_are, ap length row'.words_are))
+    one_before w v e f (of_two before after name reading row ends) (of_two before' after' name' reading' row' ends') = one_two w v e f row row' ends ends'
 
     -- ---- which job the words ask for
 
@@ -409,12 +531,20 @@ module _ (known : KnownOfTexts) where
         subst (λ (l : List RuleOf). AllByRecursion HasJob l) (one_list_compiles words files _ all here.0 compiles) here.1
     jobs_compile job all (asks_migrate row is) (of_file file name text reading row' held is') = absurd (not_migrate (over row') row)
     jobs_compile job all (asks_migrate row is) (of_catalogue entries reading row' is') = absurd (migrate_no_entries row row')
+    jobs_compile job all (asks_migrate row is) (of_pair before after name was now reading row' held has few small is') = absurd (omega (arith, ap length row, ap length row'.words_are))
     jobs_compile job all (asks_segments reading rules d row fits compiled is) compiles =
         let here : AllByRecursion HasJob (rule_of_entry reading Downlink ∷ []) = ((fits, rules, d, compiled), tt) in
         subst (λ (l : List RuleOf). AllByRecursion HasJob l) (one_list_compiles words files (rule_of_entry reading Downlink ∷ []) all (of_catalogue (Downlink ∷ []) reading (over_downlink row refl) refl) compiles) here
     jobs_compile job all (asks_replay reading rules plans row fits compiled is) compiles =
         subst (λ (l : List RuleOf). AllByRecursion HasJob l) (one_list_compiles words files (map (rule_of_entry reading) all_entries) all (of_catalogue all_entries reading (over_all row refl) refl) compiles)
         (all_have_jobs fits reading rules all_entries plans compiled)
+
+    -- `compat` has no job over lines
+    pub pair_no_job : {watchers : List Watched} {job : LineJob} {before after name : List ℕ} {reading : Reading} → IsCompat words before after name reading → AsksFor words files watchers job → ⊥
+    pair_no_job row (asks_by_rule command file' name' text' reading' rules' d' row' held' fits' compiled' is') = not_five (answers command row') row.words_are
+    pair_no_job row (asks_migrate row' is') = omega (arith, ap length row', ap length row.words_are)
+    pair_no_job row (asks_segments reading' rules' d' row' fits' compiled' is') = omega (arith, ap length row', ap length row.words_are)
+    pair_no_job row (asks_replay reading' rules' plans' row' fits' compiled' is') = omega (arith, ap length row', ap length row.words_are)
 
     -- a run that comes to no line has no job over lines
     pub before_or_job : {w : List ℕ} {e : Ended} {watchers : List Watched} (job : LineJob) → EndsBefore words files w e → AsksFor words files watchers job → ⊥
@@ -427,6 +557,7 @@ module _ (known : KnownOfTexts) where
     before_or_job job (soaked entry n rules d counts row fits compiled from is end) (asks_migrate row' is') = migrate_not_three row' row.words_are
     before_or_job job (soaked entry n rules d counts row fits compiled from is end) (asks_segments reading' rules' d' row' fits' compiled' is') = two_not_three row' row.words_are
     before_or_job job (soaked entry n rules d counts row fits compiled from is end) (asks_replay reading' rules' plans' row' fits' compiled' is') = two_not_three row' row.words_are
+    before_or_job job (of_two before after name reading row ends) asked = pair_no_job row asked
 
 pub one_result : KnownOfTexts → LinesHaveOneAnswer → RunsHaveOneResult
 one_result known one_in_job words files watchers input w v e f (no_line before) (no_line before') = one_before known words files w v e f before before'

@@ -11,8 +11,8 @@ use Rattle.csn_run.specs.declared.fault.Fault.{Fault}
 use Rattle.csn_run.specs.Known.{Known}
 use Rattle.csn_run.specs.Compiled.{RuleOf, no_rules, rules_refused, not_certified}
 use Rattle.csn_run.specs.Job.{JobEnds, unread, before_lines, all_lines, some_lines, end_with}
-use Rattle.csn_run.specs.Result.{LineJob, AsksFor, HasJob, Compiles, EndsBefore, no_job, reported, soaked, long_text, no_plan, RulesHaveOneTree}
-use Rattle.csn_run.proofs.OneResult.{holds_at, one_list_compiles, checked_compiles, soaked_compiles, jobs_compile}
+use Rattle.csn_run.specs.Result.{LineJob, AsksFor, HasJob, Compiles, EndsBefore, no_job, reported, soaked, of_two, long_text, no_plan, long_before, long_after, compared, RulesHaveOneTree}
+use Rattle.csn_run.proofs.OneResult.{holds_at, one_list_compiles, checked_compiles, soaked_compiles, pair_compiles, jobs_compile}
 use Rattle.csn_run.proofs.ResultLemmas.{IsAnswered, fault_answered, ended_apart}
 use Rattle.csn_run.proofs.ShownLines.{one_tree}
 
@@ -38,6 +38,10 @@ module _ (known : Known) (words : List (List ℕ)) (files : List ℕ → Option 
       let all = checked_compiles known.of_texts words files (inl (report, row)) held fits compiled in all_one_tree _ all.0 all.1
   before_one_tree written ended (soaked entry n rules d counts row fits compiled from is e) answered =
       let all = soaked_compiles known.of_texts words files row fits compiled in all_one_tree _ all.0 all.1
+  before_one_tree written ended (of_two before after name reading row (long_before was held long is e)) answered = absurd (ended_apart _ _ e (λ h. cc) (λ h. cc) answered)
+  before_one_tree written ended (of_two before after name reading row (long_after was now held few has long is e)) answered = absurd (ended_apart _ _ e (λ h. cc) (λ h. cc) answered)
+  before_one_tree written ended (of_two before after name reading row (compared was now line rules others d e held has few small a b compares is)) answered =
+      let all = pair_compiles known.of_texts words files row held has few small a b in all_one_tree _ all.0 all.1
 
   pub one_tree_of :
       {watchers : List Watched} {left left' taken taken' : Option (List ℕ)} {waits : List ℕ} (end : Result Ended Fault)

@@ -1,10 +1,13 @@
 -- What a sink took and what a source gave, over several calls.
-use Rattle.std.proofs.Common.{◌≡◌, ℕ, ◌+◌, ◌-◌, ◌<◌, ◌≤◌, List, [], ◌++◌, length, take, drop, refl, sym, ◌∙◌, ap, arith, length-drop, Option, Some, None}
+use Rattle.std.proofs.Common.{◌≡◌, ℕ, ◌+◌, ◌-◌, ◌<◌, ◌≤◌, inl, inr, subst, List, [], ◌∷◌, ◌++◌, length, take, drop, refl, sym, ◌∙◌, ap, arith, length-drop, Option, Some, None}
 use Rattle.std.proofs.lemmas.List.{append-nil, length-take, take-append-drop, take_all}
 use Rattle.std.proofs.Math.Seq.{take-append-add}
 use Rattle.csn_io.specs.Put.{Appended}
 use Rattle.csn_io.specs.Got.{Gave}
-use Rattle.csn_run.specs.Outside.{Keeps}
+use Rattle.std.specs.Prelude.{Result, Vec}
+use Rattle.std.specs.declared.alloc.Global.{Global}
+use Rattle.csn_io.specs.declared.shelf.ShelfFault.{ShelfFault}
+use Rattle.csn_run.specs.Outside.{Keeps, LeftByFetch, LeftByFetches}
 
 -- a slice from p on is what is left behind p
 pub slice_from : (p : ℕ) (xs : List ℕ) → take (length xs - p) (drop p xs) ≡ drop p xs
@@ -72,3 +75,17 @@ keeps_both f g first next = (
   λ steady. (let here = first.1 steady in let there = next.1 here.0 in (there.0, there.1 ∙ here.1)),
   λ none. next.2 (λ q. none (g q)) ∙ first.2 (λ p. none (f p)),
 )
+
+-- ---- calls for files
+
+-- a call for the one file
+pub fetches_one :
+    {Shelf : Type 0} (gives : Shelf → List ℕ → Result (Vec ℕ Global) ShelfFault → Shelf → Type 0) {file : List ℕ} {files : List (List ℕ)} (before after : Shelf)
+    → files ≡ file ∷ [] → LeftByFetch (gives before file) after → LeftByFetches gives files before after
+fetches_one gives before after is fetched = subst (λ l. LeftByFetches gives l before after) (sym is) (after, fetched, inl refl)
+
+-- calls for the same files
+pub fetches_same :
+    {Shelf : Type 0} (gives : Shelf → List ℕ → Result (Vec ℕ Global) ShelfFault → Shelf → Type 0) {files others : List (List ℕ)} (before after : Shelf)
+    → files ≡ others → LeftByFetches gives others before after → LeftByFetches gives files before after
+fetches_same gives before after is fetched = subst (λ l. LeftByFetches gives l before after) (sym is) fetched

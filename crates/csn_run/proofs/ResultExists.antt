@@ -17,15 +17,15 @@ use Rattle.csn_replay.specs.Watched.{Watched}
 use Rattle.csn_resolve.specs.Why.{number_of}
 use Rattle.csn_resolve.specs.Resolved.{IsResolved}
 use Rattle.csn_run.specs.declared.ended.Ended.{Ended}
-use Rattle.csn_run.specs.declared.ended.Ended.TheVariants.{Done, BadDescription, NotCertified, TooLong}
+use Rattle.csn_run.specs.declared.ended.Ended.TheVariants.{Done, SomeRefused, BadDescription, NotCertified, TooLong}
 use Rattle.csn_run.specs.declared.compile.TheConstants.{MOST_DESCRIPTION}
 use Rattle.csn_run.specs.Known.{KnownOfTexts}
 use Rattle.csn_run.specs.declared.command.RuleReport.{RuleReport}
 use Rattle.csn_run.specs.declared.command.RuleReport.TheVariants.{Check, Certificate}
-use Rattle.csn_run.specs.Command.{IsReport, IsOverRule, IsOverEntries, over_downlink, over_all, over_soaked, rule_row, entries_row, migrate_row}
-use Rattle.csn_run.specs.Compiled.{RuleOf, rule_of_entry, line_of, conflict_line, certified_line, soaked_line, HasNoPlan, no_rules, rules_refused, not_certified, AreCompiled, IsCompiled}
+use Rattle.csn_run.specs.Command.{IsReport, IsOverRule, IsOverEntries, IsCompat, over_downlink, over_all, over_soaked, rule_row, entries_row, migrate_row, compat_row, names_one, names_pair}
+use Rattle.csn_run.specs.Compiled.{RuleOf, rule_of_entry, line_of, conflict_line, certified_line, soaked_line, HasNoPlan, no_rules, rules_refused, not_certified, AreCompiled, IsCompiled, compares_ok, compares_no}
 use Rattle.csn_run.specs.Laws.{IsDecided, HasCertificate, LinesHaveAnswers, RunsHaveResults}
-use Rattle.csn_run.specs.Result.{LineJob, by_rule, migrating, segmenting, AsksFor, asks_by_rule, asks_migrate, asks_segments, HasJob, Compiles, of_file, of_catalogue, HasNoJob, long_text, no_plan, no_job, reported, soaked, Result, no_line, lines, replaying, asks_replay}
+use Rattle.csn_run.specs.Result.{LineJob, by_rule, migrating, segmenting, AsksFor, asks_by_rule, asks_migrate, asks_segments, HasJob, Compiles, of_file, of_catalogue, of_pair, HasNoJob, long_text, no_plan, no_job, reported, soaked, of_two, long_before, long_after, compared, Result, no_line, lines, replaying, asks_replay}
 use Rattle.csn_look.specs.declared.word.TheConstants.{MOST_WORD}
 use Rattle.csn_certify.specs.declared.conflict.Conflict.{Conflict}
 use Rattle.csn_certify.specs.Conflicts.{Certified, IsFirstConflict}
@@ -92,7 +92,7 @@ module _ (known : KnownOfTexts) (decides : MeaningIsDecided) (each_in_job : Line
     -- the first rule that has no job is told, or all have one
     first_told : (front rest : List RuleOf) → Compiles words files (front ++ rest) → AllByRecursion HasJob front → HasResult ⊎ AllByRecursion HasJob (front ++ rest)
     first_told front [] compiles has = inr (subst (λ (l : List RuleOf). AllByRecursion HasJob l) (sym (append-nil front)) has)
-    first_told front (rule ∷ rest) compiles has = elim (job_decided rule (λ rules d has_rules resolved. decided front rest rule rules d compiles has_rules resolved)) [
+    first_told front (rule ∷ rest) compiles has = elim (job_decided rule (λ rules d has_rules resolved. decided.certified front rest rule rules d compiles has_rules resolved)) [
       | inr none ↦ inl (none.0, none.1, no_line (no_job front rule rest compiles has none.2))
       | inl job ↦
           let split : front ++ rule ∷ rest ≡ (front ++ rule ∷ []) ++ rest = sym (append_assoc front (rule ∷ []) rest) in
@@ -119,6 +119,32 @@ module _ (known : KnownOfTexts) (decides : MeaningIsDecided) (each_in_job : Line
         compiled (inl report) job = reported_result report.0 report.1 job
         compiled (inr answer) job = job_result (by_rule answer.0 job.1 name reading) (asks_by_rule answer.0 file name text reading job.1 job.2 answer.1 held job.0 job.3 refl)
 
+    pair_result : (before after name was now : List ℕ) (reading : Reading) (row : IsCompat words before after name reading) → files before ≡ Some was → files after ≡ Some now → HasResult
+    pair_result before after name was now reading row held has = elim (cases_lt MOST_DESCRIPTION (length was)) [
+      | inl long ↦ ([], TooLong, no_line (of_two before after name reading row (long_before was held long refl refl)))
+      | inr few ↦ elim (cases_lt MOST_DESCRIPTION (length now)) [
+        | inl long ↦ ([], TooLong, no_line (of_two before after name reading row (long_after was now held few has long refl refl)))
+        | inr small ↦ elim (first_told [] (rule_of was name reading ∷ rule_of now name reading ∷ []) (of_pair before after name was now reading row held has few small refl) tt) [
+          | inl result ↦ result
+          | inr all ↦ both few small all.0 all.1.0
+        ]
+      ]
+    ]
+      where
+        both : length was ≤ MOST_DESCRIPTION → length now ≤ MOST_DESCRIPTION → HasJob (rule_of was name reading) → HasJob (rule_of now name reading) → HasResult
+        both few small job other = elim (decided.compared before after name reading job.2 other.2 row job.3.certified other.3.certified) [
+          | inl takes ↦ (
+            codes "ok compat" ++ 10 ∷ [],
+            Done,
+            no_line (of_two before after name reading row (compared was now (codes "ok compat") job.1 other.1 job.2 other.2 held has few small job.3 other.3 (compares_ok takes refl refl) refl)),
+          )
+          | inr not ↦ (
+            codes "no compat" ++ 10 ∷ [],
+            SomeRefused,
+            no_line (of_two before after name reading row (compared was now (codes "no compat") job.1 other.1 job.2 other.2 held has few small job.3 other.3 (compares_no not refl refl) refl)),
+          )
+        ]
+
     entries_result : (entries : List Entry) (reading : Reading) → IsOverEntries words entries reading → HasResult
     entries_result entries reading (over_downlink row is) = elim (first_told [] (rule_of_entry reading Downlink ∷ []) (of_catalogue (Downlink ∷ []) reading (over_downlink row refl) refl) tt) [
       | inl result ↦ result
@@ -143,7 +169,11 @@ module _ (known : KnownOfTexts) (decides : MeaningIsDecided) (each_in_job : Line
 
 pub some_result : KnownOfTexts → MeaningIsDecided → LinesHaveAnswers → RunsHaveResults
 some_result known decides each_in_job words files watchers input (rule_row file name reading row) held decided told =
-    let text = held_text (files file) (held file (name, reading, row)) in
+    let text = held_text (files file) (held file ([], [], names_one file name reading row refl)) in
     rule_result known decides each_in_job words files watchers input decided told file name text.0 reading row text.1
 some_result known decides each_in_job words files watchers input (entries_row entries reading row) held decided told = entries_result known decides each_in_job words files watchers input decided told entries reading row
 some_result known decides each_in_job words files watchers input (migrate_row row) held decided told = job_result known decides each_in_job words files watchers input migrating (asks_migrate row refl)
+some_result known decides each_in_job words files watchers input (compat_row before after name reading row) held decided told =
+    let was = held_text (files before) (held before ([], after ∷ [], names_pair before after name reading row refl)) in
+    let now = held_text (files after) (held after (before ∷ [], [], names_pair before after name reading row refl)) in
+    pair_result known decides each_in_job words files watchers input decided told before after name was.0 now.0 reading row was.1 now.1

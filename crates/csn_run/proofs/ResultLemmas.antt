@@ -2,6 +2,7 @@
 use Rattle.std.proofs.Common.{◌≡◌, ℕ, ◌+◌, ◌≤◌, Bool, true, false, ◌⊎◌, inl, inr, List, [], ◌∷◌, ◌++◌, length, take, Option, Some, None, Result, Ok, Err, refl, sym, ◌∙◌, ap, subst, arith, append_assoc, length-append}
 use Rattle.std.proofs.lemmas.List.{append-nil, take-append-le}
 use Rattle.std.specs.Option.{option_map}
+use Rattle.csn_desc.specs.declared.reading.Reading.{Reading}
 use Rattle.csn_io.specs.Got.{Gave, NothingLeft}
 use Rattle.csn_io.specs.Put.{Appended}
 use Rattle.csn_replay.specs.Watched.{Watched}
@@ -11,9 +12,9 @@ use Rattle.csn_run.specs.declared.fault.Fault.{Fault}
 use Rattle.csn_run.specs.declared.fault.Fault.TheVariants.{Read, Write, Memory, TooLong}
 use Rattle.csn_run.specs.declared.lines.TheConstants.{MOST_INPUT}
 use Rattle.csn_run.specs.Progress.{EndsIn, StopsBy}
-use Rattle.csn_run.specs.Command.{ReadsLines, leaves_report, leaves_soak}
+use Rattle.csn_run.specs.Command.{ReadsLines, leaves_report, leaves_soak, leaves_compat}
 use Rattle.csn_run.specs.Known.{KnownOfTexts}
-use Rattle.csn_run.specs.Compiled.{no_rules, rules_refused, not_certified}
+use Rattle.csn_run.specs.Compiled.{no_rules, rules_refused, not_certified, compares_ok, compares_no}
 use Rattle.csn_run.specs.Job.{JobEnds, unread, before_lines, all_lines, some_lines, end_by, end_with, IsBeforeLines, EndedBefore, Asked}
 use Rattle.csn_run.specs.Result as whole
 use Rattle.csn_run.specs.Laws.{LinesHaveAnswers}
@@ -51,6 +52,13 @@ handed_front before front taken' taken'' same handed = handed ∙ ap (option_map
 
 end_after_lines : (refused : Bool) (ended : Ended) (end : Result Ended Fault) → ended ≡ end_with end → end ≡ Ok (whole.end_of refused) → ended ≡ whole.end_of refused
 end_after_lines refused ended end is e = is ∙ ap end_with e
+
+-- how `compat` ends over two files that are there, and are certified or too long
+pub pair_apart : {files : List ℕ → Option (List ℕ)} {old new name written : List ℕ} {reading : Reading} {ended : Ended} → whole.EndsPair files old new name reading written ended → (ended ≡ Done → ⊥) × (ended ≡ SomeRefused → ⊥) × (ended ≡ Long → ⊥) → ⊥
+pair_apart (whole.long_before was held long is e) apart = apart.2 e
+pair_apart (whole.long_after was now held few has long is e) apart = apart.2 e
+pair_apart (whole.compared was now line rules others d x held has few small a b (compares_ok takes text e) is) apart = apart.0 e
+pair_apart (whole.compared was now line rules others d x held has few small a b (compares_no not text e) is) apart = apart.1 e
 
 -- a fault that ends a job ends no finished run, but for an input that is too long
 unfinished : (fault : Fault) (ended : Ended) (end : Result Ended Fault) → ended ≡ end_with end → end ≡ Err fault → whole.IsFinished ended → whole.IsFinished (end_by fault)
@@ -144,6 +152,7 @@ module _ (words : List (List ℕ)) (files : List ℕ → Option (List ℕ)) (wat
       no_read written (whole.no_job front rule behind compiles earlier (whole.no_plan line fits (not_certified rules d c has resolved first is e) ends)) = cc
       no_read written (whole.reported report file name text reading rules d row held fits compiled is e) = cc
       no_read written (whole.soaked entry n rules d counts row fits compiled from is e) = cc
+      no_read written (whole.of_two old new name reading row ends) = pair_apart ends ((λ h. cc), (λ h. cc), (λ h. cc))
   read_of left' taken' taken'' waits end (all_lines job refused asked a e) handed fault = absurd (no_read refused (fault ∙ ap end_with e))
     where
       no_read : (refused : Bool) → ReadFault ≡ whole.end_of refused → ⊥
@@ -196,6 +205,7 @@ before_answered words (Some files) written ended gives answered reads = by_end g
     by_end (whole.no_job front rule behind compiles earlier (whole.no_plan line fits (not_certified rules d c has resolved first is e) ends)) answered = ended_apart ended NotCertified e (λ h. cc) (λ h. cc) answered
     by_end (whole.reported report file name text reading rules d row held fits compiled is e) answered = reads (leaves_report report file name reading row)
     by_end (whole.soaked entry n rules d counts row fits compiled from is e) answered = reads (leaves_soak entry n row)
+    by_end (whole.of_two old new name reading row ends) answered = reads (leaves_compat old new name reading row)
 
 pub fault_answered : (fault : Fault) → IsAnswered (end_by fault) → ⊥
 fault_answered Read (inl e) = cc
@@ -307,7 +317,8 @@ before_apart : (words : List (List ℕ)) (files : Option (List ℕ → Option (L
 before_apart words None written ended (inl (inl e)) only = only.2 e
 before_apart words None written ended (inl (inr (inl e))) only = only.3 e
 before_apart words None written ended (inl (inr (inr e))) only = only.4 e
-before_apart words None written ended (inr done) only = only.0 done.0
+before_apart words None written ended (inr (inl e, never)) only = only.0 e
+before_apart words None written ended (inr (inr e, never)) only = only.1 e
 before_apart words (Some files) written ended gives only = by_end gives
   where
     by_end : whole.EndsBefore words files written ended → ⊥
@@ -317,6 +328,7 @@ before_apart words (Some files) written ended gives only = by_end gives
     by_end (whole.no_job front rule behind compiles earlier (whole.no_plan line fits (not_certified rules d c has resolved first is e) ends)) = only.3 e
     by_end (whole.reported report file name text reading rules d row held fits compiled is e) = only.0 e
     by_end (whole.soaked entry n rules d counts row fits compiled from is e) = only.0 e
+    by_end (whole.of_two old new name reading row ends) = pair_apart ends (only.0, only.1, only.4)
 
 -- a job that ends so met a fault
 pub by_fault :

@@ -43,7 +43,7 @@ module _ (known : Known) (text : List ℕ) (rules : RulesV) (name : List ℕ) (r
   one_tree b t u h g = known.of_blocks.one_tree d MOST_WORD b t u description is.certified (meant_by b t h) (meant_by b u g)
 
   -- the tree of a block has a text in each form
-  tree_text : (form : TreeForm) (b : List ℕ) (t : TreeV) → length b ≤ 524288 → Strings rules name reading b t → (written : List ℕ) × IsShown form t written
+  pub tree_text : (form : TreeForm) (b : List ℕ) (t : TreeV) → length b ≤ 524288 → Strings rules name reading b t → (written : List ℕ) × IsShown form t written
   tree_text form b t few h =
       shown_text form t (known.of_blocks.fit d b t description (meant_by b t h))
       (string_parts rules reading (known.of_texts.labelled text rules is.has_rules) known.of_blocks.are_bits name b t h few)

@@ -30,3 +30,13 @@ three_members (w ∷ []) a b c low high p q r = absurd (omega arith)
 three_members (w ∷ x ∷ []) a b c low high p q r = absurd (omega arith)
 three_members (w ∷ x ∷ y ∷ []) a b c low high p q r = cc
 three_members (w ∷ x ∷ y ∷ z ∷ rest) a b c low high p q r = absurd (omega arith)
+
+-- a list of five members is these five
+pub five_members : {A : Type 0} (xs : List A) (a b c d e : A) → 5 ≤ length xs → length xs < 6 → a ≡ get_or xs 0 a → b ≡ get_or xs 1 b → c ≡ get_or xs 2 c → d ≡ get_or xs 3 d → e ≡ get_or xs 4 e → xs ≡ a ∷ b ∷ c ∷ d ∷ e ∷ []
+five_members [] a b c d e low high p q r s t = absurd (omega arith)
+five_members (v ∷ []) a b c d e low high p q r s t = absurd (omega arith)
+five_members (v ∷ w ∷ []) a b c d e low high p q r s t = absurd (omega arith)
+five_members (v ∷ w ∷ x ∷ []) a b c d e low high p q r s t = absurd (omega arith)
+five_members (v ∷ w ∷ x ∷ y ∷ []) a b c d e low high p q r s t = absurd (omega arith)
+five_members (v ∷ w ∷ x ∷ y ∷ z ∷ []) a b c d e low high p q r s t = cc
+five_members (v ∷ w ∷ x ∷ y ∷ z ∷ u ∷ rest) a b c d e low high p q r s t = absurd (omega arith)

@@ -1,5 +1,5 @@
 -- The command table. It is this project's own choice.
-use Rattle.std.specs.Prelude.{◌≡◌, ◌≢◌, ◌<◌, ◌≤◌, ◌⊎◌, ℕ, List, [], ◌∷◌, codes}
+use Rattle.std.specs.Prelude.{◌≡◌, ◌≢◌, ◌<◌, ◌≤◌, ◌⊎◌, ℕ, List, [], ◌∷◌, ◌++◌, codes}
 use Rattle.std.specs.Fmt.{decimal}
 use Rattle.csn_catalogue.specs.declared.entry.Entry.{Entry}
 use Rattle.csn_catalogue.specs.declared.entry.Entry.TheVariants.{Downlink}
@@ -8,13 +8,14 @@ use Rattle.csn_desc.specs.declared.reading.Reading.{Reading}
 use Rattle.csn_desc.specs.declared.reading.Reading.TheVariants.{Received, Sent}
 use Rattle.csn_soak.specs.declared.soaking.TheConstants.{MOST_BLOCKS}
 use Rattle.csn_run.specs.declared.command.RuleWords.{RuleWords}
+use Rattle.csn_run.specs.declared.command.PairWords.{PairWords}
 use Rattle.csn_run.specs.declared.command.TreeForm.TheVariants.{Text, Json}
 use Rattle.csn_run.specs.declared.command.RuleCommand.{RuleCommand}
 use Rattle.csn_run.specs.declared.command.RuleCommand.TheVariants.{Show, Write}
 use Rattle.csn_run.specs.declared.command.RuleReport.{RuleReport}
 use Rattle.csn_run.specs.declared.command.RuleReport.TheVariants.{Check, Certificate}
 use Rattle.csn_run.specs.declared.command.Command.{Command}
-use Rattle.csn_run.specs.declared.command.Command.TheVariants.{Report, Answer, Migrate, Segments, Soak, Replay}
+use Rattle.csn_run.specs.declared.command.Command.TheVariants.{Report, Answer, Migrate, Segments, Soak, Replay, Compat}
 
 -- a word that can be an argument: it is not empty, and does not begin with `-`
 abbrev pub IsArgument : List ℕ → Type 0
@@ -74,6 +75,13 @@ pub record IsSoak (words : List (List ℕ)) (entry : Entry) (n : ℕ) : Type 0 w
   pub some : 0 < n
   pub few : n ≤ MOST_BLOCKS
 
+-- `compat OLD NEW NAME READING`
+pub record IsCompat (words : List (List ℕ)) (before after name : List ℕ) (reading : Reading) : Type 0 where
+  pub words_are : words ≡ codes "compat" ∷ before ∷ after ∷ name ∷ word_of reading ∷ []
+  pub before_fits : IsArgument before
+  pub after_fits : IsArgument after
+  pub name_fits : IsArgument name
+
 -- the words are a command over this rule of the description in this file
 abbrev pub IsOverRule : List (List ℕ) → List ℕ → List ℕ → Reading → Type 0
 IsOverRule words file name reading =
@@ -91,20 +99,29 @@ pub data IsCommand (words : List (List ℕ)) : Type 0 where
   rule_row : (file name : List ℕ) (reading : Reading) → IsOverRule words file name reading → IsCommand words
   entries_row : (entries : List Entry) (reading : Reading) → IsOverEntries words entries reading → IsCommand words
   migrate_row : IsMigrate words → IsCommand words
+  compat_row : (before after name : List ℕ) (reading : Reading) → IsCompat words before after name reading → IsCommand words
 
 -- the words are a command that leaves the input alone
 pub data LeavesInput (words : List (List ℕ)) : Type 0 where
   leaves_report : (report : RuleReport) (file name : List ℕ) (reading : Reading) → IsReport report words file name reading
       → LeavesInput words
   leaves_soak : (entry : Entry) (n : ℕ) → IsSoak words entry n → LeavesInput words
+  leaves_compat : (before after name : List ℕ) (reading : Reading) → IsCompat words before after name reading → LeavesInput words
 
 -- all other commands read its lines
 abbrev pub ReadsLines : List (List ℕ) → Type 0
 ReadsLines words = ¬ LeavesInput words
 
+-- the words name these files, which a run asks for in this order
+pub data NamesFiles (words : List (List ℕ)) (files : List (List ℕ)) : Type 0 where
+  names_one : (file name : List ℕ) (reading : Reading) → IsOverRule words file name reading → files ≡ file ∷ []
+      → NamesFiles words files
+  names_pair : (before after name : List ℕ) (reading : Reading) → IsCompat words before after name reading
+      → files ≡ before ∷ after ∷ [] → NamesFiles words files
+
 -- the words name a file
 abbrev pub NamesFile : List (List ℕ) → List ℕ → Type 0
-NamesFile words file = (name : List ℕ) × (reading : Reading) × IsOverRule words file name reading
+NamesFile words file = (front : List (List ℕ)) × (behind : List (List ℕ)) × NamesFiles words (front ++ file ∷ behind)
 
 -- the words are `COMMAND` and those that name this rule
 abbrev pub AreRuleWords : List ℕ → List (List ℕ) → RuleWords → Type 0
@@ -118,3 +135,4 @@ IsRowOf words Migrate = IsMigrate words
 IsRowOf words (Segments reading) = IsSegments words reading
 IsRowOf words (Replay reading) = IsReplay words reading
 IsRowOf words (Soak entry blocks) = IsSoak words entry blocks
+IsRowOf words (Compat pair) = IsCompat words pair.before.now pair.after.now pair.name.now pair.reading

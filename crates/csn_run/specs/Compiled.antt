@@ -19,13 +19,14 @@ use Rattle.csn_certify.specs.declared.conflict.Conflict.{Conflict}
 use Rattle.csn_certify.specs.declared.conflict.Conflict.TheVariants.{TwoEmpty, NotFirm, Overlap, EmptyClash, LoopClash, NotLast}
 use Rattle.csn_certify.specs.Conflicts.{Certified, IsFirstConflict}
 use Rattle.csn_soak.specs.declared.soaking.Soaked.{Soaked}
+use Rattle.csn_compat.specs.Takes.{Takes}
 use Rattle.csn_grammar.specs.declared.fault.GrammarFault.TheVariants.{Syntax, NoMemory as no_memory_for_rules}
 use Rattle.csn_resolve.specs.declared.fault.ResolveFault.TheVariants.{Refused, NoMemory as no_memory_for_nodes}
 use Rattle.csn_certify.specs.declared.certifying.CertifyFault.TheVariants.{Conflict as has_conflict, NoMemory as no_memory_for_plan}
 use Rattle.csn_run.specs.declared.compile.NoPlan.{NoPlan}
 use Rattle.csn_run.specs.declared.compile.NoPlan.TheVariants.{Rules, Description, Plan}
 use Rattle.csn_run.specs.declared.ended.Ended.{Ended}
-use Rattle.csn_run.specs.declared.ended.Ended.TheVariants.{BadDescription, NotCertified}
+use Rattle.csn_run.specs.declared.ended.Ended.TheVariants.{Done, SomeRefused, BadDescription, NotCertified}
 
 -- what is compiled: a rule of a text, for a reading
 pub record RuleOf : Type 0 where
@@ -80,6 +81,11 @@ abbrev pub soaked_line : ℕ → Soaked → List ℕ
 soaked_line blocks soaked =
     line_of (codes "blocks") (blocks ∷ []) ++ line_of (codes " ok") (soaked.ok ∷ [])
     ++ line_of (codes " refused") (soaked.refused ∷ []) ++ line_of (codes " bits") (soaked.bits ∷ [])
+
+-- the line that tells whether the new description takes the blocks of the old one, and the end of a run
+pub data Compares (was now : DescV) (line : List ℕ) (ended : Ended) : Type 0 where
+  compares_ok : Takes was now 0 0 [] → line ≡ codes "ok compat" → ended ≡ Done → Compares was now line ended
+  compares_no : ¬ Takes was now 0 0 [] → line ≡ codes "no compat" → ended ≡ SomeRefused → Compares was now line ended
 
 -- the rule of the text has this description, and it is certified
 pub record IsCompiled (text name : List ℕ) (reading : Reading) (rules : RulesV) (d : DescV) : Type 0 where

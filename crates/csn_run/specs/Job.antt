@@ -3,14 +3,14 @@ use Rattle.std.specs.Prelude.{◌≡◌, ℕ, ◌+◌, ◌≤◌, ◌⊎◌, Boo
 use Rattle.csn_io.specs.ShelfFault.{BeginsFile}
 use Rattle.csn_replay.specs.Watched.{Watched}
 use Rattle.csn_run.specs.declared.ended.Ended.{Ended}
-use Rattle.csn_run.specs.declared.ended.Ended.TheVariants.{Done, BadDescription, NotCertified, ReadFault, WriteFault, NoMemory, TooLong as Long}
+use Rattle.csn_run.specs.declared.ended.Ended.TheVariants.{Done, SomeRefused, BadDescription, NotCertified, ReadFault, WriteFault, NoMemory, TooLong as Long}
 use Rattle.csn_run.specs.declared.fault.Fault.{Fault}
 use Rattle.csn_run.specs.declared.fault.Fault.TheVariants.{Read, Write, Memory, TooLong}
 use Rattle.csn_run.specs.declared.compile.TheConstants.{MOST_DESCRIPTION}
-use Rattle.csn_run.specs.Command.{ReadsLines}
+use Rattle.csn_run.specs.Command.{NamesFile, ReadsLines}
 use Rattle.csn_run.specs.LineState.{closing}
 use Rattle.csn_run.specs.Progress.{AnswersAll, Stops}
-use Rattle.csn_run.specs.Result.{LineJob, Steps, beginning, AsksFor, EndsBefore, end_of}
+use Rattle.csn_run.specs.Result.{LineJob, Steps, beginning, AsksFor, ComesToFile, EndsBefore, end_of}
 
 -- the text is the whole description in a file
 pub record IsDescription (files : Option (List ℕ → Option (List ℕ))) (file text : List ℕ) : Type 0 where
@@ -38,9 +38,14 @@ abbrev pub Asked : List (List ℕ) → Option (List ℕ → Option (List ℕ)) �
 Asked words None watchers job = Unit {0}
 Asked words (Some files) watchers job = AsksFor words files watchers job
 
+-- a run of the words comes to ask for this file; where the files are not told, it is one that the words name
+abbrev pub ComesTo : List (List ℕ) → Option (List ℕ → Option (List ℕ)) → List ℕ → Type 0
+ComesTo words None file = NamesFile words file
+ComesTo words (Some files) file = ComesToFile words files file
+
 -- a run of these words writes this and ends so before it comes to a line
 abbrev pub EndedBefore : List (List ℕ) → Option (List ℕ → Option (List ℕ)) → List ℕ → Ended → Type 0
-EndedBefore words None written ended = IsBeforeLines ended ⊎ ((ended ≡ Done) × ¬ ReadsLines words)
+EndedBefore words None written ended = IsBeforeLines ended ⊎ (((ended ≡ Done) ⊎ (ended ≡ SomeRefused)) × ¬ ReadsLines words)
 EndedBefore words (Some files) written ended = EndsBefore words files written ended
 
 -- the job that the words ask for, with these watchers, is over with `end`: `left` and `taken` are what the source has

@@ -7,6 +7,7 @@ use Rattle.csn_certify.specs.Laws.{BlocksHaveOneTree, CertifiedHasNoConflict, Fi
 use Rattle.csn_certmake.specs.Laws.{CertificatesHaveOneText}
 use Rattle.csn_encode.specs.Laws.{FirstMisfitIsOne, MisfitsHaveNoBits, OneBlock, TreesFitOrMiss}
 use Rattle.csn_segment.specs.Laws.{MessagesAreShort}
+use Rattle.csn_compat.specs.Laws.{BlocksAreTaken}
 use Rattle.csn_treetext.specs.Laws as texts
 use Rattle.csn_movetext.specs.Laws.{TreesFit}
 use Rattle.csn_json.specs.Laws as json
@@ -74,3 +75,4 @@ pub record Known : Type 0 where
   pub of_json : KnownOfJson
   pub of_misfits : KnownOfMisfits
   pub of_messages : MessagesAreShort
+  pub of_takers : BlocksAreTaken

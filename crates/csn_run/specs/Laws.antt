@@ -1,5 +1,5 @@
 -- Laws over the definitions.
-use Rattle.std.specs.Prelude.{◌≡◌, ◌⊎◌, ◌↔◌, ℕ, List, ◌∷◌, ◌++◌, Option, Some, IsSome, codes}
+use Rattle.std.specs.Prelude.{◌≡◌, ◌⊎◌, ◌↔◌, ℕ, List, [], ◌∷◌, ◌++◌, Option, Some, IsSome, codes}
 use Rattle.csn_desc.specs.declared.reading.Reading.{Reading}
 use Rattle.csn_desc.specs.Nodes.{DescV}
 use Rattle.csn_desc.specs.TreeV.{TreeV}
@@ -11,6 +11,7 @@ use Rattle.csn_look.specs.declared.word.TheConstants.{MOST_WORD}
 use Rattle.csn_certify.specs.declared.conflict.Conflict.{Conflict}
 use Rattle.csn_certify.specs.Conflicts.{Certified, IsFirstConflict}
 use Rattle.csn_certmake.specs.Claimed.{IsCertificateText}
+use Rattle.csn_compat.specs.Takes.{Takes}
 use Rattle.csn_treetext.specs.Place.{TreeText}
 use Rattle.csn_json.specs.JsonText.{JsonText}
 use Rattle.csn_run.specs.declared.command.TreeForm.{TreeForm}
@@ -18,7 +19,7 @@ use Rattle.csn_run.specs.declared.command.TreeForm.TheVariants.{Text, Json}
 use Rattle.csn_run.specs.declared.command.RuleReport.TheVariants.{Certificate}
 use Rattle.csn_run.specs.declared.ended.Ended.{Ended}
 use Rattle.csn_run.specs.LineState.{LineState}
-use Rattle.csn_run.specs.Command.{IsCommand, IsReport, NamesFile}
+use Rattle.csn_run.specs.Command.{IsCommand, IsCompat, IsReport, NamesFile}
 use Rattle.csn_run.specs.Compiled.{IsCompiled, RuleOf}
 use Rattle.csn_run.specs.OutLine.{ShowsLine}
 use Rattle.csn_run.specs.Result.{LineJob, Steps, AsksFor, Compiles, Result}
@@ -55,12 +56,16 @@ FormsShowOneTree =
     → IsCompiled file name reading rules d → Tells Text rules name reading line text → Tells Json rules name reading line json
     → (t : TreeV) × TreeText t text × JsonText t json
 
--- it is decided whether each rule that a run of the words compiles is certified, where it has a description
-abbrev pub IsDecided : List (List ℕ) → (List ℕ → Option (List ℕ)) → Type 0
-IsDecided words files =
-    (front behind : List RuleOf) (rule : RuleOf) (rules : RulesV) (d : DescV) → Compiles words files (front ++ rule ∷ behind)
-    → HasRules rule.text rules → IsResolved rules rule.name rule.reading d
-    → Certified d MOST_WORD ⊎ ((conflict : Conflict) × IsFirstConflict d MOST_WORD conflict)
+-- what the program finds out is decided
+pub record IsDecided (words : List (List ℕ)) (files : List ℕ → Option (List ℕ)) : Type 0 where
+  -- whether each rule that a run of the words compiles is certified, where it has a description
+  pub certified : (front behind : List RuleOf) (rule : RuleOf) (rules : RulesV) (d : DescV)
+      → Compiles words files (front ++ rule ∷ behind) → HasRules rule.text rules → IsResolved rules rule.name rule.reading d
+      → Certified d MOST_WORD ⊎ ((conflict : Conflict) × IsFirstConflict d MOST_WORD conflict)
+  -- whether of two certified descriptions the new one takes the blocks of the old one, where the words are `compat`
+  pub compared : (before after name : List ℕ) (reading : Reading) (was now : DescV)
+      → IsCompat words before after name reading → Certified was MOST_WORD → Certified now MOST_WORD
+      → Takes was now 0 0 [] ⊎ (¬ Takes was now 0 0 [])
 
 -- where the words ask for the certificate of a rule, and the rule has a certified description, this has a certificate
 abbrev pub HasCertificate : List (List ℕ) → (List ℕ → Option (List ℕ)) → Type 0

@@ -1,9 +1,12 @@
 -- What is known of the rule that the words name, when its file was fetched and its text gone through.
 use Rattle.std.specs.Prelude.{◌≡◌, ◌≢◌, ℕ, ◌+◌, ◌<◌, List, [], ◌∷◌, ◌++◌, length, Option, Result, Ok, Err}
+use Rattle.csn_desc.specs.declared.reading.Reading.{Reading}
 use Rattle.csn_desc.specs.Nodes.{DescV}
 use Rattle.csn_grammar.specs.RulesV.{RulesV}
 use Rattle.csn_io.specs.ShelfFault.{BeginsFile}
 use Rattle.csn_run.specs.declared.command.RuleWords.{RuleWords}
+use Rattle.csn_run.specs.declared.command.PairWords.{PairWords}
+use Rattle.csn_run.specs.declared.compile.NoPlan.{NoPlan}
 use Rattle.csn_run.specs.declared.compile.TheConstants.{MOST_DESCRIPTION}
 use Rattle.csn_run.specs.declared.ended.Ended.{Ended}
 use Rattle.csn_run.specs.declared.fault.Fault.{Fault}
@@ -11,7 +14,7 @@ use Rattle.csn_run.specs.declared.fault.Fault.TheVariants.{Write, Memory, TooLon
 use Rattle.csn_run.specs.declared.lines.TheConstants.{LINE_FEED}
 use Rattle.csn_run.specs.declared.planned.Unplanned.{Unplanned}
 use Rattle.csn_run.specs.declared.planned.Unplanned.TheVariants.{File, Text}
-use Rattle.csn_run.specs.Compiled.{IsCompiled, IsReason, Tells}
+use Rattle.csn_run.specs.Compiled.{Compares, IsCompiled, IsReason, Tells}
 use Rattle.csn_run.specs.Job.{IsDescription}
 
 -- the rule has this certified description
@@ -34,3 +37,22 @@ abbrev pub Refuses : Unplanned → List ℕ → Result Ended Fault → Type 0
 Refuses (File fault) waits end = (end ≡ Err fault) × (waits ≡ [])
 Refuses (Text reason) waits (Ok ended) = (line : List ℕ) × (waits ≡ line ++ LINE_FEED ∷ []) × Tells reason line ended
 Refuses (Text reason) waits (Err fault) = (fault ≡ Memory) × (waits ≡ [])
+
+-- of two descriptions the old one is longer than one may be, or it fits and the new one is longer
+pub data IsLongPair (files : Option (List ℕ → Option (List ℕ))) (pair : PairWords) : Type 0 where
+  is_long_before : (front : List ℕ) → BeginsFile files pair.before.now (MOST_DESCRIPTION + 1) front
+      → MOST_DESCRIPTION < length front → IsLongPair files pair
+  is_long_after : (text front : List ℕ) → IsDescription files pair.before.now text
+      → BeginsFile files pair.after.now (MOST_DESCRIPTION + 1) front → MOST_DESCRIPTION < length front → IsLongPair files pair
+
+-- a job is over so for a rule of two texts, and this text waits: the old text gives it no plan, the new one gives it none, or
+-- they are compared; and there may be no memory
+pub data ComparesTexts (was now name : List ℕ) (reading : Reading) (waits : List ℕ) (end : Result Ended Fault) : Type 0 where
+  compares_none : waits ≡ [] → end ≡ Err Memory → ComparesTexts was now name reading waits end
+  refuses_before : (reason : NoPlan) → IsReason was name reading reason → Refuses (Text reason) waits end
+      → ComparesTexts was now name reading waits end
+  refuses_after : (rules : RulesV) (d : DescV) (reason : NoPlan) → IsCompiled was name reading rules d
+      → IsReason now name reading reason → Refuses (Text reason) waits end → ComparesTexts was now name reading waits end
+  compares_both : (rules others : RulesV) (d e : DescV) (line : List ℕ) (ended : Ended) → IsCompiled was name reading rules d
+      → IsCompiled now name reading others e → Compares d e line ended → waits ≡ line ++ LINE_FEED ∷ [] → end ≡ Ok ended
+      → ComparesTexts was now name reading waits end

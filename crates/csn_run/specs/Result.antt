@@ -1,7 +1,7 @@
 -- What a run writes, and how it ends: for the words, the files that they name, the watchers that are handed in and the
 -- whole input. The order of the ends is this project's own choice: first the length of the description, then what it is,
 -- then the lines.
-use Rattle.std.specs.Prelude.{◌≡◌, ℕ, ◌<◌, ◌≤◌, ◌⊎◌, Bool, if◌then◌else◌, List, [], ◌∷◌, ◌++◌, length, take, map, Option, Some}
+use Rattle.std.specs.Prelude.{◌≡◌, ℕ, ◌<◌, ◌≤◌, ◌⊎◌, Bool, if◌then◌else◌, List, [], ◌∷◌, ◌++◌, length, take, map, codes, Option, Some}
 use Rattle.std.specs.List.{AllByRecursion}
 use Rattle.csn_catalogue.specs.declared.entry.Entry.{Entry}
 use Rattle.csn_catalogue.specs.declared.entry.Entry.TheVariants.{Downlink}
@@ -25,11 +25,12 @@ use Rattle.csn_run.specs.declared.compile.TheConstants.{MOST_DESCRIPTION}
 use Rattle.csn_run.specs.declared.command.RuleCommand.{RuleCommand}
 use Rattle.csn_run.specs.declared.command.RuleReport.{RuleReport}
 use Rattle.csn_run.specs.declared.command.RuleReport.TheVariants.{Check, Certificate}
-use Rattle.csn_run.specs.Command.{IsReport, IsAnswer, IsMigrate, IsSegments, IsSoak, IsOverRule, IsOverEntries, IsReplay}
-use Rattle.csn_run.specs.Compiled.{RuleOf, rule_of_entry, IsCompiled, HasNoPlan, certified_line, soaked_line, AreCompiled}
+use Rattle.csn_run.specs.Command.{IsReport, IsAnswer, IsMigrate, IsSegments, IsSoak, IsOverRule, IsOverEntries, IsReplay, IsCompat, NamesFiles}
+use Rattle.csn_run.specs.Compiled.{RuleOf, rule_of_entry, IsCompiled, HasNoPlan, certified_line, soaked_line, AreCompiled, Compares}
 use Rattle.csn_run.specs.Lines.{between_feeds}
 use Rattle.csn_run.specs.LineState.{LineState, nothing_yet, closing, AnswersAlone}
-use Rattle.csn_run.specs.OutLine.{AnswersByRule, MigratesLine, Replays, Segments}
+use Rattle.csn_run.specs.declared.command.TreeForm.TheVariants.{Text}
+use Rattle.csn_run.specs.OutLine.{AnswersByRule, MigratesLine, Replays, Segments, ShowsLine}
 use Rattle.csn_run.specs.Progress.{Answers, EndsIn, KeepsUp, StopsAfter}
 
 -- the jobs that answer the lines of the input: a command by a rule of some rules, `migrate`, `segments` by the rule of
@@ -90,13 +91,24 @@ pub data HasNoJob (text name : List ℕ) (reading : Reading) (written : List ℕ
   no_plan : (line : List ℕ) → length text ≤ MOST_DESCRIPTION → HasNoPlan text name reading line ended
       → written ≡ line ++ LINE_FEED ∷ [] → HasNoJob text name reading written ended
 
+-- over files that are told, a run of the words comes to ask for this file: it is the first that the words name, or the
+-- second of `compat`, where the first is there and is no longer than a description may be
+pub data ComesToFile (words : List (List ℕ)) (files : List ℕ → Option (List ℕ)) (file : List ℕ) : Type 0 where
+  comes_first : (behind : List (List ℕ)) → NamesFiles words (file ∷ behind) → ComesToFile words files file
+  comes_second : (before name text : List ℕ) (reading : Reading) → IsCompat words before file name reading
+      → files before ≡ Some text → length text ≤ MOST_DESCRIPTION → ComesToFile words files file
+
 -- what a run compiles before it comes to a line, in this order: the rule that the words name, of the file that is
--- there, or rules of the catalogue
+-- there, or of both files where neither text is too long; or rules of the catalogue
 pub data Compiles (words : List (List ℕ)) (files : List ℕ → Option (List ℕ)) (all : List RuleOf) : Type 0 where
   of_file : (file name text : List ℕ) (reading : Reading) → IsOverRule words file name reading → files file ≡ Some text
       → all ≡ record { text = text; name = name; reading = reading } ∷ [] → Compiles words files all
   of_catalogue : (entries : List Entry) (reading : Reading) → IsOverEntries words entries reading
       → all ≡ map (rule_of_entry reading) entries → Compiles words files all
+  of_pair : (before after name was now : List ℕ) (reading : Reading) → IsCompat words before after name reading
+      → files before ≡ Some was → files after ≡ Some now → length was ≤ MOST_DESCRIPTION → length now ≤ MOST_DESCRIPTION
+      → all ≡ record { text = was; name = name; reading = reading } ∷ record { text = now; name = name; reading = reading } ∷ []
+      → Compiles words files all
 
 -- the text is no longer than a description may be, and its rule has a certified description
 abbrev pub HasJob : RuleOf → Type 0
@@ -108,6 +120,18 @@ HasJob rule =
 abbrev pub Reports : RuleReport → DescV → List ℕ → Type 0
 Reports Check d written = written ≡ certified_line d ++ LINE_FEED ∷ []
 Reports Certificate d written = IsCertificateText d written
+
+-- what `compat` writes for the rule of two files, and how it ends, where the rule is certified in both or a text is too
+-- long. Both texts are measured before one is compiled, the old one first
+pub data EndsPair (files : List ℕ → Option (List ℕ)) (before after name : List ℕ) (reading : Reading) (written : List ℕ) (ended : Ended) : Type 0 where
+  long_before : (was : List ℕ) → files before ≡ Some was → MOST_DESCRIPTION < length was → written ≡ [] → ended ≡ TooLong
+      → EndsPair files before after name reading written ended
+  long_after : (was now : List ℕ) → files before ≡ Some was → length was ≤ MOST_DESCRIPTION → files after ≡ Some now
+      → MOST_DESCRIPTION < length now → written ≡ [] → ended ≡ TooLong → EndsPair files before after name reading written ended
+  compared : (was now line : List ℕ) (rules others : RulesV) (d e : DescV) → files before ≡ Some was
+      → files after ≡ Some now → length was ≤ MOST_DESCRIPTION → length now ≤ MOST_DESCRIPTION
+      → IsCompiled was name reading rules d → IsCompiled now name reading others e → Compares d e line ended
+      → written ≡ line ++ LINE_FEED ∷ [] → EndsPair files before after name reading written ended
 
 -- what a run writes, and how it ends, where it comes to no line of the input and the files that its words name are
 -- there: by the first of what it compiles that is not certified, or where all is well and the command reads none
@@ -121,6 +145,8 @@ pub data EndsBefore (words : List (List ℕ)) (files : List ℕ → Option (List
   soaked : (entry : Entry) (n : ℕ) (rules : RulesV) (d : DescV) (counts : Soaked) → IsSoak words entry n
       → length catalogue_text ≤ MOST_DESCRIPTION → IsCompiled catalogue_text (entry_root entry) Sent rules d → IsSoaked d entry n counts
       → written ≡ soaked_line n counts ++ LINE_FEED ∷ [] → ended ≡ Done → EndsBefore words files written ended
+  of_two : (before after name : List ℕ) (reading : Reading) → IsCompat words before after name reading
+      → EndsPair files before after name reading written ended → EndsBefore words files written ended
 
 -- what a run writes, and how it ends, where each file that its words name is there: it comes to no line,
 -- or answers the lines of the input
@@ -179,3 +205,18 @@ RulesHaveOneTree words files =
     (front behind : List RuleOf) (rule : RuleOf) (rules : RulesV) → Compiles words files (front ++ rule ∷ behind)
     → HasRules rule.text rules
     → (b : List ℕ) (t u : TreeV) → Strings rules rule.name rule.reading b t → Strings rules rule.name rule.reading b u → t ≡ u
+
+-- each block that has a tree by the first rule has one by the second, and each line that `show` answers by a tree, it
+-- answers by one
+pub record BlocksStay (rules others : RulesV) (name : List ℕ) (reading : Reading) : Type 0 where
+  pub strings : (b : List ℕ) (t : TreeV) → Strings rules name reading b t → (u : TreeV) × Strings others name reading b u
+  pub shown : (line text : List ℕ) → ShowsLine Text rules name reading line (codes "ok " ++ text)
+      → (other : List ℕ) × ShowsLine Text others name reading line (codes "ok " ++ other)
+
+-- so it is with the rule of the old file and that of the new one, where the words are `compat`
+abbrev pub OldBlocksStay : List (List ℕ) → (List ℕ → Option (List ℕ)) → Type 0
+OldBlocksStay words files =
+    (before after name was now : List ℕ) (reading : Reading) (rules others : RulesV)
+    → IsCompat words before after name reading → files before ≡ Some was → files after ≡ Some now
+    → HasRules was rules → HasRules now others
+    → BlocksStay rules others name reading

@@ -4,7 +4,7 @@ ghost use Rattle.std.specs.String.{string_bytes};
 ghost use Rattle.csn_catalogue.specs.declared.entry.Entry.{Entry};
 ghost use Rattle.csn_desc.specs.declared.reading.Reading.{Reading};
 ghost use Rattle.csn_soak.specs.declared.soaking.TheConstants.{MOST_BLOCKS};
-ghost use Rattle.csn_run.specs.Command.{AreRuleWords, IsArgument, IsCommand, IsMigrate, IsRowOf, IsSoak, NamesReading, NamesRule, word_of};
+ghost use Rattle.csn_run.specs.Command.{AreRuleWords, IsArgument, IsCommand, IsCompat, IsMigrate, IsRowOf, IsSoak, NamesReading, NamesRule, word_of};
 
 use csn_catalogue::{Entry, entry_of};
 use csn_desc::Reading;
@@ -17,6 +17,18 @@ pub struct RuleWords<'a> {
     /// The file of the description.
     pub file: &'a str,
     /// The name of the rule.
+    pub name: &'a str,
+    pub reading: Reading,
+}
+
+/// The words that name a rule of two descriptions and a reading, behind `compat`.
+#[derive(Clone, Copy)]
+pub struct PairWords<'a> {
+    /// The file of the old description.
+    pub before: &'a str,
+    /// The file of the new description.
+    pub after: &'a str,
+    /// The name of the rule in both.
     pub name: &'a str,
     pub reading: Reading,
 }
@@ -61,6 +73,8 @@ pub enum Command<'a> {
     Replay(Reading),
     /// Judges so many blocks of an entry of the catalogue from the generator. The input is not read.
     Soak(Entry, u32),
+    /// Tells whether the new description takes the blocks of the old one. The input is not read.
+    Compat(PairWords<'a>),
 }
 
 fn is_argument(word: &str) -> bool
@@ -70,6 +84,12 @@ fn is_argument(word: &str) -> bool
         [] => false,
         [first, ..] => *first != b'-',
     }
+}
+
+fn are_arguments(first: &str, second: &str, third: &str) -> bool
+    ensures { IsTrue result ↔ (IsArgument first.now × IsArgument second.now × IsArgument third.now) }
+{
+    is_argument(first) && is_argument(second) && is_argument(third)
 }
 
 /// The reading that a word names.
@@ -153,6 +173,27 @@ fn soak_words(words: &[String]) -> Option<(Entry, u32)>
     }
 }
 
+/// The descriptions that the words `compat OLD NEW NAME READING` name, where these are such words.
+fn pair_words<'a>(words: &'a [String]) -> Option<PairWords<'a>>
+    ensures names { IfSome result (λ pair. IsCompat (map string_bytes words.now) pair.before.now pair.after.now pair.name.now pair.reading) }
+    ensures none { (before after name : List ℕ) (reading : Reading) → IsCompat (map string_bytes words.now) before after name reading → IsSome result }
+{
+    let [first, before, after, name, reading] = words else {
+        return None;
+    };
+    let reading = reading_of(reading.as_str())?;
+    if first.as_str() == "compat" && are_arguments(before.as_str(), after.as_str(), name.as_str()) {
+        Some(PairWords {
+            before: before.as_str(),
+            after: after.as_str(),
+            name: name.as_str(),
+            reading,
+        })
+    } else {
+        None
+    }
+}
+
 fn is_migrate(words: &[String]) -> bool
     ensures { IsTrue result ↔ IsMigrate (map string_bytes words.now) }
 {
@@ -178,6 +219,9 @@ pub fn command_of(words: &[String]) -> Option<Command<'_>>
     }
     if let Some((entry, blocks)) = soak_words(words) {
         return Some(Command::Soak(entry, blocks));
+    }
+    if let Some(pair) = pair_words(words) {
+        return Some(Command::Compat(pair));
     }
     if let Some(rule) = rule_words("check", words) {
         return Some(Command::Report(RuleReport::Check, rule));

@@ -10,7 +10,7 @@ use crate::answers::push_numbers;
 use crate::ended::Ended;
 use crate::text_plan::TextPlan;
 use csn_certify::{CertifyFault, Conflict, Plan, certify};
-use csn_desc::Reading;
+use csn_desc::{Desc, Reading};
 use csn_grammar::{GrammarFault, Rules, read_rules};
 use csn_lexer::MOST_TEXT;
 use csn_look::Word;
@@ -95,6 +95,28 @@ pub fn compile(
 {
     match rules_of(alloc, text) {
         Ok(rules) => plan_by(alloc, &rules, name, reading),
+        Err(reason) => Err(reason),
+    }
+}
+
+/// The certified description of a named rule of a text.
+pub fn certified_text(
+    alloc: Global,
+    text: &[u8],
+    name: &[u8],
+    reading: Reading,
+) -> Result<Desc, NoPlan>
+    requires fits { length text.now ≤ MOST_DESCRIPTION }
+    ensures desc { IfOk result (λ desc. (rules : RulesV) × IsCompiled text.now name.now reading rules desc) }
+    ensures reading { IfOk result (λ desc. desc.reading ≡ reading) }
+    ensures none { IfErr result (IsReason text.now name.now reading) }
+{
+    let rules = match rules_of(alloc, text) {
+        Ok(rules) => rules,
+        Err(reason) => return Err(reason),
+    };
+    match certified(alloc, &rules, name, reading) {
+        Ok(plan) => Ok(plan.into_desc()),
         Err(reason) => Err(reason),
     }
 }

@@ -4,6 +4,7 @@
 mod answers;
 mod by_plan;
 mod command;
+mod comparing;
 mod compile;
 mod ended;
 mod fault;

@@ -39,7 +39,7 @@ pub enum Unplanned {
 }
 
 /// Fetches a description.
-fn description<B: Shelf>(alloc: Global, shelf: &mut B, file: &str) -> Result<Vec<u8>, Fault>
+pub fn description<B: Shelf>(alloc: Global, shelf: &mut B, file: &str) -> Result<Vec<u8>, Fault>
     ensures whole { IfOk result (λ text. IsDescription (B.files shelf.old) file.now text.items) }
     ensures read { result ≡ Err Fault.Read
         → CannotRead (B.files shelf.old) (B.faults shelf.old) (B.faults shelf.new) (B.last_fault shelf.new) file.now }
@@ -48,6 +48,7 @@ fn description<B: Shelf>(alloc: Global, shelf: &mut B, file: &str) -> Result<Vec
     ensures not_write { result ≢ Err Fault.Write }
     ensures missing { LacksFile (B.files shelf.old) file.now → (result ≡ Err Fault.Read) ⊎ (result ≡ Err Fault.Memory) }
     ensures fetched { LeftByFetch (B.fetch_gives shelf.old file.now) shelf.new }
+    ensures files { B.files shelf.new ≡ B.files shelf.old }
     ensures shelf { Keeps (B.steady shelf.old) (B.steady shelf.new) (B.faults shelf.old) (B.faults shelf.new) (result ≡ Err Fault.Read) }
 {
     match shelf.fetch(alloc, file, MOST_DESCRIPTION + 1) {

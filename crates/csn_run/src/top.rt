@@ -6,16 +6,17 @@ ghost use Rattle.csn_io.specs.Put.{Appended, FlushedAll};
 ghost use Rattle.csn_io.specs.ShelfFault.{LacksFile};
 ghost use Rattle.csn_run.specs.declared.lines.TheConstants.{LINE_FEED, MOST_INPUT};
 ghost use Rattle.csn_replay.specs.Watched.{Watched};
-ghost use Rattle.csn_run.specs.Command.{IsCommand, IsReplay, IsRowOf, IsSegments, NamesFile, ReadsLines};
+ghost use Rattle.csn_run.specs.Command.{IsCommand, IsReplay, IsRowOf, IsSegments, NamesFile, NamesFiles, ReadsLines};
 ghost use Rattle.csn_run.specs.Progress.{AnswersAll, Stops};
 ghost use Rattle.csn_run.specs.LineState.{closing_of};
 ghost use Rattle.csn_run.specs.OutLine.{Works};
-ghost use Rattle.csn_run.specs.Outside.{CannotRead, Keeps, LeftByFetch};
-ghost use Rattle.csn_run.specs.Job.{Asked, JobEnds, end_with};
-ghost use Rattle.csn_run.specs.Result.{AnswersPromptly, BeginsResult, EndsBefore, IsFinished, IsStopped, LineJob, Result, RulesHaveOneTree, StopsReading, end_of};
+ghost use Rattle.csn_run.specs.Outside.{CannotRead, Keeps, LeftByFetch, LeftByFetches};
+ghost use Rattle.csn_run.specs.Job.{Asked, ComesTo, JobEnds, end_with};
+ghost use Rattle.csn_run.specs.Result.{AnswersPromptly, BeginsResult, EndsBefore, IsFinished, IsStopped, LineJob, OldBlocksStay, Result, RulesHaveOneTree, StopsReading, end_of};
 
 use crate::by_plan::ByPlan;
 use crate::command::{Command, RuleCommand, RuleReport, RuleWords, command_of};
+use crate::comparing::compare_files;
 use crate::ended::Ended;
 use crate::fault::Fault;
 use crate::laws::{known, lines_have_one_answer};
@@ -213,7 +214,7 @@ fn perform<B: Shelf, S: Source, K: Sink>(
         → JobEnds words (B.files shelf.old) (map (λ b. watched b) watchers.items) (S.left input.old) (S.left input.new)
         (K.taken out.old) (K.taken out.new) lines.new.pending.items result }
     ensures read { result ≡ Err Fault.Read → (words : List (List ℕ)) → IsRowOf words command.entry
-        → Rose (S.faults input.old) (S.faults input.new) ⊎ ((file : List ℕ) × NamesFile words file
+        → Rose (S.faults input.old) (S.faults input.new) ⊎ ((file : List ℕ) × ComesTo words (B.files shelf.old) file
         × CannotRead (B.files shelf.old) (B.faults shelf.old) (B.faults shelf.new) (B.last_fault shelf.new) file) }
     ensures write { result ≡ Err Fault.Write → Rose (K.faults out.old) (K.faults out.new) }
     ensures touches { (words : List (List ℕ)) → IsRowOf words command.entry → (input.new ≡ input.old)
@@ -221,10 +222,10 @@ fn perform<B: Shelf, S: Source, K: Sink>(
     ensures before_lines { (result ≡ Ok Ended.BadDescription) ⊎ (result ≡ Ok Ended.NotCertified) → input.new ≡ input.old }
     ensures no_file { (words : List (List ℕ)) → IsRowOf words command.entry
         → ((file : List ℕ) → NamesFile words file → ⊥) → shelf.new ≡ shelf.old }
-    ensures fetched { (words : List (List ℕ)) (file : List ℕ) → IsRowOf words command.entry → NamesFile words file
-        → LeftByFetch (B.fetch_gives shelf.old file) shelf.new }
-    ensures missing { (words : List (List ℕ)) (file : List ℕ) → IsRowOf words command.entry → NamesFile words file
-        → LacksFile (B.files shelf.old) file → ((result ≡ Err Fault.Read) ⊎ (result ≡ Err Fault.Memory))
+    ensures fetched { (words : List (List ℕ)) (files : List (List ℕ)) → IsRowOf words command.entry → NamesFiles words files
+        → LeftByFetches B.fetch_gives files shelf.old shelf.new }
+    ensures missing { (words : List (List ℕ)) (file : List ℕ) → IsRowOf words command.entry
+        → ComesTo words (B.files shelf.old) file → LacksFile (B.files shelf.old) file → ((result ≡ Err Fault.Read) ⊎ (result ≡ Err Fault.Memory))
         × (input.new ≡ input.old) × (out.new ≡ out.old) × (lines.new.pending.items ≡ []) }
     ensures shelf { Keeps (B.steady shelf.old) (B.steady shelf.new) (B.faults shelf.old) (B.faults shelf.new) (result ≡ Err Fault.Read) }
     ensures input { Keeps (S.steady input.old) (S.steady input.new) (S.faults input.old) (S.faults input.new) (result ≡ Err Fault.Read) }
@@ -239,6 +240,7 @@ fn perform<B: Shelf, S: Source, K: Sink>(
         Command::Segments(reading) => answer_segments(alloc, reading, input, out, lines),
         Command::Replay(reading) => answer_replay(alloc, reading, watchers, input, out, lines),
         Command::Soak(entry, blocks) => soak_entry(alloc, entry, blocks, &mut lines.pending),
+        Command::Compat(pair) => compare_files(alloc, pair, shelf, &mut lines.pending),
     }
 }
 
@@ -318,31 +320,35 @@ pub fn run<B: Shelf, S: Source, K: Sink>(
     ensures bounded { (whole rest : List ℕ) → S.left input.old ≡ Some whole → S.left input.new ≡ Some rest
         → length whole ≤ length rest + MOST_INPUT + 1 }
 
-    // A command that names no file leaves the shelf alone. Of one that names a file, it is as one call for this file
-    // leaves it: no other file is fetched, and none twice.
+    // A command that names no file leaves the shelf alone. Of one that names files, it is as one call for the first leaves
+    // it, and then perhaps one for the next: no other file is fetched, in no other order, and no more often.
     ensures no_file { ((file : List ℕ) → NamesFile (map string_bytes words.now) file → ⊥) → shelf.new ≡ shelf.old }
-    ensures fetched { (file : List ℕ) → NamesFile (map string_bytes words.now) file
-        → LeftByFetch (B.fetch_gives shelf.old file) shelf.new }
+    ensures fetched { (files : List (List ℕ)) → NamesFiles (map string_bytes words.now) files
+        → LeftByFetches B.fetch_gives files shelf.old shelf.new }
 
-    // After these ends the rule that the words name gives no bits, of any length, two trees.
+    // After these ends the rules that the words name give no bits, of any length, two trees.
     ensures one_tree { (result ≡ Ended.Done) ⊎ (result ≡ Ended.SomeRefused) → (files : List ℕ → Option (List ℕ))
         → B.files shelf.old ≡ Some files → RulesHaveOneTree (map string_bytes words.now) files }
 
-    // A file that is told as not held ends the run at once.
-    ensures missing { (file : List ℕ) → NamesFile (map string_bytes words.now) file → LacksFile (B.files shelf.old) file
+    // After `ok compat` each block of the old rule is one of the new rule.
+    ensures blocks_stay { result ≡ Ended.Done → (files : List ℕ → Option (List ℕ)) → B.files shelf.old ≡ Some files
+        → OldBlocksStay (map string_bytes words.now) files }
+
+    // A file that the run comes to, and that is told as not held, ends it at once.
+    ensures missing { (file : List ℕ) → ComesTo (map string_bytes words.now) (B.files shelf.old) file → LacksFile (B.files shelf.old) file
         → (input.new ≡ input.old) × (K.taken out.new ≡ K.taken out.old)
         × ((result ≡ Ended.ReadFault) ⊎ (result ≡ Ended.WriteFault) ⊎ (result ≡ Ended.NoMemory)) }
 
     // With no fault the job is done, or there was no memory.
     ensures complete { IsCommand (map string_bytes words.now) → (Rose (S.faults input.old) (S.faults input.new) → ⊥)
         → (Rose (K.faults out.old) (K.faults out.new) → ⊥)
-        → ((file : List ℕ) → NamesFile (map string_bytes words.now) file
+        → ((file : List ℕ) → ComesTo (map string_bytes words.now) (B.files shelf.old) file
         → CannotRead (B.files shelf.old) (B.faults shelf.old) (B.faults shelf.new) (B.last_fault shelf.new) file → ⊥)
         → IsFinished result ⊎ (result ≡ Ended.NoMemory) }
 
     // A fault comes only where the outside shows it.
     ensures read_fault { result ≡ Ended.ReadFault → Rose (S.faults input.old) (S.faults input.new)
-        ⊎ ((name : List ℕ) × NamesFile (map string_bytes words.now) name
+        ⊎ ((name : List ℕ) × ComesTo (map string_bytes words.now) (B.files shelf.old) name
         × CannotRead (B.files shelf.old) (B.faults shelf.old) (B.faults shelf.new) (B.last_fault shelf.new) name) }
     ensures write_fault { result ≡ Ended.WriteFault → Rose (K.faults out.old) (K.faults out.new) }
 

@@ -1,6 +1,8 @@
-use Rattle.std.proofs.Common.{[], inl, inr, subst}
+use Rattle.std.proofs.Common.{[], inl, inr, map, subst}
+use Rattle.std.specs.String.{string_bytes}
 use Rattle.csn_io.specs.Files.{file_of}
 use Rattle.csn_io.specs.ShelfFault.{LacksFile}
+use Rattle.csn_run.specs.Job.{ComesTo}
 use Rattle.csn_rows.proofs.NoFaults.{no_rise}
 use Rattle.csn_rows.proofs.WholeText.{begun, finished, told_once}
 use Rattle.csn_rows.proofs.run_watched.Goals as goal
@@ -13,7 +15,11 @@ returns-clause-read_fault g c = λ ended.
       | inl rose ↦ absurd (no_rise _ _ input.1 c.new-source.ensures.faults rose)
       | inr named ↦ elim (named.2) [
         | inl rose ↦ absurd (no_rise _ _ shelf.1 c.new-shelf.ensures.faults rose.0)
-        | inr lacks ↦ (named.0, named.1, subst (λ files. LacksFile files named.0) c.new-shelf.ensures.files lacks)
+        | inr lacks ↦ (
+          named.0,
+          subst (λ files. ComesTo (map string_bytes c.args.words.now) files named.0) c.new-shelf.ensures.files named.1,
+          subst (λ files. LacksFile files named.0) c.new-shelf.ensures.files lacks,
+        )
       ]
     ]
 

@@ -5,7 +5,7 @@ use Rattle.csn_desc.specs.declared.reading.Reading.TheVariants.{Sent}
 use Rattle.csn_run.specs.declared.command.RuleCommand.TheVariants.{Show, Write}
 use Rattle.csn_run.specs.declared.command.RuleReport.TheVariants.{Check, Certificate}
 use Rattle.csn_run.specs.declared.command.TreeForm.TheVariants.{Text, Json}
-use Rattle.csn_run.specs.Command.{rule_row, entries_row, over_downlink, over_all, over_soaked}
+use Rattle.csn_run.specs.Command.{rule_row, entries_row, compat_row, over_downlink, over_all, over_soaked}
 use Rattle.csn_run.proofs.command.command_of.Goals as goal
 
 pub returns-in-Some-clause-row : goal.returns-in-Some-clause-row
@@ -34,3 +34,6 @@ returns-clause-row c = (λ _. rule_row _ _ _ (inr (Write Json, c.in_ok-rule.ensu
 
 pub returns-in-Some-soak_words-clause-row : goal.returns-in-Some-soak_words-clause-row
 returns-in-Some-soak_words-clause-row c = (λ _. entries_row (c.in-Some-soak_words.entry ∷ []) Sent (over_soaked c.in-Some-soak_words.entry c.in-Some-soak_words.blocks c.in-Some-soak_words.ensures.names refl refl), λ _. refl)
+
+pub returns-in-Some-pair_words-clause-row : goal.returns-in-Some-pair_words-clause-row
+returns-in-Some-pair_words-clause-row c = (λ _. compat_row _ _ _ _ c.in-Some-pair_words.ensures.names, λ _. refl)

@@ -50,4 +50,5 @@ returns c =
         fit_or_miss = c.trees_fit_or_miss.ensures.some;
       };
       of_messages = c.messages_are_short.ensures;
+      of_takers = c.blocks_are_taken.ensures;
     }

@@ -1,8 +1,8 @@
 use Rattle.std.proofs.Common.{inl, inr, refl, ap, sym, ◌∙◌}
 use Rattle.csn_io.proofs.Told.{rose_early, rose_late}
 use Rattle.csn_run.specs.declared.ended.Ended.TheVariants.{ReadFault, WriteFault, NoMemory}
-use Rattle.csn_run.specs.Command.{rule_row}
-use Rattle.csn_run.proofs.CommandLemmas.{no_row}
+use Rattle.csn_run.proofs.CommandLemmas.{no_row, row_named, comes_named}
+use Rattle.csn_run.proofs.OldBlocks.{stays_of}
 use Rattle.csn_run.proofs.OutsideLemmas.{keeps_along, keeps_both}
 use Rattle.csn_run.proofs.ResultLemmas.{complete_of, result_of, begun_of, read_of, nothing_left_of, bounded_of, untouched, finished_no_write, finished_no_memory, handed_all, nothing_taken, unread_ends, unwritten_ends, not_usage, ok_of, no_fault_bad, no_fault_uncertified, read_stopped, write_stopped, ends_apart}
 use Rattle.csn_run.proofs.OneTree.{one_tree_of}
@@ -13,7 +13,7 @@ pub returns-in_default-clause-usage : goal.returns-in_default-clause-usage
 returns-in_default-clause-usage g c = (λ e row. no_row _ c.command_of.result c.command_of.ensures.row c.in_default.is row, λ none. refl)
 
 pub returns-in_default-clause-missing : goal.returns-in_default-clause-missing
-returns-in_default-clause-missing g c = λ file names lacks. absurd (no_row _ c.command_of.result c.command_of.ensures.row c.in_default.is (rule_row file names.0 names.1 names.2))
+returns-in_default-clause-missing g c = λ file comes lacks. absurd (no_row _ c.command_of.result c.command_of.ensures.row c.in_default.is (row_named (comes_named _ comes).2))
 
 pub returns-in_default-clause-complete : goal.returns-in_default-clause-complete
 returns-in_default-clause-complete g c = λ row no_source no_sink no_file. absurd (no_row _ c.command_of.result c.command_of.ensures.row c.in_default.is row)
@@ -37,10 +37,10 @@ pub returns-clause-usage_out : goal.returns-clause-usage_out
 returns-clause-usage_out g c = λ e. absurd (not_usage _ (c.perform-outcome.ensures.ends _ c.in-Some.ensures.names) (sym (c.finish.ensures.end (ends_apart _ _ _ e (λ h. cc)) (ends_apart _ _ _ e (λ h. cc))) ∙ e))
 
 pub returns-in_default-clause-fetched : goal.returns-in_default-clause-fetched
-returns-in_default-clause-fetched g c = λ file names. absurd (no_row _ c.command_of.result c.command_of.ensures.row c.in_default.is (rule_row file names.0 names.1 names.2))
+returns-in_default-clause-fetched g c = λ files names. absurd (no_row _ c.command_of.result c.command_of.ensures.row c.in_default.is (row_named names))
 
 pub returns-clause-fetched : goal.returns-clause-fetched
-returns-clause-fetched g c = λ file names. c.perform-outcome.ensures.fetched _ file c.in-Some.ensures.names names
+returns-clause-fetched g c = λ files names. c.perform-outcome.ensures.fetched _ files c.in-Some.ensures.names names
 
 pub returns-clause-no_lines : goal.returns-clause-no_lines
 returns-clause-no_lines g c = λ never. elim (c.perform-outcome.ensures.touches _ c.in-Some.ensures.names) [ inl same ↦ same | inr reads ↦ absurd (never reads.0) ]
@@ -68,9 +68,14 @@ returns-clause-one_tree g c = λ answered files f.
       | inr e ↦ one_tree_of c.known.ensures _ files _ ends (inr (sym (c.finish.ensures.end (ends_apart _ _ _ e (λ h. cc)) (ends_apart _ _ _ e (λ h. cc))) ∙ e))
     ]
 
+pub returns-clause-blocks_stay : goal.returns-clause-blocks_stay
+returns-clause-blocks_stay g c = λ e files f.
+    let ends = rw f at (c.perform-outcome.ensures.ends _ c.in-Some.ensures.names) in
+    stays_of c.known.ensures _ files _ ends (sym (c.finish.ensures.end (ends_apart _ _ _ e (λ h. cc)) (ends_apart _ _ _ e (λ h. cc))) ∙ e)
+
 pub returns-clause-missing : goal.returns-clause-missing
-returns-clause-missing g c = λ file names lacks.
-    let m = c.perform-outcome.ensures.missing _ file c.in-Some.ensures.names names lacks in
+returns-clause-missing g c = λ file comes lacks.
+    let m = c.perform-outcome.ensures.missing _ file c.in-Some.ensures.names comes lacks in
     let took = c.finish.ensures.took in
     (m.1, nothing_taken _ _ _ _ _ _ (ap g.K.Sink.taken m.2) m.3 took.2 took.3, unread_ends _ _ m.0 c.finish.ensures.end)
 
