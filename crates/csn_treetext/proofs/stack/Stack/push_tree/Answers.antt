@@ -16,6 +16,6 @@ returns c =
     let (rest, before, after) = last_written frames (c.len-last.result - 1) (Row c.in-Row.rows) (Row c.push.new.self) (omega arith) there in
     elim c.match-push.branch [
       | in-Ok w ↦ subst (λ r. OnOk r (with_tree c.args.self.now c.args.tree ≡ state Behind (reverse (set frames (c.len-last.result - 1) (Row c.push.new.self))))) (sym w.result-is)
-        (ap (λ s. with_tree s c.args.tree) (sym c.self.view_is ∙ before) ∙ ap (λ l. state Behind (Row l ∷ rest)) (sym w.in-Ok.ensures.ok) ∙ ap (state Behind) (sym after))
+          (ap (λ s. with_tree s c.args.tree) (sym c.self.view_is ∙ before) ∙ ap (λ l. state Behind (Row l ∷ rest)) (sym w.in-Ok.ensures.ok) ∙ ap (state Behind) (sym after))
       | in-Err w ↦ subst (λ r. OnOk r (with_tree c.args.self.now c.args.tree ≡ state Behind (reverse (set frames (c.len-last.result - 1) (Row c.push.new.self))))) (sym w.result-is) tt
     ]
