@@ -93,16 +93,39 @@ module _ (d : DescV) (most : ℕ) where
 abbrev pub text_of : List ℕ → List ℕ
 text_of word = map suc word ++ 0 ∷ []
 
--- the rank of a conflict: by the node; at a node TwoEmpty, then NotFirm, then the others by the octet
--- position, and at one octet position an overlap before a clash; then by alternatives, words and bit
+-- the kinds of conflict at a node, in the order in which they are told; those that speak of an octet position are one
+abbrev pub rank_two_empty : ℕ
+rank_two_empty = 1
+
+abbrev pub rank_not_firm : ℕ
+rank_not_firm = 2
+
+abbrev pub rank_octets : ℕ
+rank_octets = 3
+
+-- the kinds of conflict at an octet position, in the order in which they are told
+abbrev pub rank_overlap : ℕ
+rank_overlap = 3
+
+abbrev pub rank_empty_clash : ℕ
+rank_empty_clash = 4
+
+abbrev pub rank_loop_clash : ℕ
+rank_loop_clash = 5
+
+abbrev pub rank_not_last : ℕ
+rank_not_last = 6
+
+-- the rank of a conflict: by the node and the kind; of those that speak of an octet position by it, and then by their
+-- kind; then by alternatives, words and bit
 abbrev pub rank_of : Conflict → List ℕ
-rank_of (TwoEmpty node i j) = node ∷ 1 ∷ i ∷ j ∷ []
-rank_of (NotFirm node i) = node ∷ 2 ∷ i ∷ []
+rank_of (TwoEmpty node i j) = node ∷ rank_two_empty ∷ i ∷ j ∷ []
+rank_of (NotFirm node i) = node ∷ rank_not_firm ∷ i ∷ []
 rank_of (Overlap node octet i j word_i word_j) =
-    node ∷ 3 ∷ octet ∷ 3 ∷ i ∷ j ∷ (text_of word_i ++ text_of word_j)
-rank_of (EmptyClash node octet bit) = node ∷ 3 ∷ octet ∷ 4 ∷ bit ∷ []
-rank_of (LoopClash node octet bit) = node ∷ 3 ∷ octet ∷ 5 ∷ bit ∷ []
-rank_of (NotLast node octet) = node ∷ 3 ∷ octet ∷ 6 ∷ []
+    node ∷ rank_octets ∷ octet ∷ rank_overlap ∷ i ∷ j ∷ (text_of word_i ++ text_of word_j)
+rank_of (EmptyClash node octet bit) = node ∷ rank_octets ∷ octet ∷ rank_empty_clash ∷ bit ∷ []
+rank_of (LoopClash node octet bit) = node ∷ rank_octets ∷ octet ∷ rank_loop_clash ∷ bit ∷ []
+rank_of (NotLast node octet) = node ∷ rank_octets ∷ octet ∷ rank_not_last ∷ []
 
 -- the first list comes before the second, number by number, or is a prefix of it
 abbrev pub NotAfter : List ℕ → List ℕ → Type 0

@@ -1,5 +1,5 @@
 -- Tables of what look-ahead tells at a choice: an entry for each word of as many bits as the choice needs. Entries
--- are kept in blocks of 64, each without the refusals at its end.
+-- are kept in blocks of so many, each without the refusals at its end.
 use Rattle.std.specs.Prelude.{◌≡◌, ◌≢◌, ℕ, ◌+◌, ◌*◌, ◌/◌, ◌%◌, ◌^◌, ◌<◌, ◌≤◌, List, [], map, length, take, slice_get, slice_index, slice_index_or, Option, Some, None, true, false, refl}
 use Rattle.std.specs.List.{AllPairs}
 use Rattle.std.specs.Coded.{Coded, code_by, coded×, coded_ℕ, coded_list, coded_option}
@@ -7,6 +7,7 @@ use Rattle.csn_desc.specs.declared.node.Node.TheVariants.{Choice}
 use Rattle.csn_desc.specs.Nodes.{DescV}
 use Rattle.csn_look.specs.Reached.{Reached}
 use Rattle.csn_look.specs.KeyMarks.{IsWord, place_of}
+use Rattle.csn_certify.specs.declared.pick_blocks.TheConstants.{BLOCK}
 use Rattle.csn_certify.specs.declared.pick_table.Entry.{Entry}
 use Rattle.csn_certify.specs.declared.pick_table.Filled.{Filled}
 use Rattle.csn_certify.specs.declared.pick_table.KeptTable.{KeptTable}
@@ -58,7 +59,7 @@ entry_of entries word = slice_index_or entries (place_of word) Refuse
 
 -- the entry at a place of a list of blocks
 abbrev pub entry_in : List (List Entry) → ℕ → Entry
-entry_in blocks place = slice_index_or (slice_index_or blocks (place / 64) []) (place % 64) Refuse
+entry_in blocks place = slice_index_or (slice_index_or blocks (place / BLOCK) []) (place % BLOCK) Refuse
 
 -- the entry of held bits, which are cut to the width
 abbrev pub entry_at : PickTableV → List ℕ → Entry
@@ -72,7 +73,7 @@ blocks_at index blocks = map (λ number. slice_index_or blocks number []) index
 
 -- these are the entries of a block: those behind its end are refusals
 abbrev pub IsBlockOf : List Entry → ℕ → List Entry → Type 0
-IsBlockOf entries at block = (i : ℕ) → i < 64 → slice_index_or block i Refuse ≡ slice_index_or entries (64 * at + i) Refuse
+IsBlockOf entries at block = (i : ℕ) → i < BLOCK → slice_index_or block i Refuse ≡ slice_index_or entries (BLOCK * at + i) Refuse
 
 -- the numbers are those of the first so many blocks of the entries
 pub record AreFirstBlocks (entries : List Entry) (count : ℕ) (index : List ℕ) (blocks : List (List Entry)) : Type 0 where
@@ -93,7 +94,7 @@ pub record IsTableOf (filled : Filled) (t : PickTableV) : Type 0 where
 -- each word of at most as many bits as the width has its place in a block that is there
 pub record IsWithin (blocks : List (List Entry)) (t : KeptTable) : Type 0 where
   pub short : t.width ≤ 12
-  pub enough : 2 ^ (t.width + 1) ≤ 64 * length t.index.items
+  pub enough : 2 ^ (t.width + 1) ≤ BLOCK * length t.index.items
   pub within : (at : ℕ) → at < length t.index.items → slice_index t.index.items at < length blocks
 
 abbrev pub AreWithin : List (List Entry) → List KeptTable → Type 0

@@ -3,7 +3,7 @@
 ghost use Rattle.std.specs.Prelude.{◌≡◌, ℕ, ◌<◌, ◌≤◌, ◌↔◌, [], ◌∷◌, length, slice_get, Some, IsTrue, IfSome, IfOk};
 ghost use Rattle.csn_desc.specs.declared.node.Node.TheVariants.{Choice};
 ghost use Rattle.csn_look.specs.Reached.{Reached};
-ghost use Rattle.csn_certify.specs.Conflicts.{IsNull};
+ghost use Rattle.csn_certify.specs.Conflicts.{IsNull, rank_empty_clash, rank_not_firm, rank_octets, rank_two_empty};
 ghost use Rattle.csn_certify.specs.Search.{IsSurveyed, IsFirstUnder, IsLeastFrom, IsNullAt};
 
 use crate::conflict::Conflict;
@@ -37,7 +37,7 @@ impl Search<'_> {
     fn two_empty(&self, node: u16, parts: &Parts) -> Option<Conflict>
         requires known { IsSurveyed self.now.desc.now self.now.look.now self.now.reach.now }
         requires choice { slice_get self.now.desc.now.nodes node ≡ Some (Choice parts.now) }
-        ensures { IsFirstUnder self.now.desc.now (node ∷ 1 ∷ []) result }
+        ensures { IsFirstUnder self.now.desc.now (node ∷ rank_two_empty ∷ []) result }
     {
         let i = self.first_null(node, parts, 0)?;
         let j = self.first_null(node, parts, i + 1)?;
@@ -71,7 +71,7 @@ impl Search<'_> {
     fn choice_not_firm(&self, node: u16, parts: &Parts) -> Option<Conflict>
         requires known { IsSurveyed self.now.desc.now self.now.look.now self.now.reach.now }
         requires choice { slice_get self.now.desc.now.nodes node ≡ Some (Choice parts.now) }
-        ensures { IsFirstUnder self.now.desc.now (node ∷ 2 ∷ []) result }
+        ensures { IsFirstUnder self.now.desc.now (node ∷ rank_not_firm ∷ []) result }
     {
         for i in 0..parts.len() {
             let part = parts.get(i);
@@ -91,7 +91,7 @@ impl Search<'_> {
     ) -> Result<Option<Conflict>, NoMemory>
         requires known { IsSurveyed self.now.desc.now self.now.look.now self.now.reach.now }
         requires choice { slice_get self.now.desc.now.nodes node ≡ Some (Choice parts.now) }
-        ensures { IfOk result (IsFirstUnder self.now.desc.now (node ∷ 3 ∷ [])) }
+        ensures { IfOk result (IsFirstUnder self.now.desc.now (node ∷ rank_octets ∷ [])) }
     {
         for octet in 0..8 {
             if let Some(conflict) = self.choice_clash_at(alloc, node, parts, octet)? {
@@ -112,7 +112,7 @@ impl Search<'_> {
         requires known { IsSurveyed self.now.desc.now self.now.look.now self.now.reach.now }
         requires choice { slice_get self.now.desc.now.nodes node ≡ Some (Choice parts.now) }
         requires octet { octet ≤ 7 }
-        ensures { IfOk result (IsFirstUnder self.now.desc.now (node ∷ 3 ∷ octet ∷ [])) }
+        ensures { IfOk result (IsFirstUnder self.now.desc.now (node ∷ rank_octets ∷ octet ∷ [])) }
     {
         if !self.reach.reached(node).has(octet) {
             return Ok(None);
@@ -130,7 +130,7 @@ impl Search<'_> {
         requires choice { slice_get self.now.desc.now.nodes node ≡ Some (Choice parts.now) }
         requires octet { octet ≤ 7 }
         requires reached { Reached self.now.desc.now node octet }
-        ensures { IsFirstUnder self.now.desc.now (node ∷ 3 ∷ octet ∷ 4 ∷ []) result }
+        ensures { IsFirstUnder self.now.desc.now (node ∷ rank_octets ∷ octet ∷ rank_empty_clash ∷ []) result }
     {
         self.first_null(node, parts, 0)?;
         let bit = self.clashing_bit(node, node, octet)?;

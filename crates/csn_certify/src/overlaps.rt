@@ -4,6 +4,7 @@ ghost use Rattle.std.specs.Prelude.{◌≡◌, ℕ, ◌+◌, ◌<◌, ◌≤◌,
 ghost use Rattle.csn_desc.specs.declared.node.Node.TheVariants.{Choice};
 ghost use Rattle.csn_look.specs.KeyMarks.{IsWord};
 ghost use Rattle.csn_look.specs.Reached.{Reached};
+ghost use Rattle.csn_certify.specs.Conflicts.{rank_octets, rank_overlap};
 ghost use Rattle.csn_certify.specs.Search.{IsSurveyed, IsFirstUnder, IsLeastFrom};
 ghost use Rattle.csn_certify.specs.Overlaps.{MeetsAt, IsPart, Overlaps, IsFirstBegun};
 
@@ -28,7 +29,7 @@ impl Search<'_> {
         requires choice { slice_get self.now.desc.now.nodes node ≡ Some (Choice parts.now) }
         requires octet { octet ≤ 7 }
         requires reached { Reached self.now.desc.now node octet }
-        ensures { IfOk result (IsFirstUnder self.now.desc.now (node ∷ 3 ∷ octet ∷ 3 ∷ [])) }
+        ensures { IfOk result (IsFirstUnder self.now.desc.now (node ∷ rank_octets ∷ octet ∷ rank_overlap ∷ [])) }
     {
         match self.first_overlapping(alloc, node, parts, octet)? {
             Some(i) => self.overlap_of(alloc, node, parts, octet, i),
@@ -80,7 +81,7 @@ impl Search<'_> {
         requires octet { octet ≤ 7 }
         requires reached { Reached self.now.desc.now node octet }
         requires part { (p : ℕ) × IsPart self.now.desc.now octet parts.now i p }
-        ensures { IfOk result (IsFirstUnder self.now.desc.now (node ∷ 3 ∷ octet ∷ 3 ∷ i ∷ [])) }
+        ensures { IfOk result (IsFirstUnder self.now.desc.now (node ∷ rank_octets ∷ octet ∷ rank_overlap ∷ i ∷ [])) }
     {
         let count = parts.len();
         for j in i + 1..count {
@@ -108,7 +109,7 @@ impl Search<'_> {
         requires order { i < j }
         requires within { j < length parts.now }
         requires part { (p : ℕ) × IsPart self.now.desc.now octet parts.now i p }
-        ensures { IfOk result (IsFirstUnder self.now.desc.now (node ∷ 3 ∷ octet ∷ 3 ∷ i ∷ j ∷ [])) }
+        ensures { IfOk result (IsFirstUnder self.now.desc.now (node ∷ rank_octets ∷ octet ∷ rank_overlap ∷ i ∷ j ∷ [])) }
     {
         let first = parts.get(i);
         let second = parts.get(j);

@@ -1,7 +1,8 @@
 //! The entries of choices in blocks, of which equal ones are kept once: most entries refuse, and many choices tell
 //! the same of the last bits of a word.
 
-ghost use Rattle.std.specs.Prelude.{◌≡◌, ℕ, ◌+◌, ◌*◌, ◌/◌, ◌<◌, ◌≤◌, ◌++◌, List, [], length, slice_index_or, IfOk};
+ghost use Rattle.std.specs.Prelude.{◌≡◌, ℕ, ◌+◌, ◌-◌, ◌*◌, ◌/◌, ◌<◌, ◌≤◌, ◌++◌, List, [], length, slice_index_or, IfOk};
+ghost use Rattle.csn_certify.specs.declared.pick_blocks.TheConstants.{BLOCK};
 ghost use Rattle.csn_certify.specs.declared.pick_table.Entry.{Entry};
 ghost use Rattle.csn_certify.specs.declared.pick_table.Entry.TheVariants.{Refuse};
 ghost use Rattle.csn_certify.specs.PickTables.{IsBlockOf, AreFirstBlocks, AreOnce};
@@ -56,7 +57,7 @@ impl Blocks {
 
     /// Keeps all blocks of some entries, and answers their numbers.
     pub fn keep_all(&mut self, alloc: Global, entries: &[Entry]) -> Result<Vec<u32>, NoMemory>
-        ensures kept { IfOk result (λ index. AreFirstBlocks entries.now ((length entries.now + 63) / 64) index.items self.new) }
+        ensures kept { IfOk result (λ index. AreFirstBlocks entries.now ((length entries.now + (BLOCK - 1)) / BLOCK) index.items self.new) }
         ensures more { (more : List (List Entry)) × (self.new ≡ self.old ++ more) }
     {
         let count = entries.len().div_ceil(BLOCK);
@@ -84,7 +85,7 @@ impl Blocks {
 
 /// The block at a place of some entries, without the refusals at its end.
 fn block_of(alloc: Global, entries: &[Entry], at: usize) -> Result<Vec<Entry>, NoMemory>
-    requires { 64 * at ≤ length entries.now }
+    requires { BLOCK * at ≤ length entries.now }
     ensures { IfOk result (λ block. IsBlockOf entries.now at block.items) }
 {
     let first = BLOCK * at;

@@ -3,6 +3,7 @@
 ghost use Rattle.std.specs.Prelude.{◌≡◌, ◌≤◌, [], ◌∷◌, slice_get, Some};
 ghost use Rattle.csn_desc.specs.declared.node.Count.{Count};
 ghost use Rattle.csn_desc.specs.declared.node.Node.TheVariants.{Times, Many};
+ghost use Rattle.csn_certify.specs.Conflicts.{rank_octets};
 ghost use Rattle.csn_certify.specs.Search.{IsSurveyed, IsFirstUnder};
 
 use crate::conflict::Conflict;
@@ -37,7 +38,7 @@ impl Search<'_> {
     fn loop_clash(&self, node: u16, part: u16) -> Option<Conflict>
         requires known { IsSurveyed self.now.desc.now self.now.look.now self.now.reach.now }
         requires many { slice_get self.now.desc.now.nodes node ≡ Some (Many part) }
-        ensures { IsFirstUnder self.now.desc.now (node ∷ 3 ∷ []) result }
+        ensures { IsFirstUnder self.now.desc.now (node ∷ rank_octets ∷ []) result }
     {
         for octet in 0..8 {
             if let Some(conflict) = self.loop_clash_at(node, part, octet) {
@@ -52,7 +53,7 @@ impl Search<'_> {
         requires known { IsSurveyed self.now.desc.now self.now.look.now self.now.reach.now }
         requires many { slice_get self.now.desc.now.nodes node ≡ Some (Many part) }
         requires octet { octet ≤ 7 }
-        ensures { IsFirstUnder self.now.desc.now (node ∷ 3 ∷ octet ∷ []) result }
+        ensures { IsFirstUnder self.now.desc.now (node ∷ rank_octets ∷ octet ∷ []) result }
     {
         if !self.reach.reached(part).has(octet) {
             return None;
