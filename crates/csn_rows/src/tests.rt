@@ -205,6 +205,14 @@ fn words_are_held_against_the_table(rt: HostRuntime) -> Result<(), Fail> {
         &["segments", "both"],
         &["segments", "sent", "more"],
         &["soak", "uplink", "0"],
+        &["help"],
+        &["--help"],
+        &["--version"],
+        &["-h", "migrate"],
+        &["--", "migrate"],
+        &["migrate", "--"],
+        &["migrate", "--help"],
+        &["show", "F", "M", "-h"],
     ];
     for case in cases {
         let words = words_of(alloc, case)?;
