@@ -8,6 +8,7 @@ use csn_bits::NoMemory;
 use csn_catalogue::Entry;
 use csn_replay::{BitsWatcher, EntryWatcher, Go, Kind, RefusedWatcher, Seen};
 use std::cell::Cell;
+use std::process::Abort;
 use std::rc::Rc;
 use std::test::Fail;
 
@@ -23,6 +24,8 @@ si9 00
 struct Counting {
     count: u64,
     until: u64,
+    /// Whether there is memory for its report.
+    reports: bool,
     drops: Rc<Cell<u32>>,
 }
 
@@ -31,6 +34,7 @@ impl Drop for Counting {
         let Counting {
             count: _,
             until: _,
+            reports: _,
             drops,
         } = self;
         drops.set(drops.get().saturating_add(1));
@@ -62,6 +66,9 @@ impl Watcher for Counting {
     }
 
     fn report_line(&self, alloc: Global) -> Result<Vec<u8>, NoMemory> {
+        if !self.reports {
+            return Err(NoMemory);
+        }
         Ok(format!(in alloc; "bits {}", self.count)?.into_bytes())
     }
 }
@@ -204,6 +211,7 @@ fn a_watcher_is_dropped_once(rt: HostRuntime) -> Result<(), Fail> {
         let watcher = Counting {
             count,
             until,
+            reports: true,
             drops: drops.clone()?,
         };
         let mut watchers: Vec<Box<dyn Watcher>> = Vec::new(alloc);
@@ -214,5 +222,158 @@ fn a_watcher_is_dropped_once(rt: HostRuntime) -> Result<(), Fail> {
         expect(&rt, &ran, text.as_bytes(), status, "drops");
         assert_eq!(rt; drops.get(), 1);
     }
+    Ok(())
+}
+
+/// A run of `replay received` with a watcher of bits until some number, over a source of 7 bytes a call and a sink of 4,
+/// of which one call each may fail, and how often the watcher was dropped.
+fn ran_in_sevens(
+    alloc: Global,
+    input: Vec<u8>,
+    until: u64,
+    reports: bool,
+    failing_take: Option<u32>,
+    failing_put: Option<u32>,
+) -> Result<(Ran, u32), AllocError> {
+    let drops = Rc::new(alloc, Cell::new(0))?;
+    let watcher = Counting {
+        count: 0,
+        until,
+        reports,
+        drops: drops.clone()?,
+    };
+    let mut watchers: Vec<Box<dyn Watcher>> = Vec::new(alloc);
+    watchers.push(Box::new(alloc, watcher)?)?;
+    let mut failing_takes = Vec::new(alloc);
+    if let Some(call) = failing_take {
+        failing_takes.push(call)?;
+    }
+    let mut failing_puts = Vec::new(alloc);
+    if let Some(call) = failing_put {
+        failing_puts.push(call)?;
+    }
+    let words = words_of(alloc, &["replay", "received"])?;
+    let mut shelf = MemShelf::new(BTreeMap::new(alloc), Vec::new(alloc));
+    let mut source = MemSource::new(input, 7, failing_takes);
+    let mut sink = MemSink::new(alloc, 4, failing_puts);
+    let ended = run(alloc, &words, &mut shelf, &mut source, &mut sink, watchers);
+    let text = Vec::from_slice(alloc, sink.taken())?;
+    Ok((Ran { ended, text }, drops.get()))
+}
+
+/// A source that gives 7 bytes a call fails at its third: the lines that had ended are answered, with the reports that
+/// they caused, and nothing else.
+#[test]
+fn a_source_that_fails_ends_the_reports(rt: HostRuntime) -> Result<(), Fail> {
+    let alloc = rt.alloc();
+    for (input, until, text) in [
+        ("downlink FF\nsi9 00\nia GG\n", 9, "no 1 bit\n"),
+        ("downlink FF\nsi9 00\nia GG\n", 8, "no 1 bit\nbits 8\n"),
+        ("si9 00\nia GG\ndownlink FF\n", 8, "bad 5\nbad 1 0\n"),
+        ("si9 00\nia GG", 8, "bad 5\n"),
+        ("downlink FF", 8, ""),
+    ] {
+        let input = Vec::from_slice(alloc, input.as_bytes())?;
+        let (ran, drops) = ran_in_sevens(alloc, input, until, true, Some(2), None)?;
+        expect(
+            &rt,
+            &ran,
+            text.as_bytes(),
+            5,
+            "the third call of the source",
+        );
+        assert_eq!(rt; drops, 1);
+    }
+    Ok(())
+}
+
+/// Runs with a watcher until `until`, of which each is stopped before its end: what is written is a front of `text`, and
+/// the watcher is dropped once.
+fn expect_stopped(
+    rt: &impl Abort,
+    alloc: Global,
+    until: u64,
+    text: &[u8],
+    rows: &[(bool, Option<u32>, Option<u32>, u8)],
+) -> Result<(), AllocError> {
+    for (reports, failing_take, failing_put, status) in rows {
+        let input = Vec::from_slice(alloc, b"downlink FF\nsi9 00\n")?;
+        let (ran, drops) = ran_in_sevens(
+            alloc,
+            input,
+            until,
+            *reports,
+            *failing_take,
+            *failing_put,
+        )?;
+        assert_eq!(rt; ran.ended.status(), *status);
+        assert!(rt; text.starts_with(&ran.text), "status {status}");
+        assert_eq!(rt; drops, 1);
+    }
+    Ok(())
+}
+
+#[test]
+fn a_watcher_is_dropped_once_by_a_fault(rt: HostRuntime) -> Result<(), Fail> {
+    expect_stopped(
+        &rt,
+        rt.alloc(),
+        8,
+        b"no 1 bit\nbits 8\nbad 5\n",
+        &[
+            (true, Some(0), None, 5),
+            (true, None, Some(0), 6),
+            (true, None, Some(3), 6),
+        ],
+    )?;
+    Ok(())
+}
+
+/// A watcher that has no memory for its report, behind its line or at the end.
+#[test]
+fn a_watcher_is_dropped_once_where_memory_ends(rt: HostRuntime) -> Result<(), Fail> {
+    expect_stopped(
+        &rt,
+        rt.alloc(),
+        8,
+        b"no 1 bit\nbits 8\nbad 5\n",
+        &[(false, None, None, 7)],
+    )?;
+    expect_stopped(
+        &rt,
+        rt.alloc(),
+        9,
+        b"no 1 bit\nbad 5\nbits 8\n",
+        &[(false, None, None, 7), (true, None, Some(4), 6)],
+    )?;
+    Ok(())
+}
+
+/// Of an input past its limit the lines within it are answered, and no watcher reports at the end.
+#[test]
+fn no_watcher_reports_behind_the_limit(rt: HostRuntime) -> Result<(), Fail> {
+    let alloc = rt.alloc();
+    let mut input = vec![in alloc; b'\n'; 16_777_217]?;
+    input[..11].copy_from_slice(b"downlink FF");
+    let drops = Rc::new(alloc, Cell::new(0))?;
+    let mut watchers: Vec<Box<dyn Watcher>> = Vec::new(alloc);
+    for until in [8, 9] {
+        let watcher = Counting {
+            count: 0,
+            until,
+            reports: true,
+            drops: drops.clone()?,
+        };
+        watchers.push(Box::new(alloc, watcher)?)?;
+    }
+    let ran = replayed(alloc, &input, watchers)?;
+    expect(
+        &rt,
+        &ran,
+        b"no 1 bit\nbits 8\n",
+        8,
+        "an input past its limit",
+    );
+    assert_eq!(rt; drops.get(), 2);
     Ok(())
 }

@@ -208,6 +208,14 @@ fn words_are_held_against_the_table(rt: HostRuntime) -> Result<(), Fail> {
         &["compat", "F", "M", "sent"],
         &["compat", "F", "-F", "M", "sent"],
         &["compat", "F", "F", "M", "both"],
+        &["help"],
+        &["--help"],
+        &["--version"],
+        &["-h", "migrate"],
+        &["--", "migrate"],
+        &["migrate", "--"],
+        &["migrate", "--help"],
+        &["show", "F", "M", "-h"],
     ];
     for case in cases {
         let words = words_of(alloc, case)?;

@@ -1,9 +1,9 @@
 -- Words, and the rows of the command table.
-use Rattle.std.proofs.Common.{◌≡◌, ◌↔◌, ◌≤◌, ◌⊎◌, inl, inr, ℕ, List, [], ◌∷◌, ◌++◌, length, Option, Some, None, IsSome, refl, sym, ◌∙◌, ap, subst, arith}
+use Rattle.std.proofs.Common.{◌≡◌, ◌↔◌, ◌≤◌, ◌⊎◌, inl, inr, ℕ, List, [], ◌∷◌, ◌++◌, length, Option, Some, None, IsSome, is_some, false, true≢false, refl, sym, ◌∙◌, ap, subst, arith, map, Bor}
 use Rattle.csn_desc.specs.declared.reading.Reading.{Reading}
 use Rattle.csn_run.specs.declared.command.RuleCommand.{RuleCommand}
 use Rattle.csn_catalogue.specs.declared.entry.Entry.{Entry}
-use Rattle.csn_run.specs.Command.{IsCommand, IsOverRule, IsAnswer, IsMigrate, IsSoak, IsCompat, NamesFile, NamesFiles, names_one, names_pair, rule_row, compat_row, ReadsLines, leaves_report, leaves_soak, leaves_compat}
+use Rattle.csn_run.specs.Command.{IsCommand, IsRowOf, IsOverRule, IsAnswer, IsMigrate, IsSoak, IsCompat, NamesFile, NamesFiles, names_one, names_pair, rule_row, compat_row, ReadsLines, leaves_report, leaves_soak, leaves_compat}
 use Rattle.csn_run.specs.declared.command.Command.{Command}
 use Rattle.csn_replay.specs.Watched.{Watched}
 use Rattle.csn_run.specs.Job.{Asked, ComesTo}
@@ -11,8 +11,17 @@ use Rattle.csn_run.specs.Result.{LineJob, comes_first, comes_second}
 use Rattle.csn_run.proofs.OneResult.{one_rule, one_pair, over, answers, not_both, not_migrate, migrate_not_three, not_two, not_three, not_five, two_not_three}
 
 -- words that no command stands for are no row
-pub no_row : (words : List (List ℕ)) (command : Option Command) → (IsSome command ↔ IsCommand words) → command ≡ None → IsCommand words → ⊥
-no_row words command row none is = let some : IsSome {T = Command} None = subst IsSome none (row.1 is) in absurd (cc)
+pub no_row : (words : List (List ℕ)) (command : Option Command) → (IsSome command ↔ IsCommand words) → is_some command ≡ false → IsCommand words → ⊥
+no_row words command row none is = true≢false (sym (row.1 is) ∙ none)
+
+-- the words of a row as they were read: they are the row of the command that they stand for, and the words of a row
+pub row_read :
+    {given read : List (Bor (List ℕ))} {words : List (List ℕ)} (command : Command) → given ≡ read → map (λ w. w.now) read ≡ words → IsRowOf (map (λ w. w.now) given) command
+    → IsRowOf words command
+row_read {given} {read} {words} command is back row = subst (λ ws. IsRowOf ws command) (ap (map (λ w. w.now)) is ∙ back) row
+
+pub command_read : {given read : List (Bor (List ℕ))} {words : List (List ℕ)} → given ≡ read → map (λ w. w.now) read ≡ words → IsCommand words → IsCommand (map (λ w. w.now) given)
+command_read {given} {read} {words} is back row = subst IsCommand (sym (ap (map (λ w. w.now)) is ∙ back)) row
 
 -- words that name a rule name its file alone
 pub one_file : {words : List (List ℕ)} {file name : List ℕ} {reading : Reading} {files : List (List ℕ)} → IsOverRule words file name reading → NamesFiles words files → files ≡ file ∷ []

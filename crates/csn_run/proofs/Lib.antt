@@ -1,4 +1,5 @@
 pub mod AnswerLemmas
+pub mod Arguments
 pub mod Captures
 pub mod CommandLemmas
 pub mod FormLemmas
@@ -15,6 +16,7 @@ pub mod ShowLemmas
 pub mod StandingLemmas
 pub mod Within
 pub mod Words
+pub mod ReadWords
 pub mod Extends
 pub mod JobAnswers
 pub mod ResultExists

@@ -1,4 +1,5 @@
 pub mod Command
+pub mod CommandLine
 pub mod Ended
 pub mod Lines
 pub mod LineState

@@ -1,6 +1,5 @@
 ghost use Rattle.std.specs.Prelude.{◌≡◌, ◌<◌, ◌≤◌, ◌↔◌, IsTrue, IsSome, IfSome, List, ℕ, codes, map};
 ghost use Rattle.std.specs.Fmt.{decimal};
-ghost use Rattle.std.specs.String.{string_bytes};
 ghost use Rattle.csn_catalogue.specs.declared.entry.Entry.{Entry};
 ghost use Rattle.csn_desc.specs.declared.reading.Reading.{Reading};
 ghost use Rattle.csn_soak.specs.declared.soaking.TheConstants.{MOST_BLOCKS};
@@ -10,6 +9,7 @@ use csn_catalogue::{Entry, entry_of};
 use csn_desc::Reading;
 use csn_soak::MOST_BLOCKS;
 use itoa::Buffer;
+use std::convert::AsStr;
 
 /// The words that name a rule of a description and a reading, behind a command.
 #[derive(Clone, Copy)]
@@ -105,9 +105,9 @@ fn reading_of(word: &str) -> Option<Reading>
 }
 
 /// The rule that the words `COMMAND FILE NAME READING` name, where these are such words.
-fn rule_words<'a>(command: &str, words: &'a [String]) -> Option<RuleWords<'a>>
-    ensures names { IfSome result (λ rule. AreRuleWords command.now (map string_bytes words.now) rule) }
-    ensures none { (file name : List ℕ) (reading : Reading) → NamesRule command.now (map string_bytes words.now) file name reading → IsSome result }
+fn rule_words<'a, W: AsStr>(command: &str, words: &'a [W]) -> Option<RuleWords<'a>>
+    ensures names { IfSome result (λ rule. AreRuleWords command.now (map W.text words.now) rule) }
+    ensures none { (file name : List ℕ) (reading : Reading) → NamesRule command.now (map W.text words.now) file name reading → IsSome result }
 {
     let [first, file, name, reading] = words else {
         return None;
@@ -125,9 +125,9 @@ fn rule_words<'a>(command: &str, words: &'a [String]) -> Option<RuleWords<'a>>
 }
 
 /// The reading that the words `COMMAND READING` name, where these are such words.
-fn reading_words(command: &str, words: &[String]) -> Option<Reading>
-    ensures names { IfSome result (λ reading. NamesReading command.now (map string_bytes words.now) reading) }
-    ensures none { (reading : Reading) → NamesReading command.now (map string_bytes words.now) reading → IsSome result }
+fn reading_words<W: AsStr>(command: &str, words: &[W]) -> Option<Reading>
+    ensures names { IfSome result (λ reading. NamesReading command.now (map W.text words.now) reading) }
+    ensures none { (reading : Reading) → NamesReading command.now (map W.text words.now) reading → IsSome result }
 {
     let [first, reading] = words else {
         return None;
@@ -157,14 +157,14 @@ fn blocks_of(word: &str) -> Option<u32>
 }
 
 /// The entry and the number of blocks that the words `soak ENTRY N` name, where these are such words.
-fn soak_words(words: &[String]) -> Option<(Entry, u32)>
-    ensures names { IfSome result (λ asked. IsSoak (map string_bytes words.now) asked.0 asked.1) }
-    ensures none { (entry : Entry) (n : ℕ) → IsSoak (map string_bytes words.now) entry n → IsSome result }
+fn soak_words<W: AsStr>(words: &[W]) -> Option<(Entry, u32)>
+    ensures names { IfSome result (λ asked. IsSoak (map W.text words.now) asked.0 asked.1) }
+    ensures none { (entry : Entry) (n : ℕ) → IsSoak (map W.text words.now) entry n → IsSome result }
 {
     let [first, entry, blocks] = words else {
         return None;
     };
-    let entry = entry_of(entry.as_bytes())?;
+    let entry = entry_of(entry.as_str().as_bytes())?;
     let blocks = blocks_of(blocks.as_str())?;
     if first.as_str() == "soak" {
         Some((entry, blocks))
@@ -174,9 +174,9 @@ fn soak_words(words: &[String]) -> Option<(Entry, u32)>
 }
 
 /// The descriptions that the words `compat OLD NEW NAME READING` name, where these are such words.
-fn pair_words<'a>(words: &'a [String]) -> Option<PairWords<'a>>
-    ensures names { IfSome result (λ pair. IsCompat (map string_bytes words.now) pair.before.now pair.after.now pair.name.now pair.reading) }
-    ensures none { (before after name : List ℕ) (reading : Reading) → IsCompat (map string_bytes words.now) before after name reading → IsSome result }
+fn pair_words<'a, W: AsStr>(words: &'a [W]) -> Option<PairWords<'a>>
+    ensures names { IfSome result (λ pair. IsCompat (map W.text words.now) pair.before.now pair.after.now pair.name.now pair.reading) }
+    ensures none { (before after name : List ℕ) (reading : Reading) → IsCompat (map W.text words.now) before after name reading → IsSome result }
 {
     let [first, before, after, name, reading] = words else {
         return None;
@@ -194,8 +194,8 @@ fn pair_words<'a>(words: &'a [String]) -> Option<PairWords<'a>>
     }
 }
 
-fn is_migrate(words: &[String]) -> bool
-    ensures { IsTrue result ↔ IsMigrate (map string_bytes words.now) }
+fn is_migrate<W: AsStr>(words: &[W]) -> bool
+    ensures { IsTrue result ↔ IsMigrate (map W.text words.now) }
 {
     match words {
         [command] => command.as_str() == "migrate",
@@ -204,9 +204,9 @@ fn is_migrate(words: &[String]) -> bool
 }
 
 /// The command that the words ask for, where they are a row of the command table.
-pub fn command_of(words: &[String]) -> Option<Command<'_>>
-    ensures row { IsSome result ↔ IsCommand (map string_bytes words.now) }
-    ensures names { IfSome result (λ command. IsRowOf (map string_bytes words.now) command) }
+pub fn command_of<W: AsStr>(words: &[W]) -> Option<Command<'_>>
+    ensures row { IsSome result ↔ IsCommand (map W.text words.now) }
+    ensures names { IfSome result (λ command. IsRowOf (map W.text words.now) command) }
 {
     if is_migrate(words) {
         return Some(Command::Migrate);

@@ -4,6 +4,7 @@
 mod answers;
 mod by_plan;
 mod command;
+mod command_line;
 mod comparing;
 mod compile;
 mod ended;

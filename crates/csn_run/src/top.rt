@@ -16,6 +16,7 @@ ghost use Rattle.csn_run.specs.Result.{AnswersPromptly, BeginsResult, EndsBefore
 
 use crate::by_plan::ByPlan;
 use crate::command::{Command, RuleCommand, RuleReport, RuleWords, command_of};
+use crate::command_line::read_words;
 use crate::comparing::compare_files;
 use crate::ended::Ended;
 use crate::fault::Fault;
@@ -321,10 +322,11 @@ pub fn run<B: Shelf, S: Source, K: Sink>(
         → length whole ≤ length rest + MOST_INPUT + 1 }
 
     // A command that names no file leaves the shelf alone. Of one that names files, it is as one call for the first leaves
-    // it, and then perhaps one for the next: no other file is fetched, in no other order, and no more often.
+    // it, and then perhaps one for the next: no other file is fetched, in no other order, and no more often. Where there was
+    // no memory to read the words, none is.
     ensures no_file { ((file : List ℕ) → NamesFile (map string_bytes words.now) file → ⊥) → shelf.new ≡ shelf.old }
     ensures fetched { (files : List (List ℕ)) → NamesFiles (map string_bytes words.now) files
-        → LeftByFetches B.fetch_gives files shelf.old shelf.new }
+        → LeftByFetches B.fetch_gives files shelf.old shelf.new ⊎ ((result ≡ Ended.NoMemory) × (shelf.new ≡ shelf.old)) }
 
     // After these ends the rules that the words name give no bits, of any length, two trees.
     ensures one_tree { (result ≡ Ended.Done) ⊎ (result ≡ Ended.SomeRefused) → (files : List ℕ → Option (List ℕ))
@@ -364,8 +366,15 @@ pub fn run<B: Shelf, S: Source, K: Sink>(
 {
     known();
     lines_have_one_answer();
-    let Some(command) = command_of(words) else {
+    // Words that are no row are told so also where there is no memory to read them.
+    if command_of(words).is_none() {
         return Ended::Usage;
+    }
+    let Ok(read) = read_words(alloc, words) else {
+        return Ended::NoMemory;
+    };
+    let Some(command) = command_of(&read) else {
+        unreachable!();
     };
     let mut lines = Lines::new(alloc);
     let outcome = perform(alloc, command, shelf, input, out, &mut lines, watchers);

@@ -9,31 +9,31 @@ use Rattle.csn_run.specs.Command.{rule_row, entries_row, compat_row, over_downli
 use Rattle.csn_run.proofs.command.command_of.Goals as goal
 
 pub returns-in-Some-clause-row : goal.returns-in-Some-clause-row
-returns-in-Some-clause-row c = (λ _. entries_row (Downlink ∷ []) c.in-Some.reading (over_downlink c.in-Some.ensures.names refl), λ _. refl)
+returns-in-Some-clause-row g c = (λ _. entries_row (Downlink ∷ []) c.in-Some.reading (over_downlink c.in-Some.ensures.names refl), λ _. refl)
 
 pub returns-in-Some-reading_words-clause-row : goal.returns-in-Some-reading_words-clause-row
-returns-in-Some-reading_words-clause-row c = (λ _. entries_row all_entries c.in-Some-reading_words.reading (over_all c.in-Some-reading_words.ensures.names refl), λ _. refl)
+returns-in-Some-reading_words-clause-row g c = (λ _. entries_row all_entries c.in-Some-reading_words.reading (over_all c.in-Some-reading_words.ensures.names refl), λ _. refl)
 
 pub returns-in-Some-rule_words-clause-row : goal.returns-in-Some-rule_words-clause-row
-returns-in-Some-rule_words-clause-row c = (λ _. rule_row _ _ _ (inl (Check, c.in-Some-rule_words.ensures.names)), λ _. refl)
+returns-in-Some-rule_words-clause-row g c = (λ _. rule_row _ _ _ (inl (Check, c.in-Some-rule_words.ensures.names)), λ _. refl)
 
 pub returns-in-Some-rule_words-2-clause-row : goal.returns-in-Some-rule_words-2-clause-row
-returns-in-Some-rule_words-2-clause-row c = (λ _. rule_row _ _ _ (inr (Show Text, c.in-Some-rule_words-2.ensures.names)), λ _. refl)
+returns-in-Some-rule_words-2-clause-row g c = (λ _. rule_row _ _ _ (inr (Show Text, c.in-Some-rule_words-2.ensures.names)), λ _. refl)
 
 pub returns-in-Some-rule_words-3-clause-row : goal.returns-in-Some-rule_words-3-clause-row
-returns-in-Some-rule_words-3-clause-row c = (λ _. rule_row _ _ _ (inr (Write Text, c.in-Some-rule_words-3.ensures.names)), λ _. refl)
+returns-in-Some-rule_words-3-clause-row g c = (λ _. rule_row _ _ _ (inr (Write Text, c.in-Some-rule_words-3.ensures.names)), λ _. refl)
 
 pub returns-in-Some-rule_words-4-clause-row : goal.returns-in-Some-rule_words-4-clause-row
-returns-in-Some-rule_words-4-clause-row c = (λ _. rule_row _ _ _ (inr (Show Json, c.in-Some-rule_words-4.ensures.names)), λ _. refl)
+returns-in-Some-rule_words-4-clause-row g c = (λ _. rule_row _ _ _ (inr (Show Json, c.in-Some-rule_words-4.ensures.names)), λ _. refl)
 
 pub returns-in-Some-rule_words-5-clause-row : goal.returns-in-Some-rule_words-5-clause-row
 returns-in-Some-rule_words-5-clause-row c = (λ _. rule_row _ _ _ (inl (Certificate, c.in-Some-rule_words-5.ensures.names)), λ _. refl)
 
 pub returns-clause-row : goal.returns-clause-row
-returns-clause-row c = (λ _. rule_row _ _ _ (inr (Write Json, c.in_ok-rule.ensures.names)), λ _. refl)
+returns-clause-row g c = (λ _. rule_row _ _ _ (inr (Write Json, c.in_ok-rule.ensures.names)), λ _. refl)
 
 pub returns-in-Some-soak_words-clause-row : goal.returns-in-Some-soak_words-clause-row
-returns-in-Some-soak_words-clause-row c = (λ _. entries_row (c.in-Some-soak_words.entry ∷ []) Sent (over_soaked c.in-Some-soak_words.entry c.in-Some-soak_words.blocks c.in-Some-soak_words.ensures.names refl refl), λ _. refl)
+returns-in-Some-soak_words-clause-row g c = (λ _. entries_row (c.in-Some-soak_words.entry ∷ []) Sent (over_soaked c.in-Some-soak_words.entry c.in-Some-soak_words.blocks c.in-Some-soak_words.ensures.names refl refl), λ _. refl)
 
 pub returns-in-Some-pair_words-clause-row : goal.returns-in-Some-pair_words-clause-row
-returns-in-Some-pair_words-clause-row c = (λ _. compat_row _ _ _ _ c.in-Some-pair_words.ensures.names, λ _. refl)
+returns-in-Some-pair_words-clause-row g c = (λ _. compat_row _ _ _ _ c.in-Some-pair_words.ensures.names, λ _. refl)

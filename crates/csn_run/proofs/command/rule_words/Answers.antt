@@ -1,33 +1,32 @@
 use Rattle.std.proofs.Common.{rules, sym, subst, ◌≡◌, ◌∙◌, ap, map, IsTrue}
-use Rattle.std.specs.String.{string_bytes}
 use Rattle.csn_run.specs.Command.{IsArgument}
 use Rattle.csn_run.proofs.Words.{four_members}
 use Rattle.csn_run.proofs.command.rule_words.Goals.{else-eq-via-then-eq+then-is_argument+else-is_argument-2, else-eq-via-then-eq+else-is_argument, else-eq-via-else-eq}
 use Rattle.csn_run.proofs.command.rule_words.Goals as goal
 
 pub returns-then-is_argument-2-clause-names : goal.returns-then-is_argument-2-clause-names
-returns-then-is_argument-2-clause-names c =
+returns-then-is_argument-2-clause-names g c =
     let words = four_members c.args.words.now _ _ _ _ c.in-len4.len_at_least c.in-len4.len_below c.first-item.is c.file-item.is c.name-item.is c.reading-item.is in
-    let first : string_bytes c.first-item.result ≡ c.args.command.now = search rules in
+    let first : g.W.AsStr.text c.first-item.result ≡ c.args.command.now = search rules in
     record {
-      words_are = ap (map string_bytes) words ∙ cc (first, c.as_str-then-is_argument-2.ensures.value, c.as_str-then-is_argument-2-2.ensures.value, c.as_str.ensures.value, c.in_ok-reading.ensures.named);
-      file_fits = subst IsArgument (c.as_str-then-eq.ensures.value ∙ sym c.as_str-then-is_argument-2.ensures.value) (c.is_argument.ensures.0 c.if-is_argument.true);
-      name_fits = subst IsArgument (c.as_str-then-is_argument.ensures.value ∙ sym c.as_str-then-is_argument-2-2.ensures.value) (c.is_argument-then-is_argument.ensures.0 c.if-is_argument-2.true);
+      words_are = ap (map g.W.AsStr.text) words ∙ cc (first, c.as_str-then-is_argument-2.ensures, c.as_str-then-is_argument-2-2.ensures, c.as_str.ensures, c.in_ok-reading.ensures.named);
+      file_fits = subst IsArgument (c.as_str-then-eq.ensures ∙ sym c.as_str-then-is_argument-2.ensures) (c.is_argument.ensures.0 c.if-is_argument.true);
+      name_fits = subst IsArgument (c.as_str-then-is_argument.ensures ∙ sym c.as_str-then-is_argument-2-2.ensures) (c.is_argument-then-is_argument.ensures.0 c.if-is_argument-2.true);
     }
 
 pub returns-else-eq-clause-none : goal.returns-else-eq-clause-none
-returns-else-eq-clause-none c = λ file name reading row.
+returns-else-eq-clause-none g c = λ file name reading row.
     let words = four_members c.args.words.now _ _ _ _ c.in-len4.len_at_least c.in-len4.len_below c.first-item.is c.file-item.is c.name-item.is c.reading-item.is in
-    let all = sym (ap (map string_bytes) words) ∙ row.words_are in
+    let all = sym (ap (map g.W.AsStr.text) words) ∙ row.words_are in
     elim c.else-eq.branch [
       | else-eq-via-then-eq+then-is_argument+else-is_argument-2 w ↦
-          let same : name ≡ w.as_str-then-is_argument.result.now = cc (all, w.as_str-then-is_argument.ensures.value) in
+          let same : name ≡ w.as_str-then-is_argument.result.now = cc (all, w.as_str-then-is_argument.ensures) in
           sym w.if-is_argument-2.false ∙ w.is_argument-then-is_argument.ensures.1 (subst IsArgument same row.name_fits)
       | else-eq-via-then-eq+else-is_argument w ↦
-          let same : file ≡ w.as_str-then-eq.result.now = cc (all, w.as_str-then-eq.ensures.value) in
+          let same : file ≡ w.as_str-then-eq.result.now = cc (all, w.as_str-then-eq.ensures) in
           sym w.if-is_argument.false ∙ w.is_argument.ensures.1 (subst IsArgument same row.file_fits)
       | else-eq-via-else-eq w ↦
-          let first : string_bytes c.first-item.result ≡ c.args.command.now = cc (all) in
+          let first : g.W.AsStr.text c.first-item.result ≡ c.args.command.now = cc (all) in
           let yes : IsTrue c.eq.result = search rules in
           sym w.if-eq.false ∙ yes
     ]
