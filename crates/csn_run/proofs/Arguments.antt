@@ -1,5 +1,5 @@
 -- The words of each row of the command table can be arguments.
-use Rattle.std.proofs.Common.{◌≡◌, ◌≢◌, ◌<◌, ◌⊎◌, inl, inr, ℕ, List, [], ◌∷◌, length, get_or, arith, codes, sym, subst}
+use Rattle.std.proofs.Common.{◌<◌, inl, inr, ℕ, List, [], ◌∷◌, length, get_or, arith, sym, subst}
 use Rattle.std.specs.List.{AllByRecursion}
 use Rattle.std.proofs.lemmas.Fmt.{first_decimal}
 use Rattle.csn_catalogue.specs.declared.entry.Entry.{Entry}

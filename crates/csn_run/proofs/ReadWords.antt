@@ -1,15 +1,15 @@
 -- How `clap` reads words of which each can be an argument: the first is the command, and all others are its arguments.
-use Rattle.std.proofs.Common.{◌≡◌, ◌≢◌, ◌∙◌, ◌<◌, ◌≤◌, ◌&&◌, ◌==◌, ℕ, Bool, true, false, nat_le, List, [], ◌∷◌, ◌++◌, length, map, fold, Option, Some, None, option_map, codes, refl, sym, ap, ap₂, arith, ne_eqb, le-leb, append_assoc, append-nil}
+use Rattle.std.proofs.Common.{◌≡◌, ◌≢◌, ◌∙◌, ◌<◌, ◌≤◌, ◌&&◌, ℕ, true, false, List, [], ◌∷◌, ◌++◌, length, map, fold, Option, Some, None, option_map, codes, refl, sym, ap, ap₂, arith, ne_eqb, le-leb, append_assoc, append-nil}
 use Rattle.std.specs.Borrow.{Bor}
 use Rattle.std.specs.Option.{unwrap_or}
-use Rattle.std.specs.List.{AllByRecursion, list_all}
+use Rattle.std.specs.List.{AllByRecursion}
 use Rattle.clap.specs.Lexer.{short_of, usize_max}
-use Rattle.clap.specs.Walk.{Held, Row, Rule, Step, Text, Waiting, Walk, all_of, finished, first_of, idle, nothing_held, positional, settled, used, value, walk, walk_from, walked, word_met}
-use Rattle.clap.specs.Simple.{App, built, filled, is_simple, matches_of, new_app, new_rule, on_top, with_index, with_rule}
+use Rattle.clap.specs.Walk.{Held, Row, Rule, Text, Walk, all_of, finished, idle, nothing_held, positional, value, walk, walk_from, walked, word_met}
+use Rattle.clap.specs.Simple.{built, filled, is_simple, matches_of, with_index}
 use Rattle.clap.specs.Takes.{is_valid, settle_passes, takes, turn_passes, values_pass, walk_passes}
 use Rattle.clap.specs.declared.builder.value_parser.Reading.TheVariants.{AsWritten}
 use Rattle.clap.specs.declared.parser.matches.ValueSource.TheVariants.{CommandLine}
-use Rattle.csn_run.specs.CommandLine.{arguments_rule, command_line, command_rule}
+use Rattle.csn_run.specs.CommandLine.{arguments_rule, command_line}
 use Rattle.csn_run.specs.Command.{IsArgument}
 
 pub line_simple : is_simple command_line ≡ true

@@ -27,7 +27,7 @@ pub returns-in-Some-rule_words-4-clause-row : goal.returns-in-Some-rule_words-4-
 returns-in-Some-rule_words-4-clause-row g c = (λ _. rule_row _ _ _ (inr (Show Json, c.in-Some-rule_words-4.ensures.names)), λ _. refl)
 
 pub returns-in-Some-rule_words-5-clause-row : goal.returns-in-Some-rule_words-5-clause-row
-returns-in-Some-rule_words-5-clause-row c = (λ _. rule_row _ _ _ (inl (Certificate, c.in-Some-rule_words-5.ensures.names)), λ _. refl)
+returns-in-Some-rule_words-5-clause-row g c = (λ _. rule_row _ _ _ (inl (Certificate, c.in-Some-rule_words-5.ensures.names)), λ _. refl)
 
 pub returns-clause-row : goal.returns-clause-row
 returns-clause-row g c = (λ _. rule_row _ _ _ (inr (Write Json, c.in_ok-rule.ensures.names)), λ _. refl)

@@ -1,8 +1,8 @@
-use Rattle.std.proofs.Common.{rules, true, ◌≡◌, ◌∙◌, List, Option, Some, None, IsSomeAnd, ap, ap₂, codes}
+use Rattle.std.proofs.Common.{rules, true, ◌≡◌, ◌∙◌, Option, Some, None, IsSomeAnd, ap, ap₂, codes}
 use Rattle.std.proofs.lemmas.Result.{IfOk-weaker}
-use Rattle.clap.specs.Words.{App, Rule, Shape, app_of, new_app, rule_of, with_rule}
+use Rattle.clap.specs.Words.{Shape, app_of, new_app, rule_of, with_rule}
 use Rattle.clap.specs.Simple.{app_of_fields, on_top}
-use Rattle.csn_run.specs.CommandLine.{arguments_rule, command_line, command_rule}
+use Rattle.csn_run.specs.CommandLine.{arguments_rule, command_rule}
 use Rattle.csn_run.proofs.command_line.line_of.Goals as goal
 
 abbrev without_name : Shape → Shape

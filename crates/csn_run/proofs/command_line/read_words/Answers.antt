@@ -1,7 +1,7 @@
-use Rattle.std.proofs.Common.{rules, true, sym, ◌≡◌, ◌≤◌, ◌<◌, ◌∙◌, ◌++◌, List, ℕ, Err, map, ap, ap₂, codes, IfErr, length, arith, refl, Bor}
+use Rattle.std.proofs.Common.{rules, true, ◌≡◌, ◌∙◌, ◌++◌, List, ℕ, map, ap, ap₂, codes, arith, refl, Bor}
 use Rattle.std.proofs.lemmas.List.{length-map, map-append}
 use Rattle.std.specs.String.{string_bytes}
-use Rattle.clap.specs.Words.{App, app_of, kind_of, takes, is_simple, rows_of, found_of, matches_of}
+use Rattle.clap.specs.Words.{App, app_of, takes, is_simple, rows_of, found_of, matches_of}
 use Rattle.csn_run.specs.CommandLine.{command_line}
 use Rattle.clap.proofs.WalkLemmas.{raw_values-rows}
 use Rattle.clap.proofs.TakesLemmas.{passed_up}

@@ -1,4 +1,4 @@
-use Rattle.std.proofs.Common.{inl, inr, refl, ap, map, sym, ◌∙◌, [], Some, is_some, arith, append-nil}
+use Rattle.std.proofs.Common.{inl, inr, refl, ap, sym, ◌∙◌, [], Some, is_some, arith, append-nil}
 use Rattle.std.proofs.lemmas.List.{length-map}
 use Rattle.std.specs.String.{string_bytes}
 use Rattle.csn_run.specs.Result.{begins_none, nothing_read}
