@@ -4,16 +4,13 @@ use Rattle.std.specs.Borrow.{Bor}
 use Rattle.std.specs.Option.{unwrap_or}
 use Rattle.std.specs.List.{AllByRecursion}
 use Rattle.clap.specs.Lexer.{short_of, usize_max}
-use Rattle.clap.specs.Walk.{Held, Row, Rule, Text, Walk, all_of, finished, idle, nothing_held, positional, value, walk, walk_from, walked, word_met}
-use Rattle.clap.specs.Simple.{built, filled, is_simple, matches_of, with_index}
+use Rattle.clap.specs.Walk.{Row, Rule, Text, Walk, all_of, finished, idle, nothing_held, positional, walk, walk_from, walked}
+use Rattle.clap.specs.Simple.{built, filled, matches_of, with_index}
 use Rattle.clap.specs.Takes.{is_valid, settle_passes, takes, turn_passes, values_pass, walk_passes}
 use Rattle.clap.specs.declared.builder.value_parser.Reading.TheVariants.{AsWritten}
 use Rattle.clap.specs.declared.parser.matches.ValueSource.TheVariants.{CommandLine}
 use Rattle.csn_run.specs.CommandLine.{arguments_rule, command_line}
 use Rattle.csn_run.specs.Command.{IsArgument}
-
-pub line_simple : is_simple command_line ≡ true
-line_simple = refl
 
 abbrev rules : List Rule
 rules = (built command_line).top.rules
@@ -50,14 +47,6 @@ at_arguments w vs = record {
 -- a word that can be an argument is no flag
 no_short : (c : ℕ) (cs : List ℕ) → c ≢ 45 → short_of (c ∷ cs) ≡ None
 no_short c cs is = rw (ne_eqb c 45 is) refl
-
-idle_value : (position : ℕ) (w : Text) (h : Held) → IsArgument w → word_met rules [] false idle position w h ≡ (h, value)
-idle_value position [] h is = absurd is
-idle_value position (c ∷ cs) h is = rw (ne_eqb c 45 is) (rw (no_short c cs is) refl)
-
-positional_value : (position : ℕ) (w : Text) (h : Held) → IsArgument w → word_met rules [] false positional position w h ≡ (h, value)
-positional_value position [] h is = absurd is
-positional_value position (c ∷ cs) h is = rw (ne_eqb c 45 is) (rw (no_short c cs is) refl)
 
 -- the words one by one
 command_met : (w : Text) → IsArgument w → walked rules [] (walk_from nothing_held) w ≡ at_command w
