@@ -33,9 +33,17 @@ def main():
     print(f"{datetime.date.today()}, {platform.machine()}, {platform.release()}, {kit}")
     with tempfile.NamedTemporaryFile(suffix=".csn1") as catalogue:
         subprocess.run([sys.executable, str(BENCH / "catalogue.py")], stdout=catalogue, check=True)
-        failed = [run("show.py"), run("migrate.py"), run("descriptions.py"), run("certify.py", catalogue.name, *beside),
-                  run("judge.py", catalogue.name, *beside), run("refused.py"), run("limits.py"),
-                  run("hostile.py", "--cases", options.cases)]
+        failed = [
+            run("show.py"),
+            run("migrate.py"),
+            run("descriptions.py"),
+            run("certify.py", catalogue.name, *beside),
+            run("judge.py", catalogue.name, *beside),
+            run("certificates.py", *beside),
+            run("refused.py"),
+            run("limits.py"),
+            run("hostile.py", "--cases", options.cases),
+        ]
     return 1 if any(failed) else 0
 
 
