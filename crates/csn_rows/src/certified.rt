@@ -45,7 +45,9 @@ fn written(alloc: Global, entry: Entry, reading: &str) -> Result<Vec<u8>, Fail> 
     let Ok(root) = str::from_utf8(root_of(entry)) else {
         return Err(Fail::from("no name"));
     };
-    let words = words_of(alloc, &["certificate", "F", root, reading])?;
+    let mut words = words_of(alloc, &["certificate", "F"])?;
+    words.push(String::from_str(alloc, root)?)?;
+    words.push(String::from_str(alloc, reading)?)?;
     let ran = run_in_memory(alloc, &words, file(alloc, text())?, Vec::new(alloc))?;
     if ran.ended.status() != 0 {
         return Err(Fail::from("no certificate"));
