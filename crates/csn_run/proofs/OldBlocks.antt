@@ -1,5 +1,5 @@
 -- After `ok compat` each block of the old rule is one of the new rule.
-use Rattle.std.proofs.Common.{◌≡◌, ℕ, inl, inr, List, [], ◌∷◌, ◌++◌, length, codes, Option, Some, Result, refl, sym, ◌∙◌, ap, subst, arith}
+use Rattle.std.proofs.Common.{◌≡◌, ℕ, inl, inr, List, [], length, Option, Some, Result, refl, sym, ◌∙◌, ap, subst, arith}
 use Rattle.csn_desc.specs.declared.reading.Reading.{Reading}
 use Rattle.csn_desc.specs.Nodes.{DescV}
 use Rattle.csn_desc.specs.TreeV.{TreeV}
@@ -15,12 +15,12 @@ use Rattle.csn_run.specs.declared.fault.Fault.TheVariants.{Read, Memory}
 use Rattle.csn_run.specs.Known.{Known}
 use Rattle.csn_run.specs.Command.{IsCompat}
 use Rattle.csn_run.specs.Compiled.{IsCompiled, no_rules, rules_refused, not_certified, compares_ok, compares_no}
-use Rattle.csn_run.specs.Job.{JobEnds, unread, before_lines, all_lines, some_lines, end_by, end_with}
+use Rattle.csn_run.specs.Job.{JobEnds, unread, before_lines, all_lines, some_lines, end_with}
 use Rattle.csn_run.specs.OutLine.{shows_block, shows_tree}
 use Rattle.csn_run.specs.Result.{EndsBefore, no_job, checked, soaked, of_two, long_text, no_plan, EndsPair, long_before, long_after, compared, BlocksStay, OldBlocksStay}
 use Rattle.csn_run.proofs.FormsAgree.{told}
 use Rattle.csn_run.proofs.OneResult.{over, not_five, one_pair, one_held, pair_no_job}
-use Rattle.csn_run.proofs.ResultLemmas.{ended_apart, fault_answered, IsAnswered}
+use Rattle.csn_run.proofs.ResultLemmas.{ended_apart, fault_answered}
 use Rattle.csn_run.proofs.ShownLines.{description, meant_by, string_of, tree_text}
 
 -- the descriptions of a rule have its reading

@@ -1,5 +1,5 @@
 -- What a sink took and what a source gave, over several calls.
-use Rattle.std.proofs.Common.{◌≡◌, ℕ, ◌+◌, ◌-◌, ◌<◌, ◌≤◌, inl, inr, subst, List, [], ◌∷◌, ◌++◌, length, take, drop, refl, sym, ◌∙◌, ap, arith, length-drop, Option, Some, None}
+use Rattle.std.proofs.Common.{◌≡◌, ℕ, ◌+◌, ◌-◌, ◌<◌, ◌≤◌, inl, subst, List, [], ◌∷◌, ◌++◌, length, take, drop, refl, sym, ◌∙◌, ap, arith, length-drop, Option, Some, None}
 use Rattle.std.proofs.lemmas.List.{append-nil, length-take, take-append-drop, take_all}
 use Rattle.std.proofs.Math.Seq.{take-append-add}
 use Rattle.csn_io.specs.Put.{Appended}

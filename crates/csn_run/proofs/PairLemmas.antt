@@ -8,16 +8,15 @@ use Rattle.csn_grammar.specs.RulesV.{RulesV}
 use Rattle.csn_io.specs.ShelfFault.{BeginsFile, LacksFile}
 use Rattle.csn_replay.specs.Watched.{Watched}
 use Rattle.csn_run.specs.declared.command.PairWords.{PairWords}
-use Rattle.csn_run.specs.declared.compile.NoPlan.{NoPlan}
 use Rattle.csn_run.specs.declared.compile.TheConstants.{MOST_DESCRIPTION}
 use Rattle.csn_run.specs.declared.ended.Ended.{Ended}
 use Rattle.csn_run.specs.declared.fault.Fault.{Fault}
 use Rattle.csn_run.specs.declared.fault.Fault.TheVariants.{Read, Write, Memory, TooLong}
-use Rattle.csn_run.specs.Command.{IsCompat, NamesFiles, names_pair, leaves_compat}
-use Rattle.csn_run.specs.Compiled.{RuleOf, IsCompiled, Compares, compares_ok, compares_no}
-use Rattle.csn_run.specs.Job.{IsDescription, ComesTo, EndedBefore, JobEnds, unread, before_lines}
+use Rattle.csn_run.specs.Command.{IsCompat, names_pair, leaves_compat}
+use Rattle.csn_run.specs.Compiled.{IsCompiled, Compares, compares_ok, compares_no}
+use Rattle.csn_run.specs.Job.{IsDescription, ComesTo, JobEnds, unread, before_lines}
 use Rattle.csn_run.specs.Planned.{IsLongPair, is_long_before, is_long_after, ComparesTexts, compares_none, refuses_before, refuses_after, compares_both}
-use Rattle.csn_run.specs.Result.{Compiles, of_pair, EndsPair, long_before, long_after, compared, of_two, ComesToFile, comes_first, comes_second}
+use Rattle.csn_run.specs.Result.{Compiles, of_pair, long_before, long_after, compared, of_two, comes_first, comes_second}
 use Rattle.csn_run.proofs.CommandLemmas.{two_files}
 use Rattle.csn_run.proofs.JobLemmas.{long_file, whole_file, reason_ends}
 use Rattle.csn_run.proofs.OneResult.{one_pair, rule_of}

@@ -1,10 +1,8 @@
 use Rattle.std.proofs.Common.{arith, sym, ◌∙◌}
 use Rattle.csn_certify.specs.declared.certifying.CertifyFault.TheVariants.{NoMemory}
-use Rattle.csn_catalogue.specs.Entries.{all_entries}
 use Rattle.csn_catalogue.specs.Text.{catalogue_text}
 use Rattle.csn_run.specs.declared.compile.NoPlan.TheVariants.{Plan}
 use Rattle.csn_run.proofs.EntryPlans.{none_before, one_plan_more, pushed}
-use Rattle.csn_run.proofs.ReplayedLines.{compiled_length}
 use Rattle.csn_run.proofs.planned.plans_by.Goals as goal
 
 pub returns-in-Err-clause-none : goal.returns-in-Err-clause-none

@@ -1,4 +1,4 @@
-use Rattle.std.proofs.Common.{◌≡◌, ◌-◌, inl, inr, ℕ, Bool, Option, Some, codes, drop, take, length, get_or, not, List, refl, sym, ◌∙◌, ap, subst, arith}
+use Rattle.std.proofs.Common.{◌≡◌, ◌-◌, inl, inr, ℕ, Bool, Option, Some, codes, drop, take, length, get_or, not, List, refl, sym, ◌∙◌, ap, subst}
 use Rattle.csn_bits.specs.Fault.{IsLineFault}
 use Rattle.csn_bits.specs.Line.{BlockLine}
 use Rattle.csn_catalogue.specs.Entries.{all_entries, entry_root}

@@ -1,4 +1,4 @@
-use Rattle.std.proofs.Common.{◌≡◌, ℕ, ◌∷◌, ◌++◌, [], List, Option, Some, None, append_assoc, ap, refl, sym, ◌∙◌}
+use Rattle.std.proofs.Common.{◌∷◌, ◌++◌, [], Some, None, append_assoc, ap, refl, sym, ◌∙◌}
 use Rattle.csn_run.proofs.ProgressLemmas.{refusal_with_feed}
 use Rattle.csn_run.proofs.ReplayedLines.{reported}
 use Rattle.csn_run.proofs.replay.ReplayLineCommand.answer.Goals as goal
