@@ -52,7 +52,7 @@ RUNS = [
     (["verify", "poll.csn1", "Poll", "received", "poll.cert"], None),
 ]
 # Commands that are passed over as long as the program does not know them.
-TO_COME = {"compat", "certificate", "verify"}
+TO_COME = {"verify"}
 
 # What stands before the C library. At an allocation the process makes a child, which is refused it and goes on to the
 # end. The process waits, tells how the child ended and what stood written, puts its files back where they were, and goes
