@@ -9,6 +9,7 @@ use csn_good::{Checked, check_certificate};
 use csn_grammar::read_rules;
 use csn_resolve::resolve;
 use std::alloc::{AllocError, Global};
+use std::process::Abort;
 use std::test::Fail;
 
 /// Descriptions, what is written, and the status.
@@ -66,13 +67,41 @@ fn is_good(alloc: Global, entry: Entry, reading: Reading, bytes: &[u8]) -> Resul
     Ok(check_certificate(alloc, &desc, &c)? == Checked::Proved)
 }
 
-#[test]
-fn entries_are_proved_by_their_certificates(rt: HostRuntime) -> Result<(), Fail> {
+/// The status of `verify` of the rule of an entry with a certificate.
+fn verified(alloc: Global, entry: Entry, reading: &str, bytes: Vec<u8>) -> Result<u8, Fail> {
+    let Ok(root) = str::from_utf8(root_of(entry)) else {
+        return Err(Fail::from("no name"));
+    };
+    let mut words = words_of(alloc, &["verify", "F"])?;
+    words.push(String::from_str(alloc, root)?)?;
+    words.push(String::from_str(alloc, reading)?)?;
+    words.push(String::from_str(alloc, "C")?)?;
+    let mut files = file(alloc, text())?;
+    files.insert(String::from_str(alloc, "C")?, bytes)?;
+    let ran = run_in_memory(alloc, &words, files, Vec::new(alloc))?;
+    Ok(ran.ended.status())
+}
+
+/// The certificates of all entries in a reading are good, and the program says so.
+fn entries_are_proved(rt: &impl Abort, alloc: Global, reading: Reading) -> Result<(), Fail> {
+    let word = match reading {
+        Reading::Received => "received",
+        Reading::Sent => "sent",
+    };
     for entry in entries() {
-        for (word, reading) in [("received", Reading::Received), ("sent", Reading::Sent)] {
-            let bytes = written(rt.alloc(), entry, word)?;
-            assert!(rt; is_good(rt.alloc(), entry, reading, &bytes)?, "{word}");
-        }
+        let bytes = written(alloc, entry, word)?;
+        assert!(rt; is_good(alloc, entry, reading, &bytes)?, "{word}");
+        assert_eq!(rt; verified(alloc, entry, word, bytes)?, 0, "{word}");
     }
     Ok(())
+}
+
+#[test]
+fn entries_are_proved_as_received(rt: HostRuntime) -> Result<(), Fail> {
+    entries_are_proved(&rt, rt.alloc(), Reading::Received)
+}
+
+#[test]
+fn entries_are_proved_as_sent(rt: HostRuntime) -> Result<(), Fail> {
+    entries_are_proved(&rt, rt.alloc(), Reading::Sent)
 }

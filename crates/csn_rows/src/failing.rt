@@ -30,6 +30,7 @@ const ROWS: &[(&[&str], &[u8])] = &[
     ),
     (&["soak", "ia", "16"], b"A5\n"),
     (&["compat", "F", "F", "M", "received"], b"A5\n"),
+    (&["verify", "F", "M", "received", "F"], b"A5\n"),
     (&["migrate"], b"b\n<A>=3'9\n.\n"),
     (
         &["segments", "received"],

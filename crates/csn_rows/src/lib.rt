@@ -33,6 +33,8 @@ mod soaked;
 #[cfg(test)]
 mod tests;
 #[cfg(test)]
+mod verified;
+#[cfg(test)]
 mod written;
 
 /// How a run over memory ended, and what it wrote.

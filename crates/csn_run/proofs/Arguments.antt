@@ -12,7 +12,7 @@ use Rattle.csn_run.specs.declared.command.RuleCommand.TheVariants.{Show, Write}
 use Rattle.csn_run.specs.declared.command.TreeForm.TheVariants.{Text, Json}
 use Rattle.csn_run.specs.declared.command.RuleReport.{RuleReport}
 use Rattle.csn_run.specs.declared.command.RuleReport.TheVariants.{Check, Certificate}
-use Rattle.csn_run.specs.Command.{IsArgument, IsCommand, NamesRule, NamesReading, IsSoak, IsCompat, command_word, report_word, word_of, rule_row, entries_row, migrate_row, compat_row, over_downlink, over_soaked, over_all}
+use Rattle.csn_run.specs.Command.{IsArgument, IsCommand, NamesRule, NamesReading, IsSoak, IsCompat, IsVerify, command_word, report_word, word_of, rule_row, entries_row, migrate_row, compat_row, verify_row, over_downlink, over_soaked, over_all}
 
 -- there are words, and each can be an argument
 abbrev pub AreArguments : List (List ℕ) → Type 0
@@ -61,6 +61,10 @@ compat_fits : {words : List (List ℕ)} {before after name : List ℕ} {reading 
 compat_fits {words} {reading = reading} row =
     subst AreArguments (sym row.words_are) (omega arith, ((λ e. absurd (omega (arith, e))), (row.before_fits, (row.after_fits, (row.name_fits, (reading_fits reading, tt))))))
 
+verify_fits : {words : List (List ℕ)} {file name certificate : List ℕ} {reading : Reading} → IsVerify words file name reading certificate → AreArguments words
+verify_fits {words} {reading = reading} row =
+    subst AreArguments (sym row.words_are) (omega arith, ((λ e. absurd (omega (arith, e))), (row.file_fits, (row.name_fits, (reading_fits reading, (row.certificate_fits, tt))))))
+
 -- the words of a row
 pub are_arguments : {words : List (List ℕ)} → IsCommand words → AreArguments words
 are_arguments (rule_row file name reading (inl report)) = rule_fits (report_fits report.0) report.1
@@ -69,4 +73,5 @@ are_arguments (entries_row entries reading (over_downlink row is)) = reading_row
 are_arguments (entries_row entries reading (over_soaked entry n row is sent)) = soak_fits row
 are_arguments (entries_row entries reading (over_all row is)) = reading_row_fits reading (λ e. absurd (omega (arith, e))) row
 are_arguments (compat_row before after name reading row) = compat_fits row
+are_arguments (verify_row file name reading certificate row) = verify_fits row
 are_arguments (migrate_row is) = subst AreArguments (sym is) (omega arith, ((λ e. absurd (omega (arith, e))), tt))

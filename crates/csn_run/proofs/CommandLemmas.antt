@@ -3,12 +3,12 @@ use Rattle.std.proofs.Common.{◌≡◌, ◌↔◌, ◌≤◌, ◌⊎◌, inl, i
 use Rattle.csn_desc.specs.declared.reading.Reading.{Reading}
 use Rattle.csn_run.specs.declared.command.RuleCommand.{RuleCommand}
 use Rattle.csn_catalogue.specs.declared.entry.Entry.{Entry}
-use Rattle.csn_run.specs.Command.{IsCommand, IsRowOf, IsOverRule, IsAnswer, IsMigrate, IsSoak, IsCompat, NamesFile, NamesFiles, names_one, names_pair, rule_row, compat_row, ReadsLines, leaves_report, leaves_soak, leaves_compat}
+use Rattle.csn_run.specs.Command.{IsCommand, IsRowOf, IsOverRule, IsAnswer, IsMigrate, IsSoak, IsCompat, IsVerify, NamesFile, NamesFiles, names_one, names_pair, names_certificate, rule_row, compat_row, verify_row, ReadsLines, leaves_report, leaves_soak, leaves_compat, leaves_verify}
 use Rattle.csn_run.specs.declared.command.Command.{Command}
 use Rattle.csn_replay.specs.Watched.{Watched}
 use Rattle.csn_run.specs.Job.{Asked, ComesTo}
-use Rattle.csn_run.specs.Result.{LineJob, comes_first, comes_second}
-use Rattle.csn_run.proofs.OneResult.{one_rule, one_pair, over, answers, not_both, not_migrate, migrate_not_three, not_two, not_three, not_five, two_not_three}
+use Rattle.csn_run.specs.Result.{LineJob, comes_first, comes_second, comes_certificate}
+use Rattle.csn_run.proofs.OneResult.{one_rule, one_pair, one_verify, not_compat, over, answers, not_both, not_migrate, migrate_not_three, not_two, not_three, not_five, two_not_three}
 
 -- words that no command stands for are no row
 pub no_row : (words : List (List ℕ)) (command : Option Command) → (IsSome command ↔ IsCommand words) → is_some command ≡ false → IsCommand words → ⊥
@@ -27,17 +27,27 @@ command_read {given} {read} {words} is back row = subst IsCommand (sym (ap (map 
 pub one_file : {words : List (List ℕ)} {file name : List ℕ} {reading : Reading} {files : List (List ℕ)} → IsOverRule words file name reading → NamesFiles words files → files ≡ file ∷ []
 one_file row (names_one other name reading row' is) = is ∙ ap (λ f. f ∷ []) (sym (one_rule (over row).row (over row').row).file_is)
 one_file row (names_pair before after name reading row' is) = absurd (not_five (over row) row'.words_are)
+one_file row (names_certificate file name reading certificate row' is) = absurd (not_five (over row) row'.words_are)
 
 -- and those of `compat` name both files
 pub two_files : {words : List (List ℕ)} {before after name : List ℕ} {reading : Reading} {files : List (List ℕ)} → IsCompat words before after name reading → NamesFiles words files → files ≡ before ∷ after ∷ []
 two_files row (names_one file name reading row' is) = absurd (not_five (over row') row.words_are)
 two_files {before = before} {after} row (names_pair before' after' name reading row' is) =
     let same = one_pair row row' in is ∙ ap (λ b. b ∷ after' ∷ []) (sym same.before_is) ∙ ap (λ a. before ∷ a ∷ []) (sym same.after_is)
+two_files row (names_certificate file name reading certificate row' is) = absurd (not_compat row row')
+
+-- those of `verify` name the description and the certificate
+pub verify_files : {words : List (List ℕ)} {file name certificate : List ℕ} {reading : Reading} {files : List (List ℕ)} → IsVerify words file name reading certificate → NamesFiles words files → files ≡ file ∷ certificate ∷ []
+verify_files row (names_one file name reading row' is) = absurd (not_five (over row') row.words_are)
+verify_files row (names_pair before after name reading row' is) = absurd (not_compat row' row)
+verify_files {file = file} {certificate = certificate} row (names_certificate file' name' reading' certificate' row' is) =
+    let same = one_verify row row' in is ∙ ap (λ f. f ∷ certificate' ∷ []) (sym same.file_is) ∙ ap (λ c. file ∷ c ∷ []) (sym same.certificate_is)
 
 -- words that name files are four or more, and are a row
 names_long : {words : List (List ℕ)} {files : List (List ℕ)} → NamesFiles words files → 4 ≤ length words
 names_long (names_one file name reading row is) = omega (arith, ap length (over row).row.words_are)
 names_long (names_pair before after name reading row is) = omega (arith, ap length row.words_are)
+names_long (names_certificate file name reading certificate row is) = omega (arith, ap length row.words_are)
 
 pub no_files : {words : List (List ℕ)} {files : List (List ℕ)} → length words ≤ 3 → NamesFiles words files → ⊥
 no_files few names = omega (arith, few, names_long names)
@@ -45,12 +55,14 @@ no_files few names = omega (arith, few, names_long names)
 pub row_named : {words : List (List ℕ)} {files : List (List ℕ)} → NamesFiles words files → IsCommand words
 row_named (names_one file name reading row is) = rule_row file name reading row
 row_named (names_pair before after name reading row is) = compat_row before after name reading row
+row_named (names_certificate file name reading certificate row is) = verify_row file name reading certificate row
 
 -- a file that the run comes to is one that the words name
 pub comes_named : {words : List (List ℕ)} {file : List ℕ} (files : Option (List ℕ → Option (List ℕ))) → ComesTo words files file → NamesFile words file
 comes_named None named = named
 comes_named (Some files) (comes_first behind names) = ([], behind, names)
 comes_named (Some files) (comes_second before name text reading row held fits) = (before ∷ [], [], names_pair before _ name reading row refl)
+comes_named (Some files) (comes_certificate description name text reading rules d row described) = (description ∷ [], [], names_certificate description name reading _ row refl)
 
 -- the one file that words name is what the run comes to
 pub one_comes : {words : List (List ℕ)} {file name other : List ℕ} {reading : Reading} (files : Option (List ℕ → Option (List ℕ))) → IsOverRule words file name reading → ComesTo words files other → other ≡ file
@@ -70,6 +82,7 @@ pub answer_reads : {words : List (List ℕ)} {file name : List ℕ} {reading : R
 answer_reads command row (leaves_report report file name reading reports) = not_both report command reports row
 answer_reads command row (leaves_soak entry n soak) = not_three (answers command row) soak.words_are
 answer_reads command row (leaves_compat before after name reading compat) = not_five (answers command row) compat.words_are
+answer_reads command row (leaves_verify file name reading certificate verify) = not_five (answers command row) verify.words_are
 
 -- a job that reads lines and leaves the source alone, or has come to its lines
 pub reads_too :
@@ -82,6 +95,7 @@ pub migrate_reads : {words : List (List ℕ)} → IsMigrate words → ReadsLines
 migrate_reads is (leaves_report report file name reading reports) = not_migrate (over (inl (report, reports))) is
 migrate_reads is (leaves_soak entry n soak) = migrate_not_three is soak.words_are
 migrate_reads is (leaves_compat before after name reading compat) = omega (arith, ap length is, ap length compat.words_are)
+migrate_reads is (leaves_verify file name reading certificate verify) = omega (arith, ap length is, ap length verify.words_are)
 
 pub migrate_names : {words : List (List ℕ)} → IsMigrate words → (file : List ℕ) → NamesFile words file → ⊥
 migrate_names is file names = omega (arith, ap length is, names_long names.2)
@@ -91,6 +105,7 @@ pub two_read : {words : List (List ℕ)} {first second : List ℕ} → words ≡
 two_read is (leaves_report report file name reading reports) = not_two (over (inl (report, reports))) is
 two_read is (leaves_soak entry n soak) = two_not_three is soak.words_are
 two_read is (leaves_compat before after name reading compat) = omega (arith, ap length is, ap length compat.words_are)
+two_read is (leaves_verify file name reading certificate verify) = omega (arith, ap length is, ap length verify.words_are)
 
 pub two_name : {words : List (List ℕ)} {first second : List ℕ} → words ≡ first ∷ second ∷ [] → (file : List ℕ) → NamesFile words file → ⊥
 two_name is file names = omega (arith, ap length is, names_long names.2)

@@ -41,32 +41,32 @@ use Rattle.csn_run.specs.declared.command.RuleReport.{RuleReport}
 use Rattle.csn_run.specs.Command.{IsReport, IsAnswer, IsMigrate, IsSegments, IsReplay, IsSoak, IsOverRule, over_downlink, over_all, over_soaked, leaves_report, leaves_soak}
 use Rattle.csn_run.specs.Compiled.{RuleOf, rule_of_entry, IsCompiled, HasNoPlan, no_rules, rules_refused, not_certified, IsReason, Tells, soaked_line, AreCompiled}
 use Rattle.csn_run.specs.Planned.{IsPlanned, IsWhy, Refuses}
-use Rattle.csn_run.specs.Job.{IsDescription, IsBeforeLines, Asked, EndedBefore, JobEnds, unread, before_lines, all_lines, some_lines}
+use Rattle.csn_run.specs.Job.{IsDescription, IsWhole, IsBeforeLines, Asked, EndedBefore, JobEnds, unread, before_lines, all_lines, some_lines}
 use Rattle.csn_run.proofs.Following.{Follows, all_follow, stops_follow, Watches}
 use Rattle.csn_run.specs.Result.{LineJob, by_rule, migrating, Steps, beginning, segmenting, asks_by_rule, asks_migrate, asks_segments, HasJob, Compiles, of_file, of_catalogue, long_text, no_plan, no_job, Reports, reported, soaked, end_of, replaying, asks_replay}
 
 -- ---- what the words ask for over told files
 
 -- a file of which so few bytes were asked for that more were left is longer
-pub long_file : (files : List ℕ → Option (List ℕ)) (file front : List ℕ) → BeginsFile (Some files) file (MOST_DESCRIPTION + 1) front → MOST_DESCRIPTION < length front → (text : List ℕ) × (files file ≡ Some text) × (MOST_DESCRIPTION < length text)
-long_file files file front begins long = go (files file) refl begins
+pub long_file : (most : ℕ) (files : List ℕ → Option (List ℕ)) (file front : List ℕ) → BeginsFile (Some files) file (most + 1) front → most < length front → (text : List ℕ) × (files file ≡ Some text) × (most < length text)
+long_file most files file front begins long = go (files file) refl begins
   where
-    go : (o : Option (List ℕ)) → files file ≡ o → option_map (take (MOST_DESCRIPTION + 1)) o ≡ Some front → (text : List ℕ) × (files file ≡ Some text) × (MOST_DESCRIPTION < length text)
+    go : (o : Option (List ℕ)) → files file ≡ o → option_map (take (most + 1)) o ≡ Some front → (text : List ℕ) × (files file ≡ Some text) × (most < length text)
     go None is e = absurd (cc)
     go (Some text) is e =
-        let same : take (MOST_DESCRIPTION + 1) text ≡ front = cc in
-        (text, is, omega (arith, ap length same, length-take (MOST_DESCRIPTION + 1) text))
+        let same : take (most + 1) text ≡ front = cc in
+        (text, is, omega (arith, ap length same, long, length-take (most + 1) text))
 
--- the whole description in a file is what the file has
-pub whole_file : (files : List ℕ → Option (List ℕ)) (file text : List ℕ) → IsDescription (Some files) file text → files file ≡ Some text
-whole_file files file text is = go (files file) refl is.front
+-- a text that is all in a file is what the file has
+pub whole_file : {most : ℕ} (files : List ℕ → Option (List ℕ)) (file text : List ℕ) → IsWhole most (Some files) file text → files file ≡ Some text
+whole_file {most} files file text is = go (files file) refl is.front
   where
-    go : (o : Option (List ℕ)) → files file ≡ o → option_map (take (MOST_DESCRIPTION + 1)) o ≡ Some text → files file ≡ Some text
+    go : (o : Option (List ℕ)) → files file ≡ o → option_map (take (most + 1)) o ≡ Some text → files file ≡ Some text
     go None held e = absurd (cc)
     go (Some t) held e =
-        let same : take (MOST_DESCRIPTION + 1) t ≡ text = cc in
-        let few : length t ≤ MOST_DESCRIPTION + 1 = omega (arith, is.fits, ap length same, length-take (MOST_DESCRIPTION + 1) t) in
-        held ∙ ap Some (sym (take_all (MOST_DESCRIPTION + 1) t few) ∙ same)
+        let same : take (most + 1) t ≡ text = cc in
+        let few : length t ≤ most + 1 = omega (arith, is.fits, ap length same, length-take (most + 1) t) in
+        held ∙ ap Some (sym (take_all (most + 1) t few) ∙ same)
 
 -- a command by a plan
 pub asked_by_rule :
@@ -91,7 +91,7 @@ ended_reported words (Some files) report rule d written row is told =
     reported report rule.file.now rule.name.now is.text rule.reading is.rules d row (whole_file files rule.file.now is.text is.fetched) is.fetched.fits is.compiled told refl
 
 -- the reason why a text gives no plan, with its line
-no_plan_of :
+pub no_plan_of :
     (text name : List ℕ) (reading : Reading) (reason : NoPlan) (line : List ℕ) (ended : Ended)
     → IsReason text name reading reason → Tells reason line ended → HasNoPlan text name reading line ended
 no_plan_of text name reading (Rules (Syntax place)) line ended is tells = no_rules place is tells.0 tells.1
@@ -142,7 +142,7 @@ module _ (words : List (List ℕ)) (rule : RuleWords) (row : IsOverRule words ru
       → BeginsFile files rule.file.now (MOST_DESCRIPTION + 1) front → MOST_DESCRIPTION < length front → EndedBefore words files written Long
   ended_by_length None front written none begins long = inl (inr (inr refl))
   ended_by_length (Some files) front written none begins long =
-      let text = long_file files rule.file.now front begins long in
+      let text = long_file MOST_DESCRIPTION files rule.file.now front begins long in
       no_job [] (record { text = text.0; name = rule.name.now; reading = rule.reading }) [] (file_compiles words files rule.file.now rule.name.now text.0 rule.reading row text.1) tt (long_text text.2 none refl)
 
   -- the job is over before it has a plan

@@ -32,3 +32,4 @@ pub mod PairLemmas
 pub mod OldBlocks
 pub mod SoakedBlocks
 mod CertificateTexts
+pub mod VerifyLemmas

@@ -17,9 +17,9 @@ use Rattle.csn_run.specs.Command.{IsCompat}
 use Rattle.csn_run.specs.Compiled.{IsCompiled, no_rules, rules_refused, not_certified, compares_ok, compares_no}
 use Rattle.csn_run.specs.Job.{JobEnds, unread, before_lines, all_lines, some_lines, end_with}
 use Rattle.csn_run.specs.OutLine.{shows_block, shows_tree}
-use Rattle.csn_run.specs.Result.{EndsBefore, no_job, reported, soaked, of_two, long_text, no_plan, EndsPair, long_before, long_after, compared, BlocksStay, OldBlocksStay}
+use Rattle.csn_run.specs.Result.{EndsBefore, no_job, reported, soaked, of_two, long_text, no_plan, EndsPair, long_before, long_after, compared, of_certificate, BlocksStay, OldBlocksStay}
 use Rattle.csn_run.proofs.FormsAgree.{told}
-use Rattle.csn_run.proofs.OneResult.{over, not_five, one_pair, one_held, pair_no_job}
+use Rattle.csn_run.proofs.OneResult.{over, not_compat, not_five, one_pair, one_held, pair_no_job}
 use Rattle.csn_run.proofs.ResultLemmas.{ended_apart, fault_answered}
 use Rattle.csn_run.proofs.ShownLines.{description, meant_by, string_of, tree_text}
 
@@ -80,6 +80,8 @@ module _ (known : Known) (words : List (List ℕ)) (files : List ℕ → Option 
   before_stays written ended (of_two before after name reading row ends) done =
       let P : Ended → Type 0 = λ x. EndsPair files before after name reading written x in
       pair_stays row (subst P done ends)
+  before_stays written ended (of_certificate file name reading certificate row ends) done =
+      λ before after name' was now reading' rules' others row'. absurd (not_compat row' row)
 
   pub stays_of :
       {watchers : List Watched} {left left' taken taken' : Option (List ℕ)} {waits : List ℕ} (end : Result Ended Fault)

@@ -9,6 +9,8 @@ use Rattle.csn_catalogue.specs.Text.{catalogue_text}
 use Rattle.csn_desc.specs.declared.reading.Reading.{Reading}
 use Rattle.csn_desc.specs.declared.reading.Reading.TheVariants.{Received, Sent}
 use Rattle.csn_desc.specs.Nodes.{DescV}
+use Rattle.csn_cert.specs.CertificateV.{NodeV}
+use Rattle.csn_good.specs.Good.{Good, FirstFault}
 use Rattle.csn_grammar.specs.RulesV.{RulesV}
 use Rattle.csn_grammar.specs.Place.{HasRules}
 use Rattle.csn_replay.specs.Watched.{Watched}
@@ -23,11 +25,12 @@ use Rattle.csn_run.specs.declared.command.RuleReport.{RuleReport}
 use Rattle.csn_run.specs.declared.command.RuleReport.TheVariants.{Check, Certificate}
 use Rattle.csn_run.specs.declared.command.TreeForm.TheVariants.{Text, Json}
 use Rattle.csn_run.specs.declared.ended.Ended.{Ended}
+use Rattle.csn_run.specs.declared.ended.Ended.TheVariants.{NotCertified}
 use Rattle.csn_run.specs.declared.compile.TheConstants.{MOST_DESCRIPTION}
 use Rattle.csn_run.specs.Known.{KnownOfTexts}
-use Rattle.csn_run.specs.Command.{word_of, command_word, report_word, NamesRule, NamesReading, IsReport, IsAnswer, IsMigrate, IsSegments, IsReplay, IsSoak, IsCompat, IsOverRule, IsOverEntries, over_downlink, over_all, over_soaked}
-use Rattle.csn_run.specs.Compiled.{RuleOf, rule_of_entry, line_of, conflict_line, soaked_line, AreCompiled, IsCompiled, HasNoPlan, no_rules, rules_refused, not_certified, Compares, compares_ok, compares_no}
-use Rattle.csn_run.specs.Result.{LineJob, by_rule, segmenting, replaying, AsksFor, asks_by_rule, asks_migrate, asks_segments, asks_replay, AnswersInput, HasJob, Compiles, of_file, of_catalogue, of_pair, HasNoJob, long_text, no_plan, Reports, EndsPair, long_before, long_after, compared, EndsBefore, no_job, reported, soaked, of_two, no_line, lines}
+use Rattle.csn_run.specs.Command.{word_of, command_word, report_word, NamesRule, NamesReading, IsReport, IsAnswer, IsMigrate, IsSegments, IsReplay, IsSoak, IsCompat, IsVerify, IsOverRule, IsOverEntries, over_downlink, over_all, over_soaked}
+use Rattle.csn_run.specs.Compiled.{RuleOf, rule_of_entry, line_of, conflict_line, soaked_line, AreCompiled, IsCompiled, HasNoPlan, no_rules, rules_refused, not_certified, Compares, compares_ok, compares_no, Verifies, verifies_good, verifies_fault, verifies_none}
+use Rattle.csn_run.specs.Result.{LineJob, by_rule, segmenting, replaying, AsksFor, asks_by_rule, asks_migrate, asks_segments, asks_replay, AnswersInput, HasJob, Compiles, of_file, of_catalogue, of_pair, HasNoJob, long_text, no_plan, Reports, EndsPair, long_before, long_after, compared, IsDescribed, EndsVerify, no_description, long_certificate, verified, EndsBefore, no_job, reported, soaked, of_two, of_certificate, no_line, lines}
 use Rattle.csn_run.specs.Laws.{LinesHaveOneAnswer, RunsHaveOneResult}
 use Rattle.csn_soak.specs.Soaking.{IsSoaked}
 use Rattle.csn_run.proofs.OneInput.{Written, one_input}
@@ -152,6 +155,30 @@ one_pair {words} {before} {before'} {after} {after'} {name} {name'} {reading} {r
     let all : codes "compat" ∷ before ∷ after ∷ name ∷ word_of reading ∷ [] ≡ codes "compat" ∷ before' ∷ after' ∷ name' ∷ word_of reading' ∷ [] = sym row.words_are ∙ row'.words_are in
     let read : word_of reading ≡ word_of reading' = cc in
     record { before_is = cc; after_is = cc; name_is = cc; reading_is = one_reading_word reading reading' read }
+
+-- words of `verify` name one file, one rule, one reading and one certificate
+pub record OneVerify (file file' name name' : List ℕ) (reading reading' : Reading) (certificate certificate' : List ℕ) : Type 0 where
+  pub file_is : file ≡ file'
+  pub name_is : name ≡ name'
+  pub reading_is : reading ≡ reading'
+  pub certificate_is : certificate ≡ certificate'
+
+pub one_verify :
+    {words : List (List ℕ)} {file file' name name' certificate certificate' : List ℕ} {reading reading' : Reading}
+    → IsVerify words file name reading certificate → IsVerify words file' name' reading' certificate'
+    → OneVerify file file' name name' reading reading' certificate certificate'
+one_verify {words} {file} {file'} {name} {name'} {certificate} {certificate'} {reading} {reading'} row row' =
+    let all : codes "verify" ∷ file ∷ name ∷ word_of reading ∷ certificate ∷ [] ≡ codes "verify" ∷ file' ∷ name' ∷ word_of reading' ∷ certificate' ∷ [] = sym row.words_are ∙ row'.words_are in
+    let read : word_of reading ≡ word_of reading' = cc in
+    record { file_is = cc; name_is = cc; reading_is = one_reading_word reading reading' read; certificate_is = cc }
+
+-- they are none of `compat`
+pub not_compat : {words : List (List ℕ)} {before after name file name' certificate : List ℕ} {reading reading' : Reading} → IsCompat words before after name reading → IsVerify words file name' reading' certificate → ⊥
+not_compat {words} {before} {after} {name} {file} {name'} {certificate} {reading} {reading'} row row' =
+    let all : codes "compat" ∷ before ∷ after ∷ name ∷ word_of reading ∷ [] ≡ codes "verify" ∷ file ∷ name' ∷ word_of reading' ∷ certificate ∷ [] = sym row.words_are ∙ row'.words_are in
+    let same : codes "compat" ≡ codes "verify" = cc in
+    let first : 99 ≡ 118 = ap (λ w. slice_index w 0) same in
+    omega (arith, first)
 
 -- words of two name one reading
 pub same_reading : {words : List (List ℕ)} {command other : List ℕ} {reading reading' : Reading} → NamesReading command words reading → NamesReading other words reading' → reading ≡ reading'
@@ -334,6 +361,17 @@ module _ (known : KnownOfTexts) where
   no_job_or_one (long_text long is end) fits compiled = omega (arith, long, fits)
   no_job_or_one (no_plan line fits' none is) fits compiled = no_plan_or_one none compiled
 
+  -- a rule of a text has a description, or none
+  pub none_or_described :
+      {text name : List ℕ} {reading : Reading} {w : List ℕ} {e : Ended} {rules : RulesV} {d : DescV} → HasNoJob text name reading w e → (e ≡ NotCertified → ⊥)
+      → length text ≤ MOST_DESCRIPTION → HasRules text rules → IsResolved rules name reading d → ⊥
+  none_or_described (long_text long is end) other fits has resolved = omega (arith, long, fits)
+  none_or_described {text} (no_plan line fits' (no_rules place at is e) is') other fits has resolved = known.apart text _ _ has at
+  none_or_described {text} {name} {reading} {rules = rules} {d} (no_plan line fits' (rules_refused others why place has' why_not is e) is') other fits has resolved =
+      let P : RulesV → Type 0 = λ r. IsRefused r name reading why place in
+      known.refused_or_resolved rules reading name why place d (rules_along text others rules has' has P why_not) resolved
+  none_or_described (no_plan line fits' (not_certified others c conflict has' resolved' first is e) is') other fits has resolved = other e
+
   -- a rule has a job, or none
   job_or_none : (rule : RuleOf) {w : List ℕ} {e : Ended} → HasJob rule → HasNoJob rule.text rule.name rule.reading w e → ⊥
   job_or_none rule has none = no_job_or_one none has.0 has.3
@@ -454,6 +492,76 @@ module _ (known : KnownOfTexts) where
         let S : Reading → Type 0 = λ r. EndsPair files before' after' name' r w e in
         one_pair_ends w v e f (subst S same.reading_is (subst R same.name_is (subst Q same.after_is (subst P same.before_is ends)))) ends'
 
+    -- ---- certificates
+
+    -- `verify` compiles nothing
+    pub verify_compiles : {file name certificate : List ℕ} {reading : Reading} {all : List RuleOf} → IsVerify words file name reading certificate → Compiles words files all → ⊥
+    verify_compiles row (of_file file' name' text reading' row' held' is) = not_five (over row') row.words_are
+    verify_compiles row (of_catalogue entries reading' row' is) = omega (arith, entries_short row', ap length row.words_are)
+    verify_compiles row (of_pair before after name' was now reading' row' held has few small is) = not_compat row' row
+
+    one_verifies : {d : DescV} {text w v : List ℕ} {x y : Ended} → Verifies d text w x → Verifies d text v y → Written w x v y
+    one_verifies (verifies_good c spells good is end) (verifies_good c' spells' good' is' end') = (is ∙ sym is', end ∙ sym end')
+    one_verifies {d} {text} (verifies_good c spells good is end) (verifies_fault c' rule node spells' fault is' end') =
+        let P : List NodeV → Type 0 = λ x. Good d x in
+        absurd (known.no_fault d c' rule node (subst P (known.of_one_certificate c c' text spells spells') good) fault)
+    one_verifies (verifies_good c spells good is end) (verifies_none none is' end') = absurd (none c spells)
+    one_verifies {d} {text} (verifies_fault c' rule node spells' fault is' end') (verifies_good c spells good is end) =
+        let P : List NodeV → Type 0 = λ x. Good d x in
+        absurd (known.no_fault d c' rule node (subst P (known.of_one_certificate c c' text spells spells') good) fault)
+    one_verifies {d} {text} (verifies_fault c rule node spells fault is end) (verifies_fault c' rule' node' spells' fault' is' end') =
+        let P : List NodeV → Type 0 = λ x. FirstFault d x rule node in
+        let same = known.one_fault d c' rule rule' node node' (subst P (known.of_one_certificate c c' text spells spells') fault) fault' in
+        (is ∙ ap (λ r. line_of (codes "unproved") (r ∷ node ∷ [])) same.0 ∙ ap (λ n. line_of (codes "unproved") (rule' ∷ n ∷ [])) same.1 ∙ sym is', end ∙ sym end')
+    one_verifies (verifies_fault c rule node spells fault is end) (verifies_none none is' end') = absurd (none c spells)
+    one_verifies (verifies_none none is' end') (verifies_good c spells good is end) = absurd (none c spells)
+    one_verifies (verifies_none none is' end') (verifies_fault c rule node spells fault is end) = absurd (none c spells)
+    one_verifies (verifies_none none is end) (verifies_none none' is' end') = (is ∙ sym is', end ∙ sym end')
+
+    -- a rule has one description
+    described_once :
+        {file name text text' : List ℕ} {reading : Reading} {rules others : RulesV} {d other : DescV} → IsDescribed files file name text reading rules d → IsDescribed files file name text' reading others other
+        → d ≡ other
+    described_once {file} {name} {text} {text'} {reading} {rules} {others} {d} {other} is has =
+        let P : List ℕ → Type 0 = λ t. HasRules t rules in
+        let Q : RulesV → Type 0 = λ r. IsResolved r name reading d in
+        one_desc (rules_along text' rules others (subst P (one_held is.held has.held) is.has_rules) has.has_rules Q is.resolved) has.resolved
+
+    -- it has a description, or a line that says why not
+    described_or_none :
+        {file name text text' : List ℕ} {reading : Reading} {rules : RulesV} {d : DescV} {w : List ℕ} {e : Ended} → files file ≡ Some text → HasNoJob text name reading w e → (e ≡ NotCertified → ⊥)
+        → IsDescribed files file name text' reading rules d → ⊥
+    described_or_none {file} {name} {text} {text'} {reading} {rules} {d} {w} {e} held none other is =
+        let P : List ℕ → Type 0 = λ t. HasNoJob t name reading w e in
+        none_or_described (subst P (one_held held is.held) none) other is.fits is.has_rules is.resolved
+
+    one_verify_ends : {file name certificate : List ℕ} {reading : Reading} (w v : List ℕ) (e f : Ended) → EndsVerify files file name reading certificate w e → EndsVerify files file name reading certificate v f → Written w e v f
+    one_verify_ends {file} {name} {certificate} {reading} w v e f (no_description text held none other) (no_description text' held' none' other') =
+        let P : List ℕ → Type 0 = λ t. HasNoJob t name reading w e in one_no_job text' name reading w v e f (subst P (one_held held held') none) none'
+    one_verify_ends w v e f (no_description text held none other) (long_certificate text' bytes' rules' d' is' held' long' empty' end') = absurd (described_or_none held none other is')
+    one_verify_ends w v e f (no_description text held none other) (verified text' bytes' line' rules' d' is' held' few' told' all') = absurd (described_or_none held none other is')
+    one_verify_ends w v e f (long_certificate text' bytes' rules' d' is' held' long' empty' end') (no_description text held none other) = absurd (described_or_none held none other is')
+    one_verify_ends w v e f (long_certificate text bytes rules d is held long empty end) (long_certificate text' bytes' rules' d' is' held' long' empty' end') = (empty ∙ sym empty', end ∙ sym end')
+    one_verify_ends w v e f (long_certificate text bytes rules d is held long empty end) (verified text' bytes' line' rules' d' is' held' few' told' all') = absurd (omega (arith, long, few', ap length (one_held held held')))
+    one_verify_ends w v e f (verified text' bytes' line' rules' d' is' held' few' told' all') (no_description text held none other) = absurd (described_or_none held none other is')
+    one_verify_ends w v e f (verified text' bytes' line' rules' d' is' held' few' told' all') (long_certificate text bytes rules d is held long empty end) = absurd (omega (arith, long, few', ap length (one_held held held')))
+    one_verify_ends w v e f (verified text bytes line rules d is held few told all) (verified text' bytes' line' rules' d' is' held' few' told' all') =
+        let P : List ℕ → Type 0 = λ t. Verifies d t line e in
+        let Q : DescV → Type 0 = λ x. Verifies x bytes' line e in
+        let same = one_verifies (subst Q (described_once is is') (subst P (one_held held held') told)) told' in
+        (all ∙ ap (λ l. l ++ 10 ∷ []) same.0 ∙ sym all', same.1)
+
+    one_certificate_ends :
+        {file file' name name' certificate certificate' : List ℕ} {reading reading' : Reading} (w v : List ℕ) (e f : Ended) → IsVerify words file name reading certificate → IsVerify words file' name' reading' certificate'
+        → EndsVerify files file name reading certificate w e → EndsVerify files file' name' reading' certificate' v f → Written w e v f
+    one_certificate_ends {file} {file'} {name} {name'} {certificate} {certificate'} {reading} {reading'} w v e f row row' ends ends' =
+        let same = one_verify row row' in
+        let P : List ℕ → Type 0 = λ b. EndsVerify files b name reading certificate w e in
+        let Q : List ℕ → Type 0 = λ n. EndsVerify files file' n reading certificate w e in
+        let R : Reading → Type 0 = λ r. EndsVerify files file' name' r certificate w e in
+        let S : List ℕ → Type 0 = λ c. EndsVerify files file' name' reading' c w e in
+        one_verify_ends w v e f (subst S same.certificate_is (subst R same.reading_is (subst Q same.name_is (subst P same.file_is ends)))) ends'
+
     one_before : (w v : List ℕ) (e f : Ended) → EndsBefore words files w e → EndsBefore words files v f → Written w e v f
     one_before w v e f (no_job front rule behind compiles has none) (no_job front' rule' behind' compiles' has' none') =
         let same = one_first front front' rule rule' behind behind' w v e f (one_list_compiles words files _ _ compiles compiles') has has' none none' in
@@ -494,6 +602,15 @@ module _ (known : KnownOfTexts) where
     one_before w v e f (soaked entry n rules d counts row fits compiled from is end) (of_two before' after' name' reading' row' ends) = absurd (omega (arith, ap length row.words_are, ap length row'.words_are))
     one_before w v e f (of_two before' after' name' reading' row' ends) (soaked entry n rules d counts row fits compiled from is end) = absurd (omega (arith, ap length row.words_are, ap length row'.words_are))
     one_before w v e f (of_two before after name reading row ends) (of_two before' after' name' reading' row' ends') = one_two w v e f row row' ends ends'
+    one_before w v e f (no_job front rule behind compiles has none) (of_certificate file name reading certificate row ends) = absurd (verify_compiles row compiles)
+    one_before w v e f (of_certificate file name reading certificate row ends) (no_job front rule behind compiles has none) = absurd (verify_compiles row compiles)
+    one_before w v e f (reported report file name text reading rules d row held fits compiled is end) (of_certificate file' name' reading' certificate row' ends) = absurd (not_five (over (inl (report, row))) row'.words_are)
+    one_before w v e f (of_certificate file' name' reading' certificate row' ends) (reported report file name text reading rules d row held fits compiled is end) = absurd (not_five (over (inl (report, row))) row'.words_are)
+    one_before w v e f (soaked entry n rules d counts row fits compiled from is end) (of_certificate file' name' reading' certificate row' ends) = absurd (omega (arith, ap length row.words_are, ap length row'.words_are))
+    one_before w v e f (of_certificate file' name' reading' certificate row' ends) (soaked entry n rules d counts row fits compiled from is end) = absurd (omega (arith, ap length row.words_are, ap length row'.words_are))
+    one_before w v e f (of_two before after name reading row ends) (of_certificate file' name' reading' certificate row' ends') = absurd (not_compat row row')
+    one_before w v e f (of_certificate file' name' reading' certificate row' ends') (of_two before after name reading row ends) = absurd (not_compat row row')
+    one_before w v e f (of_certificate file name reading certificate row ends) (of_certificate file' name' reading' certificate' row' ends') = one_certificate_ends w v e f row row' ends ends'
 
     -- ---- which job the words ask for
 
@@ -546,6 +663,13 @@ module _ (known : KnownOfTexts) where
     pair_no_job row (asks_segments reading' rules' d' row' fits' compiled' is') = omega (arith, ap length row', ap length row.words_are)
     pair_no_job row (asks_replay reading' rules' plans' row' fits' compiled' is') = omega (arith, ap length row', ap length row.words_are)
 
+    -- nor has `verify`
+    pub verify_no_job : {watchers : List Watched} {job : LineJob} {file name certificate : List ℕ} {reading : Reading} → IsVerify words file name reading certificate → AsksFor words files watchers job → ⊥
+    verify_no_job row (asks_by_rule command file' name' text' reading' rules' d' row' held' fits' compiled' is') = not_five (answers command row') row.words_are
+    verify_no_job row (asks_migrate row' is') = omega (arith, ap length row', ap length row.words_are)
+    verify_no_job row (asks_segments reading' rules' d' row' fits' compiled' is') = omega (arith, ap length row', ap length row.words_are)
+    verify_no_job row (asks_replay reading' rules' plans' row' fits' compiled' is') = omega (arith, ap length row', ap length row.words_are)
+
     -- a run that comes to no line has no job over lines
     pub before_or_job : {w : List ℕ} {e : Ended} {watchers : List Watched} (job : LineJob) → EndsBefore words files w e → AsksFor words files watchers job → ⊥
     before_or_job job (no_job front rule behind compiles has none) asked = job_or_none rule (holds_at front rule behind (jobs_compile job _ asked compiles)) none
@@ -558,6 +682,7 @@ module _ (known : KnownOfTexts) where
     before_or_job job (soaked entry n rules d counts row fits compiled from is end) (asks_segments reading' rules' d' row' fits' compiled' is') = two_not_three row' row.words_are
     before_or_job job (soaked entry n rules d counts row fits compiled from is end) (asks_replay reading' rules' plans' row' fits' compiled' is') = two_not_three row' row.words_are
     before_or_job job (of_two before after name reading row ends) asked = pair_no_job row asked
+    before_or_job job (of_certificate file name reading certificate row ends) asked = verify_no_job row asked
 
 pub one_result : KnownOfTexts → LinesHaveOneAnswer → RunsHaveOneResult
 one_result known one_in_job words files watchers input w v e f (no_line before) (no_line before') = one_before known words files w v e f before before'

@@ -16,10 +16,10 @@ use Rattle.csn_run.specs.Command.{IsCompat, names_pair, leaves_compat}
 use Rattle.csn_run.specs.Compiled.{IsCompiled, Compares, compares_ok, compares_no}
 use Rattle.csn_run.specs.Job.{IsDescription, ComesTo, JobEnds, unread, before_lines}
 use Rattle.csn_run.specs.Planned.{IsLongPair, is_long_before, is_long_after, ComparesTexts, compares_none, refuses_before, refuses_after, compares_both}
-use Rattle.csn_run.specs.Result.{Compiles, of_pair, long_before, long_after, compared, of_two, comes_first, comes_second}
+use Rattle.csn_run.specs.Result.{Compiles, of_pair, long_before, long_after, compared, of_two, comes_first, comes_second, comes_certificate}
 use Rattle.csn_run.proofs.CommandLemmas.{two_files}
 use Rattle.csn_run.proofs.JobLemmas.{long_file, whole_file, reason_ends}
-use Rattle.csn_run.proofs.OneResult.{one_pair, rule_of}
+use Rattle.csn_run.proofs.OneResult.{one_pair, not_compat, rule_of}
 
 -- the files in which descriptions were found
 told_text : (files : Option (List ℕ → Option (List ℕ))) (told : List ℕ → Option (List ℕ)) (file text : List ℕ) → files ≡ Some told → IsDescription files file text → told file ≡ Some text
@@ -75,10 +75,10 @@ module _ (words : List (List ℕ)) (pair : PairWords) (row : IsCompat words pair
       → IsLongPair files pair → waits ≡ [] → JobEnds words files watchers left left taken taken waits (Err TooLong)
   long_ends None watchers left taken waits long none = before_lines (inl (inr (inr refl))) refl refl
   long_ends (Some files) watchers left taken waits (is_long_before front begins long) none =
-      let text = long_file files pair.before.now front begins long in
+      let text = long_file MOST_DESCRIPTION files pair.before.now front begins long in
       before_lines (of_two pair.before.now pair.after.now pair.name.now pair.reading row (long_before text.0 text.1 text.2 none refl)) refl refl
   long_ends (Some files) watchers left taken waits (is_long_after was front is begins long) none =
-      let text = long_file files pair.after.now front begins long in
+      let text = long_file MOST_DESCRIPTION files pair.after.now front begins long in
       before_lines (of_two pair.before.now pair.after.now pair.name.now pair.reading row (long_after was text.0 (whole_file files pair.before.now was is) is.fits text.1 text.2 none refl)) refl refl
 
   -- the job is over with two texts that fit
@@ -134,3 +134,4 @@ module _ (words : List (List ℕ)) (pair : PairWords) (row : IsCompat words pair
   lacks_one (Some files) file (comes_second before name text reading row' held fits) lacks =
       let same = one_pair row' row in
       inr (text, is_description files pair.before.now text (ap files (sym same.before_is) ∙ held) fits, ap files (sym same.after_is) ∙ lacks)
+  lacks_one (Some files) file (comes_certificate description name text reading rules d row' is) lacks = absurd (not_compat row row')

@@ -19,13 +19,14 @@ use Rattle.csn_resolve.specs.Resolved.{IsResolved}
 use Rattle.csn_run.specs.declared.ended.Ended.{Ended}
 use Rattle.csn_run.specs.declared.ended.Ended.TheVariants.{Done, SomeRefused, BadDescription, NotCertified, TooLong}
 use Rattle.csn_run.specs.declared.compile.TheConstants.{MOST_DESCRIPTION}
+use Rattle.csn_run.specs.declared.verifying.TheConstants.{MOST_CERTIFICATE}
 use Rattle.csn_run.specs.Known.{KnownOfTexts}
 use Rattle.csn_run.specs.declared.command.RuleReport.{RuleReport}
 use Rattle.csn_run.specs.declared.command.RuleReport.TheVariants.{Check, Certificate}
-use Rattle.csn_run.specs.Command.{IsReport, IsOverRule, IsOverEntries, IsCompat, over_downlink, over_all, over_soaked, rule_row, entries_row, migrate_row, compat_row, names_one, names_pair}
+use Rattle.csn_run.specs.Command.{IsReport, IsOverRule, IsOverEntries, IsCompat, IsVerify, over_downlink, over_all, over_soaked, rule_row, entries_row, migrate_row, compat_row, verify_row, names_one, names_pair, names_certificate}
 use Rattle.csn_run.specs.Compiled.{RuleOf, rule_of_entry, line_of, conflict_line, certified_line, soaked_line, HasNoPlan, no_rules, rules_refused, not_certified, AreCompiled, IsCompiled, compares_ok, compares_no}
 use Rattle.csn_run.specs.Laws.{IsDecided, HasCertificate, LinesHaveAnswers, RunsHaveResults}
-use Rattle.csn_run.specs.Result.{LineJob, by_rule, migrating, segmenting, AsksFor, asks_by_rule, asks_migrate, asks_segments, HasJob, Compiles, of_file, of_catalogue, of_pair, HasNoJob, long_text, no_plan, no_job, reported, soaked, of_two, long_before, long_after, compared, Result, no_line, lines, replaying, asks_replay}
+use Rattle.csn_run.specs.Result.{LineJob, by_rule, migrating, segmenting, AsksFor, asks_by_rule, asks_migrate, asks_segments, HasJob, Compiles, of_file, of_catalogue, of_pair, HasNoJob, long_text, no_plan, no_job, reported, soaked, of_two, long_before, long_after, compared, of_certificate, no_description, long_certificate, verified, IsDescribed, Result, no_line, lines, replaying, asks_replay}
 use Rattle.csn_look.specs.declared.word.TheConstants.{MOST_WORD}
 use Rattle.csn_certify.specs.declared.conflict.Conflict.{Conflict}
 use Rattle.csn_certify.specs.Conflicts.{Certified, IsFirstConflict}
@@ -145,6 +146,35 @@ module _ (known : KnownOfTexts) (decides : MeaningIsDecided) (each_in_job : Line
           )
         ]
 
+    -- a rule of a text that fits has a description, or a line that says why not
+    module _ (file name certificate text bytes : List ℕ) (reading : Reading) (row : IsVerify words file name reading certificate) (held : files file ≡ Some text) (has : files certificate ≡ Some bytes) where
+      undescribed : length text ≤ MOST_DESCRIPTION → (line : List ℕ) → HasNoPlan text name reading line BadDescription → HasResult
+      undescribed fits line none =
+          (line ++ 10 ∷ [], BadDescription, no_line (of_certificate file name reading certificate row (no_description text held (no_plan line fits none refl) (λ h. cc))))
+
+      measured : (rules : RulesV) (d : DescV) → IsDescribed files file name text reading rules d → HasResult
+      measured rules d is = elim (cases_lt MOST_CERTIFICATE (length bytes)) [
+        | inl long ↦ ([], TooLong, no_line (of_certificate file name reading certificate row (long_certificate text bytes rules d is has long refl refl)))
+        | inr few ↦
+            let told' = decided.verified file name certificate reading d bytes row has in
+            (told'.0 ++ 10 ∷ [], told'.1, no_line (of_certificate file name reading certificate row (verified text bytes told'.0 rules d is has few told'.2 refl)))
+      ]
+
+      by_names : length text ≤ MOST_DESCRIPTION → (rules : RulesV) → HasRules text rules → HasResult
+      by_names fits rules has_rules = elim (known.answered rules reading name (known.shaped text rules has_rules)) [
+        | inl refusal ↦ undescribed fits (line_of (codes "description") (number_of refusal.0 ∷ refusal.1 ∷ [])) (rules_refused rules refusal.0 refusal.1 has_rules refusal.2 refl refl)
+        | inr d ↦ measured rules d.0 (record { held = held; fits = fits; has_rules = has_rules; resolved = d.1 })
+      ]
+
+      verify_result : HasResult
+      verify_result = elim (cases_lt MOST_DESCRIPTION (length text)) [
+        | inl long ↦ ([], TooLong, no_line (of_certificate file name reading certificate row (no_description text held (long_text long refl refl) (λ h. cc))))
+        | inr fits ↦ elim (known.decided text) [
+          | inl rules ↦ by_names fits rules.0 rules.1
+          | inr place ↦ undescribed fits (line_of (codes "syntax") (place.0 ∷ [])) (no_rules place.0 place.1 refl refl)
+        ]
+      ]
+
     entries_result : (entries : List Entry) (reading : Reading) → IsOverEntries words entries reading → HasResult
     entries_result entries reading (over_downlink row is) = elim (first_told [] (rule_of_entry reading Downlink ∷ []) (of_catalogue (Downlink ∷ []) reading (over_downlink row refl) refl) tt) [
       | inl result ↦ result
@@ -177,3 +207,7 @@ some_result known decides each_in_job words files watchers input (compat_row bef
     let was = held_text (files before) (held before ([], after ∷ [], names_pair before after name reading row refl)) in
     let now = held_text (files after) (held after (before ∷ [], [], names_pair before after name reading row refl)) in
     pair_result known decides each_in_job words files watchers input decided told before after name was.0 now.0 reading row was.1 now.1
+some_result known decides each_in_job words files watchers input (verify_row file name reading certificate row) held decided told =
+    let text = held_text (files file) (held file ([], certificate ∷ [], names_certificate file name reading certificate row refl)) in
+    let bytes = held_text (files certificate) (held certificate (file ∷ [], [], names_certificate file name reading certificate row refl)) in
+    verify_result known decides each_in_job words files watchers input decided told file name certificate text.0 bytes.0 reading row text.1 bytes.1

@@ -12,9 +12,9 @@ use Rattle.csn_run.specs.declared.fault.Fault.{Fault}
 use Rattle.csn_run.specs.declared.fault.Fault.TheVariants.{Read, Write, Memory, TooLong}
 use Rattle.csn_run.specs.declared.lines.TheConstants.{MOST_INPUT}
 use Rattle.csn_run.specs.Progress.{EndsIn, StopsBy}
-use Rattle.csn_run.specs.Command.{ReadsLines, leaves_report, leaves_soak, leaves_compat}
+use Rattle.csn_run.specs.Command.{ReadsLines, leaves_report, leaves_soak, leaves_compat, leaves_verify}
 use Rattle.csn_run.specs.Known.{KnownOfTexts}
-use Rattle.csn_run.specs.Compiled.{no_rules, rules_refused, not_certified, compares_ok, compares_no}
+use Rattle.csn_run.specs.Compiled.{no_rules, rules_refused, not_certified, compares_ok, compares_no, verifies_good, verifies_fault, verifies_none}
 use Rattle.csn_run.specs.Job.{JobEnds, unread, before_lines, all_lines, some_lines, end_by, end_with, IsBeforeLines, EndedBefore, Asked}
 use Rattle.csn_run.specs.Result as whole
 use Rattle.csn_run.specs.Laws.{LinesHaveAnswers}
@@ -59,6 +59,17 @@ pair_apart (whole.long_before was held long is e) apart = apart.2 e
 pair_apart (whole.long_after was now held few has long is e) apart = apart.2 e
 pair_apart (whole.compared was now line rules others d x held has few small a b (compares_ok takes text e) is) apart = apart.0 e
 pair_apart (whole.compared was now line rules others d x held has few small a b (compares_no not text e) is) apart = apart.1 e
+
+-- how `verify` ends over two files that are there
+pub verify_apart : {files : List ℕ → Option (List ℕ)} {file name certificate written : List ℕ} {reading : Reading} {ended : Ended} → whole.EndsVerify files file name reading certificate written ended → (ended ≡ Done → ⊥) × (ended ≡ BadDescription → ⊥) × (ended ≡ NotCertified → ⊥) × (ended ≡ Long → ⊥) → ⊥
+verify_apart (whole.no_description text held (whole.long_text long is e) other) apart = apart.3 e
+verify_apart (whole.no_description text held (whole.no_plan line fits (no_rules place at is e) all) other) apart = apart.1 e
+verify_apart (whole.no_description text held (whole.no_plan line fits (rules_refused rules why place has why_not is e) all) other) apart = apart.1 e
+verify_apart (whole.no_description text held (whole.no_plan line fits (not_certified rules d c has resolved first is e) all) other) apart = apart.2 e
+verify_apart (whole.long_certificate text bytes rules d is held long none e) apart = apart.3 e
+verify_apart (whole.verified text bytes line rules d is held few (verifies_good c spells good told e) all) apart = apart.0 e
+verify_apart (whole.verified text bytes line rules d is held few (verifies_fault c rule node spells fault told e) all) apart = apart.2 e
+verify_apart (whole.verified text bytes line rules d is held few (verifies_none none told e) all) apart = apart.2 e
 
 -- a fault that ends a job ends no finished run, but for an input that is too long
 unfinished : (fault : Fault) (ended : Ended) (end : Result Ended Fault) → ended ≡ end_with end → end ≡ Err fault → whole.IsFinished ended → whole.IsFinished (end_by fault)
@@ -153,6 +164,7 @@ module _ (words : List (List ℕ)) (files : List ℕ → Option (List ℕ)) (wat
       no_read written (whole.reported report file name text reading rules d row held fits compiled is e) = cc
       no_read written (whole.soaked entry n rules d counts row fits compiled from is e) = cc
       no_read written (whole.of_two old new name reading row ends) = pair_apart ends ((λ h. cc), (λ h. cc), (λ h. cc))
+      no_read written (whole.of_certificate file name reading certificate row ends) = verify_apart ends ((λ h. cc), (λ h. cc), (λ h. cc), (λ h. cc))
   read_of left' taken' taken'' waits end (all_lines job refused asked a e) handed fault = absurd (no_read refused (fault ∙ ap end_with e))
     where
       no_read : (refused : Bool) → ReadFault ≡ whole.end_of refused → ⊥
@@ -206,6 +218,7 @@ before_answered words (Some files) written ended gives answered reads = by_end g
     by_end (whole.reported report file name text reading rules d row held fits compiled is e) answered = reads (leaves_report report file name reading row)
     by_end (whole.soaked entry n rules d counts row fits compiled from is e) answered = reads (leaves_soak entry n row)
     by_end (whole.of_two old new name reading row ends) answered = reads (leaves_compat old new name reading row)
+    by_end (whole.of_certificate file name reading certificate row ends) answered = reads (leaves_verify file name reading certificate row)
 
 pub fault_answered : (fault : Fault) → IsAnswered (end_by fault) → ⊥
 fault_answered Read (inl e) = cc
@@ -329,6 +342,7 @@ before_apart words (Some files) written ended gives only = by_end gives
     by_end (whole.reported report file name text reading rules d row held fits compiled is e) = only.0 e
     by_end (whole.soaked entry n rules d counts row fits compiled from is e) = only.0 e
     by_end (whole.of_two old new name reading row ends) = pair_apart ends (only.0, only.1, only.4)
+    by_end (whole.of_certificate file name reading certificate row ends) = verify_apart ends (only.0, only.2, only.3, only.4)
 
 -- a job that ends so met a fault
 pub by_fault :

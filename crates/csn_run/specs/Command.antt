@@ -14,7 +14,7 @@ use Rattle.csn_run.specs.declared.command.RuleCommand.TheVariants.{Show, Write}
 use Rattle.csn_run.specs.declared.command.RuleReport.{RuleReport}
 use Rattle.csn_run.specs.declared.command.RuleReport.TheVariants.{Check, Certificate}
 use Rattle.csn_run.specs.declared.command.Command.{Command}
-use Rattle.csn_run.specs.declared.command.Command.TheVariants.{Report, Answer, Migrate, Segments, Soak, Replay, Compat}
+use Rattle.csn_run.specs.declared.command.Command.TheVariants.{Report, Answer, Migrate, Segments, Soak, Replay, Compat, Verify}
 
 -- a word that can be an argument: it is not empty, and does not begin with `-`
 abbrev pub IsArgument : List ℕ → Type 0
@@ -81,6 +81,13 @@ pub record IsCompat (words : List (List ℕ)) (before after name : List ℕ) (re
   pub after_fits : IsArgument after
   pub name_fits : IsArgument name
 
+-- `verify FILE NAME READING CERT`
+pub record IsVerify (words : List (List ℕ)) (file name : List ℕ) (reading : Reading) (certificate : List ℕ) : Type 0 where
+  pub words_are : words ≡ codes "verify" ∷ file ∷ name ∷ word_of reading ∷ certificate ∷ []
+  pub file_fits : IsArgument file
+  pub name_fits : IsArgument name
+  pub certificate_fits : IsArgument certificate
+
 -- the words are a command over this rule of the description in this file
 abbrev pub IsOverRule : List (List ℕ) → List ℕ → List ℕ → Reading → Type 0
 IsOverRule words file name reading =
@@ -99,6 +106,7 @@ pub data IsCommand (words : List (List ℕ)) : Type 0 where
   entries_row : (entries : List Entry) (reading : Reading) → IsOverEntries words entries reading → IsCommand words
   migrate_row : IsMigrate words → IsCommand words
   compat_row : (before after name : List ℕ) (reading : Reading) → IsCompat words before after name reading → IsCommand words
+  verify_row : (file name : List ℕ) (reading : Reading) (certificate : List ℕ) → IsVerify words file name reading certificate → IsCommand words
 
 -- the words are a command that leaves the input alone
 pub data LeavesInput (words : List (List ℕ)) : Type 0 where
@@ -106,6 +114,7 @@ pub data LeavesInput (words : List (List ℕ)) : Type 0 where
       → LeavesInput words
   leaves_soak : (entry : Entry) (n : ℕ) → IsSoak words entry n → LeavesInput words
   leaves_compat : (before after name : List ℕ) (reading : Reading) → IsCompat words before after name reading → LeavesInput words
+  leaves_verify : (file name : List ℕ) (reading : Reading) (certificate : List ℕ) → IsVerify words file name reading certificate → LeavesInput words
 
 -- all other commands read its lines
 abbrev pub ReadsLines : List (List ℕ) → Type 0
@@ -117,6 +126,8 @@ pub data NamesFiles (words : List (List ℕ)) (files : List (List ℕ)) : Type 0
       → NamesFiles words files
   names_pair : (before after name : List ℕ) (reading : Reading) → IsCompat words before after name reading
       → files ≡ before ∷ after ∷ [] → NamesFiles words files
+  names_certificate : (file name : List ℕ) (reading : Reading) (certificate : List ℕ) → IsVerify words file name reading certificate
+      → files ≡ file ∷ certificate ∷ [] → NamesFiles words files
 
 -- the words name a file
 abbrev pub NamesFile : List (List ℕ) → List ℕ → Type 0
@@ -135,3 +146,4 @@ IsRowOf words (Segments reading) = IsSegments words reading
 IsRowOf words (Replay reading) = IsReplay words reading
 IsRowOf words (Soak entry blocks) = IsSoak words entry blocks
 IsRowOf words (Compat pair) = IsCompat words pair.before.now pair.after.now pair.name.now pair.reading
+IsRowOf words (Verify rule certificate) = IsVerify words rule.file.now rule.name.now rule.reading certificate.now

@@ -19,7 +19,10 @@ use Rattle.csn_certify.specs.declared.conflict.Conflict.{Conflict}
 use Rattle.csn_certify.specs.declared.conflict.Conflict.TheVariants.{TwoEmpty, NotFirm, Overlap, EmptyClash, LoopClash, NotLast}
 use Rattle.csn_certify.specs.Conflicts.{Certified, IsFirstConflict}
 use Rattle.csn_soak.specs.declared.soaking.Soaked.{Soaked}
+use Rattle.csn_cert.specs.CertificateV.{NodeV}
+use Rattle.csn_cert.specs.CertificateText.{CertificateText}
 use Rattle.csn_compat.specs.Takes.{Takes}
+use Rattle.csn_good.specs.Good.{Good, FirstFault}
 use Rattle.csn_grammar.specs.declared.fault.GrammarFault.TheVariants.{Syntax, NoMemory as no_memory_for_rules}
 use Rattle.csn_resolve.specs.declared.fault.ResolveFault.TheVariants.{Refused, NoMemory as no_memory_for_nodes}
 use Rattle.csn_certify.specs.declared.certifying.CertifyFault.TheVariants.{Conflict as has_conflict, NoMemory as no_memory_for_plan}
@@ -86,6 +89,16 @@ soaked_line blocks soaked =
 pub data Compares (was now : DescV) (line : List ℕ) (ended : Ended) : Type 0 where
   compares_ok : Takes was now 0 0 [] → line ≡ codes "ok compat" → ended ≡ Done → Compares was now line ended
   compares_no : ¬ Takes was now 0 0 [] → line ≡ codes "no compat" → ended ≡ SomeRefused → Compares was now line ended
+
+-- the line that tells whether the text is that of a certificate which is good for the description, or else the rule that
+-- is broken and the node at which it is, and the end of a run. A text of no certificate breaks the first rule, at the root
+pub data Verifies (d : DescV) (text line : List ℕ) (ended : Ended) : Type 0 where
+  verifies_good : (c : List NodeV) → CertificateText c text → Good d c → line ≡ line_of (codes "verified") (length d.nodes ∷ [])
+      → ended ≡ Done → Verifies d text line ended
+  verifies_fault : (c : List NodeV) (rule node : ℕ) → CertificateText c text → FirstFault d c rule node
+      → line ≡ line_of (codes "unproved") (rule ∷ node ∷ []) → ended ≡ NotCertified → Verifies d text line ended
+  verifies_none : ((c : List NodeV) → ¬ CertificateText c text) → line ≡ line_of (codes "unproved") (1 ∷ 0 ∷ [])
+      → ended ≡ NotCertified → Verifies d text line ended
 
 -- the rule of the text has this description, and it is certified
 pub record IsCompiled (text name : List ℕ) (reading : Reading) (rules : RulesV) (d : DescV) : Type 0 where

@@ -1,5 +1,5 @@
 -- What a job has done with the outside when it is over, before the answers that still wait are handed on.
-use Rattle.std.specs.Prelude.{◌≡◌, ℕ, ◌+◌, ◌≤◌, ◌⊎◌, Bool, List, [], length, Option, Some, None, Result, Ok, Err}
+use Rattle.std.specs.Prelude.{◌≡◌, ℕ, ◌+◌, ◌<◌, ◌≤◌, ◌⊎◌, Bool, List, [], length, Option, Some, None, Result, Ok, Err}
 use Rattle.csn_io.specs.ShelfFault.{BeginsFile}
 use Rattle.csn_replay.specs.Watched.{Watched}
 use Rattle.csn_run.specs.declared.ended.Ended.{Ended}
@@ -12,10 +12,18 @@ use Rattle.csn_run.specs.LineState.{closing}
 use Rattle.csn_run.specs.Progress.{AnswersAll, Stops}
 use Rattle.csn_run.specs.Result.{LineJob, Steps, beginning, AsksFor, ComesToFile, EndsBefore, end_of}
 
+-- the text is all that is in a file, and has at most so many bytes
+pub record IsWhole (most : ℕ) (files : Option (List ℕ → Option (List ℕ))) (file text : List ℕ) : Type 0 where
+  pub front : BeginsFile files file (most + 1) text
+  pub fits : length text ≤ most
+
+-- a file has more bytes than so many
+abbrev pub IsLonger : ℕ → Option (List ℕ → Option (List ℕ)) → List ℕ → Type 0
+IsLonger most files file = (front : List ℕ) × BeginsFile files file (most + 1) front × (most < length front)
+
 -- the text is the whole description in a file
-pub record IsDescription (files : Option (List ℕ → Option (List ℕ))) (file text : List ℕ) : Type 0 where
-  pub front : BeginsFile files file (MOST_DESCRIPTION + 1) text
-  pub fits : length text ≤ MOST_DESCRIPTION
+abbrev pub IsDescription : Option (List ℕ → Option (List ℕ)) → List ℕ → List ℕ → Type 0
+IsDescription = IsWhole MOST_DESCRIPTION
 
 -- the end of a run that a fault stopped
 abbrev pub end_by : Fault → Ended

@@ -8,6 +8,8 @@ use Rattle.csn_certmake.specs.Laws.{CertificatesHaveOneText}
 use Rattle.csn_encode.specs.Laws.{FirstMisfitIsOne, MisfitsHaveNoBits, OneBlock, TreesFitOrMiss}
 use Rattle.csn_segment.specs.Laws.{MessagesAreShort}
 use Rattle.csn_compat.specs.Laws.{BlocksAreTaken}
+use Rattle.csn_cert.specs.Laws.{TextsAreOfOneCertificate}
+use Rattle.csn_good.specs.Laws.{GoodLeavesOneTree, FirstFaultIsOne, GoodHasNoFault}
 use Rattle.csn_treetext.specs.Laws as texts
 use Rattle.csn_movetext.specs.Laws.{TreesFit}
 use Rattle.csn_json.specs.Laws as json
@@ -17,7 +19,7 @@ pub record KnownOfLines : Type 0 where
   pub spells_one : SpellsOneBlock
   pub fault_or_block : FaultOrBlock
 
--- of the texts of descriptions, the rules of a name, and conflicts
+-- of the texts of descriptions, the rules of a name, conflicts, and certificates
 pub record KnownOfTexts : Type 0 where
   pub decided : TextsAreDecided
   pub apart : RulesHaveNoFault
@@ -33,6 +35,9 @@ pub record KnownOfTexts : Type 0 where
   pub first_is_one : FirstConflictIsOne
   pub no_conflict : CertifiedHasNoConflict
   pub one_certificate : CertificatesHaveOneText
+  pub of_one_certificate : TextsAreOfOneCertificate
+  pub one_fault : FirstFaultIsOne
+  pub no_fault : GoodHasNoFault
 
 -- of blocks
 pub record KnownOfBlocks : Type 0 where
@@ -76,3 +81,4 @@ pub record Known : Type 0 where
   pub of_misfits : KnownOfMisfits
   pub of_messages : MessagesAreShort
   pub of_takers : BlocksAreTaken
+  pub of_good : GoodLeavesOneTree

@@ -19,8 +19,8 @@ use Rattle.csn_run.specs.declared.command.TreeForm.TheVariants.{Text, Json}
 use Rattle.csn_run.specs.declared.command.RuleReport.TheVariants.{Certificate}
 use Rattle.csn_run.specs.declared.ended.Ended.{Ended}
 use Rattle.csn_run.specs.LineState.{LineState}
-use Rattle.csn_run.specs.Command.{IsCommand, IsCompat, IsReport, NamesFile}
-use Rattle.csn_run.specs.Compiled.{IsCompiled, RuleOf}
+use Rattle.csn_run.specs.Command.{IsCommand, IsCompat, IsReport, IsVerify, NamesFile}
+use Rattle.csn_run.specs.Compiled.{IsCompiled, RuleOf, Verifies}
 use Rattle.csn_run.specs.OutLine.{ShowsLine}
 use Rattle.csn_run.specs.Result.{LineJob, Steps, AsksFor, Compiles, Result}
 
@@ -66,6 +66,10 @@ pub record IsDecided (words : List (List ℕ)) (files : List ℕ → Option (Lis
   pub compared : (before after name : List ℕ) (reading : Reading) (was now : DescV)
       → IsCompat words before after name reading → Certified was MOST_WORD → Certified now MOST_WORD
       → Takes was now 0 0 [] ⊎ (¬ Takes was now 0 0 [])
+  -- whether a text is that of a certificate, and whether this is good for the description, where the words are `verify`
+  pub verified : (file name certificate : List ℕ) (reading : Reading) (d : DescV) (text : List ℕ)
+      → IsVerify words file name reading certificate → files certificate ≡ Some text
+      → (line : List ℕ) × (ended : Ended) × Verifies d text line ended
 
 -- where the words ask for the certificate of a rule, and the rule has a certified description, this has a certificate
 abbrev pub HasCertificate : List (List ℕ) → (List ℕ → Option (List ℕ)) → Type 0

@@ -1,20 +1,28 @@
 -- What is known of the rule that the words name, when its file was fetched and its text gone through.
-use Rattle.std.specs.Prelude.{◌≡◌, ◌≢◌, ℕ, ◌+◌, ◌<◌, List, [], ◌∷◌, ◌++◌, length, Option, Result, Ok, Err}
+use Rattle.std.specs.Prelude.{◌≡◌, ◌≢◌, ℕ, ◌+◌, ◌<◌, ◌⊎◌, List, [], ◌∷◌, ◌++◌, length, codes, Option, Result, Ok, Err}
+use Rattle.csn_cert.specs.CertificateV.{NodeV}
+use Rattle.csn_cert.specs.CertificateText.{CertificateText}
 use Rattle.csn_desc.specs.declared.reading.Reading.{Reading}
 use Rattle.csn_desc.specs.Nodes.{DescV}
+use Rattle.csn_good.specs.declared.checking.Checked.{Checked}
+use Rattle.csn_good.specs.declared.checking.Checked.TheVariants.{Proved, Unproved}
+use Rattle.csn_good.specs.Good.{Good, FirstFault}
 use Rattle.csn_grammar.specs.RulesV.{RulesV}
+use Rattle.csn_grammar.specs.Place.{HasRules}
+use Rattle.csn_resolve.specs.Resolved.{IsResolved}
 use Rattle.csn_io.specs.ShelfFault.{BeginsFile}
 use Rattle.csn_run.specs.declared.command.RuleWords.{RuleWords}
 use Rattle.csn_run.specs.declared.command.PairWords.{PairWords}
 use Rattle.csn_run.specs.declared.compile.NoPlan.{NoPlan}
 use Rattle.csn_run.specs.declared.compile.TheConstants.{MOST_DESCRIPTION}
 use Rattle.csn_run.specs.declared.ended.Ended.{Ended}
+use Rattle.csn_run.specs.declared.ended.Ended.TheVariants.{Done, NotCertified}
 use Rattle.csn_run.specs.declared.fault.Fault.{Fault}
 use Rattle.csn_run.specs.declared.fault.Fault.TheVariants.{Write, Memory, TooLong}
 use Rattle.csn_run.specs.declared.lines.TheConstants.{LINE_FEED}
 use Rattle.csn_run.specs.declared.planned.Unplanned.{Unplanned}
 use Rattle.csn_run.specs.declared.planned.Unplanned.TheVariants.{File, Text}
-use Rattle.csn_run.specs.Compiled.{Compares, IsCompiled, IsReason, Tells}
+use Rattle.csn_run.specs.Compiled.{Compares, IsCompiled, IsReason, Tells, line_of}
 use Rattle.csn_run.specs.Job.{IsDescription}
 
 -- the rule has this certified description
@@ -24,7 +32,15 @@ pub record IsPlanned (files : Option (List ℕ → Option (List ℕ))) (rule : R
   pub fetched : IsDescription files rule.file.now text
   pub compiled : IsCompiled text rule.name.now rule.reading rules d
 
--- it has none for this reason
+-- the rule has this description, which need not be certified
+pub record HasDescription (files : Option (List ℕ → Option (List ℕ))) (rule : RuleWords) (d : DescV) : Type 0 where
+  pub text : List ℕ
+  pub rules : RulesV
+  pub fetched : IsDescription files rule.file.now text
+  pub has_rules : HasRules text rules
+  pub resolved : IsResolved rules rule.name.now rule.reading d
+
+-- it has no certified one for this reason
 abbrev pub IsWhy : Option (List ℕ → Option (List ℕ)) → RuleWords → Unplanned → Type 0
 IsWhy files rule (File fault) =
     (fault ≢ Write)
@@ -56,3 +72,16 @@ pub data ComparesTexts (was now name : List ℕ) (reading : Reading) (waits : Li
   compares_both : (rules others : RulesV) (d e : DescV) (line : List ℕ) (ended : Ended) → IsCompiled was name reading rules d
       → IsCompiled now name reading others e → Compares d e line ended → waits ≡ line ++ LINE_FEED ∷ [] → end ≡ Ok ended
       → ComparesTexts was now name reading waits end
+
+-- what the text of a certificate comes to: it is good for the description, or this is the first rule that it breaks, at
+-- this node; a text of no certificate breaks the first rule, at the root
+abbrev pub IsChecked : DescV → List ℕ → Checked → Type 0
+IsChecked d text Proved = (c : List NodeV) × CertificateText c text × Good d c
+IsChecked d text (Unproved rule node) =
+    ((c : List NodeV) × CertificateText c text × FirstFault d c rule node)
+    ⊎ (((c : List NodeV) → ¬ CertificateText c text) × (rule ≡ 1) × (node ≡ 0))
+
+-- the line that tells it, and the end of a run
+abbrev pub TellsChecked : DescV → Checked → List ℕ → Ended → Type 0
+TellsChecked d Proved line ended = (line ≡ line_of (codes "verified") (length d.nodes ∷ [])) × (ended ≡ Done)
+TellsChecked d (Unproved rule node) line ended = (line ≡ line_of (codes "unproved") (rule ∷ node ∷ [])) × (ended ≡ NotCertified)

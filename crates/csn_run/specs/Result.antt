@@ -22,11 +22,13 @@ use Rattle.csn_run.specs.declared.ended.Ended.{Ended}
 use Rattle.csn_run.specs.declared.ended.Ended.TheVariants.{Done, SomeRefused, Usage, BadDescription, NotCertified, ReadFault, WriteFault, NoMemory, TooLong}
 use Rattle.csn_run.specs.declared.lines.TheConstants.{LINE_FEED, MOST_INPUT}
 use Rattle.csn_run.specs.declared.compile.TheConstants.{MOST_DESCRIPTION}
+use Rattle.csn_run.specs.declared.verifying.TheConstants.{MOST_CERTIFICATE}
+use Rattle.csn_resolve.specs.Resolved.{IsResolved}
 use Rattle.csn_run.specs.declared.command.RuleCommand.{RuleCommand}
 use Rattle.csn_run.specs.declared.command.RuleReport.{RuleReport}
 use Rattle.csn_run.specs.declared.command.RuleReport.TheVariants.{Check, Certificate}
-use Rattle.csn_run.specs.Command.{IsReport, IsAnswer, IsMigrate, IsSegments, IsSoak, IsOverRule, IsOverEntries, IsReplay, IsCompat, NamesFiles}
-use Rattle.csn_run.specs.Compiled.{RuleOf, rule_of_entry, IsCompiled, HasNoPlan, certified_line, soaked_line, AreCompiled, Compares}
+use Rattle.csn_run.specs.Command.{IsReport, IsAnswer, IsMigrate, IsSegments, IsSoak, IsOverRule, IsOverEntries, IsReplay, IsCompat, IsVerify, NamesFiles}
+use Rattle.csn_run.specs.Compiled.{RuleOf, rule_of_entry, IsCompiled, HasNoPlan, certified_line, soaked_line, AreCompiled, Compares, Verifies}
 use Rattle.csn_run.specs.Lines.{between_feeds}
 use Rattle.csn_run.specs.LineState.{LineState, nothing_yet, closing, AnswersAlone}
 use Rattle.csn_run.specs.declared.command.TreeForm.TheVariants.{Text}
@@ -91,12 +93,23 @@ pub data HasNoJob (text name : List ℕ) (reading : Reading) (written : List ℕ
   no_plan : (line : List ℕ) → length text ≤ MOST_DESCRIPTION → HasNoPlan text name reading line ended
       → written ≡ line ++ LINE_FEED ∷ [] → HasNoJob text name reading written ended
 
--- over files that are told, a run of the words comes to ask for this file: it is the first that the words name, or the
--- second of `compat`, where the first is there and is no longer than a description may be
+-- the file is there and is no longer than a description may be, and the rule has this description
+pub record IsDescribed (files : List ℕ → Option (List ℕ)) (file name text : List ℕ) (reading : Reading) (rules : RulesV) (d : DescV) : Type 0 where
+  pub held : files file ≡ Some text
+  pub fits : length text ≤ MOST_DESCRIPTION
+  pub has_rules : HasRules text rules
+  pub resolved : IsResolved rules name reading d
+
+-- over files that are told, a run of the words comes to ask for this file: it is the first that the words name; or the
+-- second of `compat`, where the first is there and is no longer than a description may be; or that of the certificate,
+-- where the rule besides has a description
 pub data ComesToFile (words : List (List ℕ)) (files : List ℕ → Option (List ℕ)) (file : List ℕ) : Type 0 where
   comes_first : (behind : List (List ℕ)) → NamesFiles words (file ∷ behind) → ComesToFile words files file
   comes_second : (before name text : List ℕ) (reading : Reading) → IsCompat words before file name reading
       → files before ≡ Some text → length text ≤ MOST_DESCRIPTION → ComesToFile words files file
+  comes_certificate : (description name text : List ℕ) (reading : Reading) (rules : RulesV) (d : DescV)
+      → IsVerify words description name reading file → IsDescribed files description name text reading rules d
+      → ComesToFile words files file
 
 -- what a run compiles before it comes to a line, in this order: the rule that the words name, of the file that is
 -- there, or of both files where neither text is too long; or rules of the catalogue
@@ -133,6 +146,18 @@ pub data EndsPair (files : List ℕ → Option (List ℕ)) (before after name : 
       → IsCompiled was name reading rules d → IsCompiled now name reading others e → Compares d e line ended
       → written ≡ line ++ LINE_FEED ∷ [] → EndsPair files before after name reading written ended
 
+-- what `verify` writes for a rule and a certificate, and how it ends. The description is gone through, but not certified,
+-- before the certificate is asked for
+pub data EndsVerify (files : List ℕ → Option (List ℕ)) (file name : List ℕ) (reading : Reading) (certificate written : List ℕ) (ended : Ended) : Type 0 where
+  no_description : (text : List ℕ) → files file ≡ Some text → HasNoJob text name reading written ended
+      → ¬ (ended ≡ NotCertified) → EndsVerify files file name reading certificate written ended
+  long_certificate : (text bytes : List ℕ) (rules : RulesV) (d : DescV) → IsDescribed files file name text reading rules d
+      → files certificate ≡ Some bytes → MOST_CERTIFICATE < length bytes → written ≡ [] → ended ≡ TooLong
+      → EndsVerify files file name reading certificate written ended
+  verified : (text bytes line : List ℕ) (rules : RulesV) (d : DescV) → IsDescribed files file name text reading rules d
+      → files certificate ≡ Some bytes → length bytes ≤ MOST_CERTIFICATE → Verifies d bytes line ended
+      → written ≡ line ++ LINE_FEED ∷ [] → EndsVerify files file name reading certificate written ended
+
 -- what a run writes, and how it ends, where it comes to no line of the input and the files that its words name are
 -- there: by the first of what it compiles that is not certified, or where all is well and the command reads none
 pub data EndsBefore (words : List (List ℕ)) (files : List ℕ → Option (List ℕ)) (written : List ℕ) (ended : Ended) : Type 0 where
@@ -147,6 +172,8 @@ pub data EndsBefore (words : List (List ℕ)) (files : List ℕ → Option (List
       → written ≡ soaked_line n counts ++ LINE_FEED ∷ [] → ended ≡ Done → EndsBefore words files written ended
   of_two : (before after name : List ℕ) (reading : Reading) → IsCompat words before after name reading
       → EndsPair files before after name reading written ended → EndsBefore words files written ended
+  of_certificate : (file name : List ℕ) (reading : Reading) (certificate : List ℕ) → IsVerify words file name reading certificate
+      → EndsVerify files file name reading certificate written ended → EndsBefore words files written ended
 
 -- what a run writes, and how it ends, where each file that its words name is there: it comes to no line,
 -- or answers the lines of the input
@@ -199,11 +226,16 @@ pub data AnswersPromptly (words : List (List ℕ)) (files : List ℕ → Option 
       → AsksFor words files watchers job → KeepsUp (Steps job) (beginning job) given written
       → AnswersPromptly words files watchers input left written
 
--- by each rule that a run of the words compiles, bits of any length have at most one tree
+-- a run of the words goes by this rule: it compiles it, or it is the rule of `verify`
+pub data GoesBy (words : List (List ℕ)) (files : List ℕ → Option (List ℕ)) (rule : RuleOf) : Type 0 where
+  goes_by_compiled : (front behind : List RuleOf) → Compiles words files (front ++ rule ∷ behind) → GoesBy words files rule
+  goes_by_verified : (file certificate : List ℕ) → IsVerify words file rule.name rule.reading certificate
+      → files file ≡ Some rule.text → GoesBy words files rule
+
+-- by each rule that a run of the words goes by, bits of any length have at most one tree
 abbrev pub RulesHaveOneTree : List (List ℕ) → (List ℕ → Option (List ℕ)) → Type 0
 RulesHaveOneTree words files =
-    (front behind : List RuleOf) (rule : RuleOf) (rules : RulesV) → Compiles words files (front ++ rule ∷ behind)
-    → HasRules rule.text rules
+    (rule : RuleOf) (rules : RulesV) → GoesBy words files rule → HasRules rule.text rules
     → (b : List ℕ) (t u : TreeV) → Strings rules rule.name rule.reading b t → Strings rules rule.name rule.reading b u → t ≡ u
 
 -- each block that has a tree by the first rule has one by the second, and each line that `show` answers by a tree, it

@@ -3,7 +3,7 @@ ghost use Rattle.std.specs.Fmt.{decimal};
 ghost use Rattle.csn_catalogue.specs.declared.entry.Entry.{Entry};
 ghost use Rattle.csn_desc.specs.declared.reading.Reading.{Reading};
 ghost use Rattle.csn_soak.specs.declared.soaking.TheConstants.{MOST_BLOCKS};
-ghost use Rattle.csn_run.specs.Command.{AreRuleWords, IsArgument, IsCommand, IsCompat, IsMigrate, IsRowOf, IsSoak, NamesReading, NamesRule, word_of};
+ghost use Rattle.csn_run.specs.Command.{AreRuleWords, IsArgument, IsCommand, IsCompat, IsVerify, IsMigrate, IsRowOf, IsSoak, NamesReading, NamesRule, word_of};
 
 use csn_catalogue::{Entry, entry_of};
 use csn_desc::Reading;
@@ -75,6 +75,8 @@ pub enum Command<'a> {
     Soak(Entry, u32),
     /// Tells whether the new description takes the blocks of the old one. The input is not read.
     Compat(PairWords<'a>),
+    /// Tells whether the certificate in a file is good for the rule, which need not be certified. The input is not read.
+    Verify(RuleWords<'a>, &'a str),
 }
 
 fn is_argument(word: &str) -> bool
@@ -194,6 +196,29 @@ fn pair_words<'a, W: AsStr>(words: &'a [W]) -> Option<PairWords<'a>>
     }
 }
 
+/// The rule and the file of a certificate that the words `verify FILE NAME READING CERT` name, where these are such words.
+fn verify_words<'a, W: AsStr>(words: &'a [W]) -> Option<(RuleWords<'a>, &'a str)>
+    ensures names { IfSome result (λ asked. IsVerify (map W.text words.now) asked.0.file.now asked.0.name.now asked.0.reading asked.1.now) }
+    ensures none { (file name : List ℕ) (reading : Reading) (certificate : List ℕ) → IsVerify (map W.text words.now) file name reading certificate → IsSome result }
+{
+    let [first, file, name, reading, certificate] = words else {
+        return None;
+    };
+    let reading = reading_of(reading.as_str())?;
+    if first.as_str() == "verify"
+        && are_arguments(file.as_str(), name.as_str(), certificate.as_str())
+    {
+        let rule = RuleWords {
+            file: file.as_str(),
+            name: name.as_str(),
+            reading,
+        };
+        Some((rule, certificate.as_str()))
+    } else {
+        None
+    }
+}
+
 fn is_migrate<W: AsStr>(words: &[W]) -> bool
     ensures { IsTrue result ↔ IsMigrate (map W.text words.now) }
 {
@@ -222,6 +247,9 @@ pub fn command_of<W: AsStr>(words: &[W]) -> Option<Command<'_>>
     }
     if let Some(pair) = pair_words(words) {
         return Some(Command::Compat(pair));
+    }
+    if let Some((rule, certificate)) = verify_words(words) {
+        return Some(Command::Verify(rule, certificate));
     }
     if let Some(rule) = rule_words("check", words) {
         return Some(Command::Report(RuleReport::Check, rule));

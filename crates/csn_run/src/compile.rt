@@ -1,9 +1,10 @@
 //! From the text of a description to the plan of a rule, or to the line that says why there is none.
 
-ghost use Rattle.std.specs.Prelude.{◌≡◌, ◌≤◌, ◌++◌, ◌∷◌, List, ℕ, IfOk, IfErr, OnOk, length};
+ghost use Rattle.std.specs.Prelude.{◌≡◌, ◌≢◌, ◌≤◌, ◌++◌, ◌∷◌, List, ℕ, Err, IfOk, IfErr, OnOk, length};
 ghost use Rattle.csn_desc.specs.declared.reading.Reading.{Reading};
 ghost use Rattle.csn_grammar.specs.Place.{HasRules};
 ghost use Rattle.csn_grammar.specs.RulesV.{RulesV};
+ghost use Rattle.csn_resolve.specs.Resolved.{IsResolved};
 ghost use Rattle.csn_run.specs.Compiled.{IsCompiled, IsReason, Tells, certified_line, conflict_line, digits_of};
 
 use crate::answers::push_numbers;
@@ -36,6 +37,7 @@ pub fn rules_of(alloc: Global, text: &[u8]) -> Result<Rules, NoPlan>
     requires fits { length text.now ≤ MOST_DESCRIPTION }
     ensures rules { IfOk result (HasRules text.now) }
     ensures none { IfErr result (λ reason. (name : List ℕ) (reading : Reading) → IsReason text.now name reading reason) }
+    ensures no_conflict { (fault : CertifyFault) → result ≢ Err (NoPlan.Plan fault) }
 {
     match read_rules(alloc, text) {
         Ok(rules) => Ok(rules),
@@ -96,6 +98,28 @@ pub fn compile(
     match rules_of(alloc, text) {
         Ok(rules) => plan_by(alloc, &rules, name, reading),
         Err(reason) => Err(reason),
+    }
+}
+
+/// The description of a named rule of a text, which need not be certified.
+pub fn described_text(
+    alloc: Global,
+    text: &[u8],
+    name: &[u8],
+    reading: Reading,
+) -> Result<Desc, NoPlan>
+    requires fits { length text.now ≤ MOST_DESCRIPTION }
+    ensures desc { IfOk result (λ desc. (rules : RulesV) × HasRules text.now rules × IsResolved rules name.now reading desc) }
+    ensures none { IfErr result (IsReason text.now name.now reading) }
+    ensures no_conflict { (fault : CertifyFault) → result ≢ Err (NoPlan.Plan fault) }
+{
+    let rules = match rules_of(alloc, text) {
+        Ok(rules) => rules,
+        Err(reason) => return Err(reason),
+    };
+    match resolve(alloc, &rules, name, reading) {
+        Ok(desc) => Ok(desc),
+        Err(fault) => Err(NoPlan::Description(fault)),
     }
 }
 

@@ -30,6 +30,9 @@ pub(crate) fn known()
     csn_encode::laws::trees_fit_or_miss();
     csn_segment::laws::messages_are_short();
     csn_compat::laws::blocks_are_taken();
+    csn_cert::laws::texts_are_of_one_certificate();
+    csn_good::laws::good_leaves_one_tree();
+    csn_good::laws::first_fault_is_one();
     csn_treetext::laws::texts_are_decided();
     csn_treetext::laws::texts_are_of_one_tree();
     csn_treetext::laws::versions_share_trees();

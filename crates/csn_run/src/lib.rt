@@ -21,6 +21,7 @@ mod show;
 mod soaking;
 mod text_plan;
 mod top;
+mod verifying;
 mod write;
 
 pub use ended::Ended;

@@ -11,7 +11,7 @@ ghost use Rattle.csn_catalogue.specs.Text.{catalogue_text};
 ghost use Rattle.csn_grammar.specs.Place.{HasRules};
 ghost use Rattle.csn_grammar.specs.RulesV.{RulesV};
 ghost use Rattle.csn_run.specs.Compiled.{AreCompiled, IsCompiled, IsReason, Tells, rule_of_entry};
-ghost use Rattle.csn_run.specs.Job.{IsDescription};
+ghost use Rattle.csn_run.specs.Job.{IsDescription, IsLonger, IsWhole};
 ghost use Rattle.csn_run.specs.Outside.{CannotRead, Keeps, LeftByFetch};
 ghost use Rattle.csn_run.specs.Planned.{IsPlanned, IsWhy, Refuses};
 ghost use Rattle.csn_run.specs.Result.{HasJob};
@@ -38,6 +38,33 @@ pub enum Unplanned {
     Text(NoPlan),
 }
 
+/// Fetches a file that may have so many bytes.
+pub fn whole_file<B: Shelf>(
+    alloc: Global,
+    shelf: &mut B,
+    file: &str,
+    most: u32,
+) -> Result<Vec<u8>, Fault>
+    requires { most < 4294967295 }
+    ensures whole { IfOk result (λ text. IsWhole most (B.files shelf.old) file.now text.items) }
+    ensures read { result ≡ Err Fault.Read
+        → CannotRead (B.files shelf.old) (B.faults shelf.old) (B.faults shelf.new) (B.last_fault shelf.new) file.now }
+    ensures too_long { result ≡ Err Fault.TooLong → IsLonger most (B.files shelf.old) file.now }
+    ensures not_write { result ≢ Err Fault.Write }
+    ensures missing { LacksFile (B.files shelf.old) file.now → (result ≡ Err Fault.Read) ⊎ (result ≡ Err Fault.Memory) }
+    ensures fetched { LeftByFetch (B.fetch_gives shelf.old file.now) shelf.new }
+    ensures files { B.files shelf.new ≡ B.files shelf.old }
+    ensures shelf { Keeps (B.steady shelf.old) (B.steady shelf.new) (B.faults shelf.old) (B.faults shelf.new) (result ≡ Err Fault.Read) }
+{
+    match shelf.fetch(alloc, file, most + 1) {
+        Ok(text) if text.len() <= most as usize => Ok(text),
+        Ok(_) => Err(Fault::TooLong),
+        Err(ShelfFault::Missing) => Err(Fault::Read),
+        Err(ShelfFault::Failed) => Err(Fault::Read),
+        Err(ShelfFault::NoMemory) => Err(Fault::Memory),
+    }
+}
+
 /// Fetches a description.
 pub fn description<B: Shelf>(alloc: Global, shelf: &mut B, file: &str) -> Result<Vec<u8>, Fault>
     ensures whole { IfOk result (λ text. IsDescription (B.files shelf.old) file.now text.items) }
@@ -51,13 +78,7 @@ pub fn description<B: Shelf>(alloc: Global, shelf: &mut B, file: &str) -> Result
     ensures files { B.files shelf.new ≡ B.files shelf.old }
     ensures shelf { Keeps (B.steady shelf.old) (B.steady shelf.new) (B.faults shelf.old) (B.faults shelf.new) (result ≡ Err Fault.Read) }
 {
-    match shelf.fetch(alloc, file, MOST_DESCRIPTION + 1) {
-        Ok(text) if text.len() <= MOST_DESCRIPTION as usize => Ok(text),
-        Ok(_) => Err(Fault::TooLong),
-        Err(ShelfFault::Missing) => Err(Fault::Read),
-        Err(ShelfFault::Failed) => Err(Fault::Read),
-        Err(ShelfFault::NoMemory) => Err(Fault::Memory),
-    }
+    whole_file(alloc, shelf, file, MOST_DESCRIPTION)
 }
 
 /// The plan of the rule that the words name.

@@ -29,6 +29,7 @@ use crate::replay::Replay;
 use crate::reporting::report_plan;
 use crate::segments::Segments;
 use crate::soaking::soak_entry;
+use crate::verifying::verify_file;
 use csn_catalogue::Entry;
 use csn_desc::Reading;
 use csn_io::{Shelf, Sink, Source};
@@ -242,6 +243,9 @@ fn perform<B: Shelf, S: Source, K: Sink>(
         Command::Replay(reading) => answer_replay(alloc, reading, watchers, input, out, lines),
         Command::Soak(entry, blocks) => soak_entry(alloc, entry, blocks, &mut lines.pending),
         Command::Compat(pair) => compare_files(alloc, pair, shelf, &mut lines.pending),
+        Command::Verify(rule, certificate) => {
+            verify_file(alloc, rule, certificate, shelf, &mut lines.pending)
+        }
     }
 }
 

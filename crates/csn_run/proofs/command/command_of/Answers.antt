@@ -5,7 +5,7 @@ use Rattle.csn_desc.specs.declared.reading.Reading.TheVariants.{Sent}
 use Rattle.csn_run.specs.declared.command.RuleCommand.TheVariants.{Show, Write}
 use Rattle.csn_run.specs.declared.command.RuleReport.TheVariants.{Check, Certificate}
 use Rattle.csn_run.specs.declared.command.TreeForm.TheVariants.{Text, Json}
-use Rattle.csn_run.specs.Command.{rule_row, entries_row, compat_row, over_downlink, over_all, over_soaked}
+use Rattle.csn_run.specs.Command.{rule_row, entries_row, compat_row, verify_row, over_downlink, over_all, over_soaked}
 use Rattle.csn_run.proofs.command.command_of.Goals as goal
 
 pub returns-in-Some-clause-row : goal.returns-in-Some-clause-row
@@ -37,3 +37,6 @@ returns-in-Some-soak_words-clause-row g c = (λ _. entries_row (c.in-Some-soak_w
 
 pub returns-in-Some-pair_words-clause-row : goal.returns-in-Some-pair_words-clause-row
 returns-in-Some-pair_words-clause-row g c = (λ _. compat_row _ _ _ _ c.in-Some-pair_words.ensures.names, λ _. refl)
+
+pub returns-in-Some-verify_words-clause-row : goal.returns-in-Some-verify_words-clause-row
+returns-in-Some-verify_words-clause-row g c = (λ _. verify_row _ _ _ _ c.in-Some-verify_words.ensures.names, λ _. refl)

@@ -19,6 +19,9 @@ returns c =
         first_is_one = c.first_conflict_is_one.ensures.one;
         no_conflict = c.first_conflict_is_one.ensures.not_certified;
         one_certificate = c.certificates_are_one.ensures.text;
+        of_one_certificate = c.texts_are_of_one_certificate.ensures.certificate;
+        one_fault = c.first_fault_is_one.ensures.one;
+        no_fault = c.first_fault_is_one.ensures.none;
       };
       of_blocks = record {
         strings = c.resolving_keeps_meanings.ensures.strings;
@@ -51,4 +54,5 @@ returns c =
       };
       of_messages = c.messages_are_short.ensures;
       of_takers = c.blocks_are_taken.ensures;
+      of_good = c.good_leaves_one_tree.ensures;
     }

@@ -1,10 +1,10 @@
 use Rattle.std.proofs.Common.{inl, inr, refl, [], ◌∷◌, length, ap, subst, arith}
 use Rattle.csn_io.specs.ShelfFault.{LacksFile}
-use Rattle.csn_run.specs.Command.{names_one, names_pair}
+use Rattle.csn_run.specs.Command.{names_one, names_pair, names_certificate}
 use Rattle.csn_run.specs.LineState.{nothing_kept}
 use Rattle.csn_run.specs.OutLine.{renewing, Works}
 use Rattle.csn_run.specs.Result.{migrating}
-use Rattle.csn_run.proofs.CommandLemmas.{answer_reads, reads_too, two_read, one_file, two_files, one_comes, comes_to_one, comes_to_none, no_files}
+use Rattle.csn_run.proofs.CommandLemmas.{answer_reads, reads_too, two_read, one_file, two_files, verify_files, one_comes, comes_to_one, comes_to_none, no_files}
 use Rattle.csn_run.proofs.OutsideLemmas.{fetches_one, fetches_same}
 use Rattle.csn_run.proofs.Following.{Watches, alone_follows, watches_close}
 use Rattle.csn_run.proofs.JobLemmas.{asked_migrate, lines_end}
@@ -113,4 +113,23 @@ returns-in-Compat-clause-fetched g c = λ words files row names. fetches_same (g
 pub returns-in-Compat-clause-missing : goal.returns-in-Compat-clause-missing
 returns-in-Compat-clause-missing g c = λ words file row comes lacks.
     let m = c.compare_files.ensures.missing words file (rw c.in-Compat.is at row) comes lacks in
+    (m.0, refl, refl, m.1)
+
+pub returns-in-Verify-clause-ends : goal.returns-in-Verify-clause-ends
+returns-in-Verify-clause-ends g c = λ words row. c.verify_file.ensures.ends words (rw c.in-Verify.is at row) _ _ _
+
+pub returns-in-Verify-clause-read : goal.returns-in-Verify-clause-read
+returns-in-Verify-clause-read g c = λ e words row. inr (c.verify_file.ensures.read e words (rw c.in-Verify.is at row))
+
+pub returns-in-Verify-clause-no_file : goal.returns-in-Verify-clause-no_file
+returns-in-Verify-clause-no_file g c = λ words row none.
+    let rule = c.in-Verify.rule in
+    absurd (none rule.file.now ([], c.in-Verify.certificate.now ∷ [], names_certificate rule.file.now rule.name.now rule.reading c.in-Verify.certificate.now (rw c.in-Verify.is at row) refl))
+
+pub returns-in-Verify-clause-fetched : goal.returns-in-Verify-clause-fetched
+returns-in-Verify-clause-fetched g c = λ words files row names. fetches_same (g.B.Shelf.fetch_gives) _ _ (verify_files (rw c.in-Verify.is at row) names) c.verify_file.ensures.fetched
+
+pub returns-in-Verify-clause-missing : goal.returns-in-Verify-clause-missing
+returns-in-Verify-clause-missing g c = λ words file row comes lacks.
+    let m = c.verify_file.ensures.missing words file (rw c.in-Verify.is at row) comes lacks in
     (m.0, refl, refl, m.1)
