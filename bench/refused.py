@@ -51,9 +51,6 @@ RUNS = [
     (["certificate", "poll.csn1", "Poll", "received"], None),
     (["verify", "poll.csn1", "Poll", "received", "poll.cert"], None),
 ]
-# Commands that are passed over as long as the program does not know them.
-TO_COME = {"verify"}
-
 # What stands before the C library. At an allocation the process makes a child, which is refused it and goes on to the
 # end. The process waits, tells how the child ended and what stood written, puts its files back where they were, and goes
 # on. So what comes before an allocation runs once, and not again for each that is refused.
@@ -201,7 +198,7 @@ def main():
     words.add_argument("program", nargs="?", default=str(ROOT / "crates/csn_cli/out/csn_cli"))
     asked = words.parse_args()
     program = str(Path(asked.program).resolve())
-    table, wrong, passed_over = {}, 0, []
+    table, wrong = {}, 0
     with tempfile.TemporaryDirectory() as name:
         folder = Path(name)
         library, copy = built(folder), examples(folder, program)
@@ -209,9 +206,6 @@ def main():
             if asked.only not in (None, words[0]):
                 continue
             whole, _ = run([program, *words], copy, given)
-            if whole.status == USAGE and words[0] in TO_COME:
-                passed_over.append(words[0])
-                continue
             last, ends = refuse_each([program, *words], copy, given, library)
             faults = [f"allocation {number}: {fault}" for number, end in enumerate(ends, 1) if (fault := end.fault(whole))]
             if last != whole or whole.status in (USAGE, READ_FAULT, NO_MEMORY):
@@ -226,8 +220,6 @@ def main():
     for command, counts in table.items():
         print(f"| `{command}` | " + " | ".join(f"{count:,}" for count in counts) + " |")
     print(f"\n{sum(refused for _, refused, _, _ in table.values()):,} allocations refused, {wrong} wrong")
-    if passed_over:
-        print(f"not known to the program yet: {', '.join(passed_over)}")
     return 1 if wrong else 0
 
 
