@@ -51,6 +51,7 @@ RUNS = [
     (["certificate", "poll.csn1", "Poll", "received"], None),
     (["verify", "poll.csn1", "Poll", "received", "poll.cert"], None),
 ]
+
 # What stands before the C library. At an allocation the process makes a child, which is refused it and goes on to the
 # end. The process waits, tells how the child ended and what stood written, puts its files back where they were, and goes
 # on. So what comes before an allocation runs once, and not again for each that is refused.
