@@ -353,8 +353,9 @@ fn a_watcher_is_dropped_once_where_memory_ends(rt: HostRuntime) -> Result<(), Fa
 #[test]
 fn no_watcher_reports_behind_the_limit(rt: HostRuntime) -> Result<(), Fail> {
     let alloc = rt.alloc();
-    let mut input = vec![in alloc; b'\n'; 16_777_217]?;
-    input[..11].copy_from_slice(b"downlink FF");
+    let mut input = Vec::from_slice(alloc, b"downlink FF")?;
+    let feeds = vec![in alloc; b'\n'; 16_777_206]?;
+    input.extend_from_slice(feeds.as_slice())?;
     let drops = Rc::new(alloc, Cell::new(0))?;
     let mut watchers: Vec<Box<dyn Watcher>> = Vec::new(alloc);
     for until in [8, 9] {

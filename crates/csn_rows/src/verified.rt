@@ -67,11 +67,12 @@ fn certificates_are_verified(rt: HostRuntime) -> Result<(), Fail> {
 fn certificates_are_measured(rt: HostRuntime) -> Result<(), Fail> {
     let alloc = rt.alloc();
     let long = vec![in alloc; b'x'; 16_777_217]?;
-    let ran = verified(alloc, BIT, "M", Some(&long[..]))?;
+    let ran = verified(alloc, BIT, "M", Some(long.as_slice()))?;
     expect(&rt, &ran, b"", 8, "a long certificate");
-    let ran = verified(alloc, BIT, "N", Some(&long[..]))?;
+    let ran = verified(alloc, BIT, "N", Some(long.as_slice()))?;
     expect(&rt, &ran, b"description 1 0\n", 3, "a refused description");
-    let ran = verified(alloc, BIT, "M", Some(&long[..16_777_216]))?;
+    let most = vec![in alloc; b'x'; 16_777_216]?;
+    let ran = verified(alloc, BIT, "M", Some(most.as_slice()))?;
     expect(&rt, &ran, b"unproved 1 0\n", 4, "no certificate");
     Ok(())
 }
