@@ -3,15 +3,17 @@
 
 usage: bench/hostile.py [--seed S] [--cases N] [PROGRAM]
 
-PROGRAM is crates/csn_cli/out/csn_cli where it is left out. A case is a line of the input, or a description that is
-checked. Descriptions, lines of blocks and texts of trees are those of the catalogue and of docs/examples with bytes
-changed, taken away, doubled and put in; other descriptions are grown at random from all forms of the notation. Each run
-has a bound of memory and of processor time. What is told as wrong:
+PROGRAM is crates/csn_cli/out/csn_cli where it is left out. A case is a line of the input, or a run of a command that
+reads no input: a description that is checked, one held against another, a certificate made or verified. Descriptions,
+lines of blocks and texts of trees are those of the catalogue and of docs/examples with bytes changed, taken away,
+doubled and put in, and so are certificates that the program made; other descriptions are grown at random from all forms
+of the notation. Each run has a bound of memory and of processor time. What is told as wrong:
 
 - a status that is none for these words, or a signal;
 - a run that takes more memory or time than its bound;
 - another output where the input comes in many pieces in place of one;
-- an output that does not have a line for each line of the input that is not empty.
+- an output that does not have a line for each line of the input that is not empty, or one line where none is read;
+- a certificate that is refused as the program made it.
 """
 import argparse
 import os
@@ -41,11 +43,15 @@ COMMANDS = {
     "show": [".blocks"], "json": [".blocks"], "write": [".trees"], "unjson": [".json"], "migrate": [".trees"],
     "replay": ["capture.blocks"], "segments": ["segments.blocks"],
 }
+# The commands that read no input, and the statuses with which they end.
+WITHOUT_INPUT = {"check": (0, 3, 4), "certificate": (0, 3, 4), "compat": (0, 1, 3, 4), "verify": (0, 3, 4)}
 BLOCKS = [b"10B00000006B" + b"2B" * 16, b"0400000003" + b"2B" * 17, b"900058406FA2A00F51" + b"2B" * 11, b"D000000000" + b"2B" * 6,
           b"2B2B2B2B", b".", b"80/1", b"FF" * 40, b"A5", b"6EAB2B2B"]
 TREES = [b"#1:[. [<PAGE_MODE>=2'0 #1:[. <TLLI>=32'3221225473] <TYPE_OF_ACK>=1'1 #0:.]]", b"[#0:. <BAND_INDICATOR>=#0:. 6'43]",
          b"[<A>=3'5 . <B>=4'5]", b"xFFFFFFFFFFFFFFFF80/1", b"b", b"[[] [. 7'127]]"]
 MARKS = [b"\r\n", b"/", b"'", b"[", b" ", b'"', b"{", b":", b"\\u00", b"\xff", b"\x00"]
+CERTIFICATE = b"csn-cert 2\nnode 0 0 001001001001001001001001\nat 0 01000000 11 x!\n"
+CLAIMS = [b"node ", b"at ", b"\n", b"-", b"e!", b"x", b"xxxxxxxxxxxx+", b",", b"1", b"16383", b"csn-cert ", b" ", b"\xff"]
 TOKENS = [b"<", b">", b"{", b"}", b"|", b"!", b"&", b"=", b"(", b")", b"*", b"**", b"//", b"::=", b";", b"val(N)", b"bit",
           b"octet", b"null", b"<spare padding>", b"<no string>", b"L", b"H", b"0", b"65536", b"4294967296", b"--", b"\n",
           b"\xff", b"\x00"]
@@ -150,13 +156,26 @@ def answers(words, given):
     return lines + REPORTS if words[0] == "replay" else lines
 
 
+def faults_of_one(program, words, folder):
+    """What is wrong with a run that reads no input."""
+    status, told = run(program, words, folder, b"", 0)
+    if status not in WITHOUT_INPUT[words[0]]:
+        return f"status {status}"
+    if words[0] == "certificate" and status == 0:
+        (folder / "CERT").write_bytes(told)
+        nodes = told.split(b"\n", 1)[0].removeprefix(b"csn-cert ")
+        verified = run(program, ["verify", *words[1:], "CERT"], folder, b"", 0)
+        return "" if verified == (0, b"verified " + nodes + b"\n") else "its own certificate is refused"
+    return "" if told.count(b"\n") == 1 else "not one line"
+
+
 def faults(program, words, folder, given, source):
     """What is wrong with a run, and how many cases it was."""
+    if words[0] in WITHOUT_INPUT:
+        return faults_of_one(program, words, folder), 1
     status, told = run(program, words, folder, given, 0)
     if status not in ((0, 1) if "F" not in words else (0, 1, 3, 4)):
         return f"status {status}", 1
-    if words[0] == "check":
-        return "" if told.count(b"\n") == 1 else "not one line", 1
     if status in (3, 4):
         return "" if told.count(b"\n") == 1 else "not one line", 1
     if source.randrange(4) == 0 and (status, told) != run(program, words, folder, given, source.randrange(1, 60)):
@@ -194,20 +213,40 @@ class Seeds:
         return b"\n".join(changed(source, line, MARKS) for line in lines)
 
 
-def case(source, seeds, folder):
-    """The words and the input of a run, whose description stands in the folder."""
-    command = source.choice(["check"] * 4 + ["show", *COMMANDS])
+def described(source, seeds, folder, from_catalogue):
+    """The file of a description and the name of a rule; a file that is not the catalogue's is written."""
+    if from_catalogue:
+        return "catalogue", source.choice(ROOTS)
+    text, rule = seeds.description(source)
+    (folder / "F").write_bytes(text)
+    return "F", rule
+
+
+def case_without_input(source, seeds, folder, program, command, reading):
+    """The words of a run that reads no input, whose files stand in the folder."""
+    file, rule = described(source, seeds, folder, command != "check" and source.randrange(8) == 0)
+    if command == "compat":
+        (folder / "NEW").write_bytes(changed(source, (folder / file).read_bytes(), TOKENS))
+        return [command, file, "NEW", rule, reading]
+    if command == "verify":
+        status, told = run(program, ["certificate", file, rule, reading], folder, b"", 0)
+        (folder / "CERT").write_bytes(changed(source, told if status == 0 else CERTIFICATE, CLAIMS))
+        return [command, file, rule, reading, "CERT"]
+    return [command, file, rule, reading]
+
+
+def case(source, seeds, folder, program):
+    """The words and the input of a run, whose files stand in the folder."""
+    command = source.choice(["check", *WITHOUT_INPUT, "verify", "show", *COMMANDS])
     reading = source.choice(["received", "sent"])
-    given = b"" if command == "check" else seeds.given(source, command)
+    if command in WITHOUT_INPUT:
+        return case_without_input(source, seeds, folder, program, command, reading), b""
+    given = seeds.given(source, command)
     if command == "migrate":
         return [command], given
     if command in ("replay", "segments"):
         return [command, reading], given
-    if command == "check" or source.randrange(2):
-        text, rule = seeds.description(source)
-        (folder / "F").write_bytes(text)
-        return [command, "F", rule, reading], given
-    return [command, "catalogue", source.choice(ROOTS), reading], given
+    return [command, *described(source, seeds, folder, source.randrange(2)), reading], given
 
 
 def main():
@@ -227,7 +266,7 @@ def main():
         with open(folder / "catalogue", "wb") as catalogue:
             subprocess.run([sys.executable, ROOT / "bench/catalogue.py"], stdout=catalogue, check=True)
         while cases < asked.cases:
-            asked_words, given = case(source, seeds, folder)
+            asked_words, given = case(source, seeds, folder, program)
             fault, came = faults(program, asked_words, folder, given, source)
             cases, runs = cases + came, runs + 1
             ran[asked_words[0]] = ran.get(asked_words[0], 0) + 1

@@ -4,9 +4,10 @@
 usage: bench/limits.py [--only WORD] [PROGRAM]
 
 PROGRAM is crates/csn_cli/out/csn_cli where it is left out. Each row of the table below is a run: what it is about, its
-words, its description, its input, and the text and the status that it must have by the definitions. The input is a file,
-or, where a row says so, a pipe that gives one byte at a time. A run has 64 MiB of memory and 20 seconds of processor
-time. Each row that comes out otherwise is told, and at the end how many rows there are, and the longest time of one.
+words, its description, its input, the certificate beside it where there is one, and the text and the status that it must
+have by the definitions. The input is a file, or, where a row says so, a pipe that gives one byte at a time. A run has
+64 MiB of memory and 20 seconds of processor time. Each row that comes out otherwise is told, and at the end how many
+rows there are, and the longest time of one.
 """
 import argparse
 import os
@@ -40,6 +41,7 @@ SHOW = ["show", "F", "M", "received"]
 JSON = ["json", "F", "M", "received"]
 WRITE = ["write", "F", "M", "received"]
 UNJSON = ["unjson", "F", "M", "received"]
+VERIFY = ["verify", "F", "M", "received", "CERT"]
 
 
 @dataclass
@@ -51,6 +53,7 @@ class Row:
     text: bytes
     status: int
     in_single_bytes: bool = False
+    certificate: bytes = b""
 
 
 def lengths():
@@ -190,6 +193,26 @@ def blocks():
     yield Row("a tree of one turn more", WRITE, "<M> ::= { 1 } ** ;", row[:-1] + b" .]", b"no /524288 TooManyBits\n", 1)
 
 
+LITERAL = "<M> ::= 0 ;"
+PROVED = b"csn-cert 1\nnode 0 0 001001001001001001001001\nat 0 01000000 10 0!\n"
+
+
+def certificates():
+    """Certificates as long as they may be, and a byte more; and claims without end."""
+    def row(title, certificate, text, status, description=LITERAL):
+        return Row(title, VERIFY, description, b"", text, status, certificate=certificate)
+
+    unread = b"unproved 1 0\n"
+    yield row("the certificate of a literal", PROVED, b"verified 1\n", 0)
+    yield row("no certificate", b"", unread, 4)
+    yield row("a certificate of 16,777,216 bytes", PROVED.ljust(INPUT, b"\n"), unread, 4)
+    yield row("a certificate of 16,777,217 bytes", PROVED.ljust(INPUT + 1, b"\n"), b"", 8)
+    # A description that is refused ends the run before its certificate is asked for.
+    yield row("the same, of a text without a rule", PROVED.ljust(INPUT + 1, b"\n"), b"syntax 3\n", 3, "<M>")
+    yield row("a certificate of 16,384 nodes", b"csn-cert 16384\n", unread, 4)
+    yield row("a number of 16 MiB", b"csn-cert ".ljust(INPUT, b"1"), unread, 4)
+
+
 def limit():
     resource.setrlimit(resource.RLIMIT_AS, (MEMORY, MEMORY))
     resource.setrlimit(resource.RLIMIT_CPU, (SECONDS, SECONDS))
@@ -215,6 +238,7 @@ def run(program, folder, row):
     """The text, the status and the processor time of a row's run."""
     description = row.description if isinstance(row.description, bytes) else row.description.encode()
     (folder / "F").write_bytes(description)
+    (folder / "CERT").write_bytes(row.certificate)
     (folder / "input").write_bytes(row.given)
     source = fed(row.given) if row.in_single_bytes else os.open(folder / "input", os.O_RDONLY)
     with open(folder / "text", "w+b") as text:
@@ -238,7 +262,7 @@ def main():
     program = str(Path(asked.program).resolve())
     count = wrong = longest = 0
     with tempfile.TemporaryDirectory() as name:
-        for rows in (lengths, lines_without_end, depths, numbers, blocks):
+        for rows in (lengths, lines_without_end, depths, numbers, blocks, certificates):
             for row in rows():
                 if asked.only not in row.title:
                     continue
