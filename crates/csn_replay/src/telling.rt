@@ -4,7 +4,7 @@ ghost use Rattle.csn_io.specs.Faults.{Rose};
 ghost use Rattle.csn_replay.specs.Told.{Wrote};
 ghost use Rattle.csn_replay.specs.Watched.{Watched, Showed, counted, is_done, still_watching, done_watching, report_line, reports};
 ghost use Rattle.csn_replay.specs.declared.seen.Go.TheVariants.{Done};
-ghost use Rattle.csn_replay.specs.declared.told.Told.TheVariants.{Ok, WriteFault};
+ghost use Rattle.csn_replay.specs.declared.told.Told.TheVariants.{WriteFault};
 
 use crate::output::put_all;
 use crate::seen::{Go, Seen};
@@ -56,14 +56,14 @@ fn report<K: Sink>(alloc: Global, watcher: &Box<dyn Watcher>, out: &mut K) -> To
 }
 
 /// Shows a block to all watchers in order. One that is done reports on a line of its own, and is dropped; the others
-/// stay in their order.
+/// stay in their order. Behind a report that met a fault none is written any more, but the block is shown to all.
 pub fn tell<K: Sink>(
     alloc: Global,
     watchers: &mut Vec<Box<dyn Watcher>>,
     seen: &Seen,
     out: &mut K,
 ) -> Told
-    ensures watchers { result ≡ Ok → map (λ b. watched b) watchers.new.items ≡ still_watching seen.now (map (λ b. watched b) watchers.old.items) }
+    ensures watchers { map (λ b. watched b) watchers.new.items ≡ still_watching seen.now (map (λ b. watched b) watchers.old.items) }
     ensures wrote { Wrote result (K.taken out.old) (K.taken out.new) (reports (done_watching seen.now (map (λ b. watched b) watchers.old.items))) }
     ensures write_fault { result ≡ WriteFault → Rose (K.faults out.old) (K.faults out.new) }
     ensures no_fault { result ≢ WriteFault → K.faults out.new ≡ K.faults out.old }
@@ -72,18 +72,18 @@ pub fn tell<K: Sink>(
     ensures steady_count { K.steady out.old → K.faults out.new ≡ K.faults out.old }
     ensures steady_no_fault { K.steady out.old → result ≢ WriteFault }
 {
+    let mut told = Told::Ok;
     let mut at = 0;
     while at < watchers.len() {
         match show(watchers, at, seen) {
             None => at += 1,
-            Some(watcher) => match report(alloc, &watcher, out) {
-                Told::Ok => {}
-                Told::WriteFault => return Told::WriteFault,
-                Told::NoMemory => return Told::NoMemory,
+            Some(watcher) => match told {
+                Told::Ok => told = report(alloc, &watcher, out),
+                Told::WriteFault | Told::NoMemory => {}
             },
         }
     }
-    Told::Ok
+    told
 }
 
 /// Lets all watchers report in order, each on a line of its own, and drops them.

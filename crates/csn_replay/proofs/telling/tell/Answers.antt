@@ -1,36 +1,50 @@
-use Rattle.std.proofs.Common.{refl, rules, ◌∙◌}
-use Rattle.csn_replay.proofs.Rounds.{none_told, stayed, ended, broke, all_told}
+use Rattle.std.proofs.Common.{refl, arith, subst, inl, inr, rules, ◌∙◌}
+use Rattle.csn_io.specs.Faults.{Rose}
+use Rattle.csn_replay.proofs.Rounds.{none_told, stayed, ended, passed_over, all_told}
 use Rattle.csn_replay.proofs.telling.tell.Goals as goal
+use Rattle.csn_replay.proofs.telling.tell.Goals.{in-Ok, in-WriteFault}
 
 pub loop-at-init : goal.loop-at-init
-loop-at-init g c = record { no_fault = refl; steady = λ was. was; told = none_told _ _ _ }
+loop-at-init g c =
+    record { write_fault = λ is. cc; no_fault = λ fine. refl; never_falls = omega arith; steady = λ was. was; steady_no_fault = λ was is. cc; telling = none_told _ _ _ }
 
 pub loop-at-preserved-in-None : goal.loop-at-preserved-in-None
 loop-at-preserved-in-None g c =
     record {
+      write_fault = c.loop-at.invariant.write_fault;
       no_fault = c.loop-at.invariant.no_fault;
+      never_falls = c.loop-at.invariant.never_falls;
       steady = c.loop-at.invariant.steady;
-      told = stayed _ _ _ _ _ _ _ c.loop-at.invariant.told c.in-None.ensures.showed;
+      steady_no_fault = c.loop-at.invariant.steady_no_fault;
+      telling = stayed _ _ _ _ _ _ _ _ c.loop-at.invariant.telling c.in-None.ensures.showed;
     }
 
 pub loop-at-preserved : goal.loop-at-preserved
 loop-at-preserved g c =
-    record {
-      no_fault = c.in-Ok.ensures.no_fault (λ is. cc) ∙ c.loop-at.invariant.no_fault;
-      steady = λ was. c.in-Ok.ensures.steady_stays (c.loop-at.invariant.steady was);
-      told = ended _ _ _ _ _ _ _ _ _ c.loop-at.invariant.told c.in-Some.ensures.showed c.in-Ok.ensures.wrote;
-    }
-
-pub returns-in-WriteFault-clause-wrote : goal.returns-in-WriteFault-clause-wrote
-returns-in-WriteFault-clause-wrote g c =
-    broke _ _ _ _ _ _ _ _ _ _ (λ is. cc) c.loop-at.invariant.told c.in-Some.ensures.showed c.in-WriteFault.ensures.wrote
-
-pub returns-in-NoMemory-clause-wrote : goal.returns-in-NoMemory-clause-wrote
-returns-in-NoMemory-clause-wrote g c =
-    broke _ _ _ _ _ _ _ _ _ _ (λ is. cc) c.loop-at.invariant.told c.in-Some.ensures.showed c.in-NoMemory.ensures.wrote
+    elim c.match-told.branch [
+      | in-Ok w ↦
+          let fine = c.loop-at.invariant.no_fault (λ is. cc) in
+          rw (w.out-is, w.told-is) (record {
+            write_fault = λ is. subst (λ n. Rose n (g.K.Sink.faults w.report-told.new.out)) fine (w.report-told.ensures.write_fault is);
+            no_fault = λ is. w.report-told.ensures.no_fault is ∙ fine;
+            never_falls = omega (arith, fine, w.report-told.ensures.never_falls);
+            steady = λ was. w.report-told.ensures.steady_stays (c.loop-at.invariant.steady was);
+            steady_no_fault = λ was. w.report-told.ensures.steady_no_fault (c.loop-at.invariant.steady was);
+            telling = ended _ _ _ _ _ _ _ _ _ _ _ w.in-Ok.is c.loop-at.invariant.telling c.in-Some.ensures.showed w.report-told.ensures.wrote;
+          })
+      | in-WriteFault w ↦
+          rw (w.out-is, w.told-is) (record {
+            write_fault = c.loop-at.invariant.write_fault;
+            no_fault = c.loop-at.invariant.no_fault;
+            never_falls = c.loop-at.invariant.never_falls;
+            steady = c.loop-at.invariant.steady;
+            steady_no_fault = c.loop-at.invariant.steady_no_fault;
+            telling = passed_over _ _ _ _ _ _ _ _ _ (λ is. elim w.in-WriteFault.is [ inl fault ↦ cc | inr fault ↦ cc ]) c.loop-at.invariant.telling c.in-Some.ensures.showed;
+          })
+    ]
 
 pub returns-clause-watchers : goal.returns-clause-watchers
-returns-clause-watchers g c ok = (all_told _ _ _ _ _ _ _ (search rules) c.loop-at.invariant.told).0
+returns-clause-watchers g c = (all_told _ _ _ _ _ _ _ _ (search rules) c.loop-at.invariant.telling).0
 
 pub returns-clause-wrote : goal.returns-clause-wrote
-returns-clause-wrote g c = (all_told _ _ _ _ _ _ _ (search rules) c.loop-at.invariant.told).1
+returns-clause-wrote g c = (all_told _ _ _ _ _ _ _ _ (search rules) c.loop-at.invariant.telling).1

@@ -18,6 +18,6 @@ returns-in-Ok-clause-ok g c =
     let taken = reported _ _ _ _ _ c.in-Ok.is c.tell.ensures.wrote c.new-reports.ensures.taken c.taken.ensures in (
       told.0 ++ 10 ∷ c.taken.result.now,
       c.in_ok-extend_from_slice-in-Ok.ensures.items ∙ ap (λ l. l ++ c.taken.result.now) (c.in_ok-push.ensures.items ∙ ap (λ l. l ++ 10 ∷ []) told.1 ∙ append_assoc _ told.0 (10 ∷ [])) ∙ append_assoc _ (told.0 ++ 10 ∷ []) c.taken.result.now ∙ ap (λ l. c.args.out.now.items ++ l) (append_assoc told.0 (10 ∷ []) c.taken.result.now),
-      (told.0, Some c.in-Some.seen, (rw c.in-Some.is at told.2), (ap (λ r. told.0 ++ 10 ∷ r) taken, c.tell.ensures.watchers c.in-Ok.is)),
+      (told.0, Some c.in-Some.seen, (rw c.in-Some.is at told.2), (ap (λ r. told.0 ++ 10 ∷ r) taken, c.tell.ensures.watchers)),
       told.3 ∙ sym (refusal_with_feed told.0 c.taken.result.now),
     )
