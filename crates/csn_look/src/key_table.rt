@@ -1,4 +1,4 @@
-ghost use Rattle.std.specs.Prelude.{◌≡◌, ◌↔◌, ℕ, ◌<◌, ◌≤◌, ◌%◌, [], length, nat_eq, IsTrue, IfOk, slice_index, slice_index_or, refl};
+ghost use Rattle.std.specs.Prelude.{◌≡◌, ◌↔◌, ℕ, ◌<◌, ◌≤◌, ◌%◌, [], length, nat_eq, IsTrue, IfOk, OnErr, slice_index, slice_index_or, refl};
 ghost use Rattle.std.specs.Cmp.{partial_equiv_from_equiv};
 ghost use Rattle.std.specs.Cmp.Lexicographic.{nat_list_eq_equiv, pointwise};
 ghost use Rattle.std.specs.Hash as fed;
@@ -191,18 +191,20 @@ impl KeyTable {
         Ok(KeySet { keys })
     }
 
-    /// One key more.
+    /// One key more. After an error the set is as it was.
     pub fn add(&mut self, alloc: Global, word: &Word, whole: bool) -> Result<(), NoMemory>
-        ensures { IfOk result (λ done. Adds self.old self.new (λ key mark. (key ≡ word.now) × (mark ≡ whole))) }
+        ensures added { IfOk result (λ done. Adds self.old self.new (λ key mark. (key ≡ word.now) × (mark ≡ whole))) }
+        ensures err { OnErr result (self.new ≡ self.old) }
     {
         unpack(alloc, &mut self.index, &mut self.blocks)?;
         add_key(&mut self.blocks, word.place(), whole);
         Ok(())
     }
 
-    /// The keys of another set too.
+    /// The keys of another set too. After an error the set is as it was.
     pub fn add_all(&mut self, alloc: Global, other: &KeyTable) -> Result<(), NoMemory>
-        ensures { IfOk result (λ done. Adds self.old self.new (λ key mark. IsTrue (has_key other.now key mark))) }
+        ensures added { IfOk result (λ done. Adds self.old self.new (λ key mark. IsTrue (has_key other.now key mark))) }
+        ensures err { OnErr result (self.new ≡ self.old) }
     {
         let _ = &other.index;
         unpack(alloc, &mut self.index, &mut self.blocks)?;
@@ -210,10 +212,11 @@ impl KeyTable {
         Ok(())
     }
 
-    /// All words of so many bits.
+    /// All words of so many bits. After an error the set is as it was.
     pub fn add_words(&mut self, alloc: Global, size: usize, whole: bool) -> Result<(), NoMemory>
         requires { size ≤ MOST_WORD }
-        ensures { IfOk result (λ done. Adds self.old self.new (λ key mark. (length key ≡ size) × (mark ≡ whole))) }
+        ensures added { IfOk result (λ done. Adds self.old self.new (λ key mark. (length key ≡ size) × (mark ≡ whole))) }
+        ensures err { OnErr result (self.new ≡ self.old) }
     {
         unpack(alloc, &mut self.index, &mut self.blocks)?;
         add_words(&mut self.blocks, words_of(size), whole);
@@ -221,7 +224,7 @@ impl KeyTable {
     }
 
     /// The keys of a first part and of what comes after it, which is in a table of its own for each number of
-    /// bits modulo 8 that the first part may have.
+    /// bits modulo 8 that the first part may have. After an error the set is as it was.
     pub fn add_after(
         &mut self,
         alloc: Global,
@@ -230,7 +233,8 @@ impl KeyTable {
         rests: &[usize; 8],
     ) -> Result<(), NoMemory>
         requires { (size : ℕ) → size < 8 → slice_index rests.now size < length tables.now }
-        ensures { IfOk result (λ done. Adds self.old self.new (AfterKeys first.now (λ size. slice_index_or tables.now (slice_index rests.now (size % 8)) []))) }
+        ensures added { IfOk result (λ done. Adds self.old self.new (AfterKeys first.now (λ size. slice_index_or tables.now (slice_index rests.now (size % 8)) []))) }
+        ensures err { OnErr result (self.new ≡ self.old) }
     {
         let _ = &first.index;
         unpack(alloc, &mut self.index, &mut self.blocks)?;

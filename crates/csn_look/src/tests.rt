@@ -35,6 +35,7 @@ fn a_word_holds_its_bits(rt: HostRuntime) -> Result<(), Fail> {
     assert_eq!(rt; key.word.get(0), 1);
     assert_eq!(rt; key.word.get(1), 0);
     assert_eq!(rt; key.word.get(2), 1);
+    assert!(rt; key.word == Word::of_bits(5, 3));
     Ok(())
 }
 

@@ -1,4 +1,5 @@
-ghost use Rattle.std.specs.Prelude.{◌≡◌, ◌<◌, ◌≤◌, ℕ, List, [], ◌∷◌, ◌++◌, length, slice_index};
+ghost use Rattle.std.specs.Prelude.{◌≡◌, ◌<◌, ◌≤◌, ◌^◌, ℕ, List, [], ◌∷◌, ◌++◌, length, slice_index};
+ghost use Rattle.csn_bits.specs.Numbers.{low_bits};
 ghost use Rattle.csn_bits.specs.Octets.{IsBits};
 ghost use Rattle.csn_look.specs.KeyMarks.{IsWord, place_of};
 
@@ -39,6 +40,17 @@ impl Word {
         ensures { result ≡ [] }
     {
         Word { place: 1 }
+    }
+
+    /// The last so many bits of a number that has no more.
+    pub fn of_bits(number: u64, count: u32) -> Word
+        requires few { count ≤ MOST_WORD }
+        requires small { number < 2 ^ count }
+        ensures { result ≡ low_bits count number }
+    {
+        Word {
+            place: (1 << count | number) as u16,
+        }
     }
 
     /// The word with this place.

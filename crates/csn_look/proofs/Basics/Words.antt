@@ -1,13 +1,14 @@
 -- Words of at most 12 bits, and the numbers that they are kept as.
 use Rattle.std.proofs.Common.{◌≡◌, ℕ, zero, suc, ◌+◌, ◌-◌, ◌*◌, ◌/◌, ◌%◌, ◌^◌, ◌<◌, ◌≤◌, Bool, true, false, nat_le, List, [], ◌∷◌, ◌++◌, length, get_or, refl, sym, ap, ◌∙◌, subst, arith, append_assoc, length-append}
 use Rattle.std.proofs.Math.Nat.{pow-suc, pow-le-pow_right}
-use Rattle.std.proofs.lemmas.Nat.{div-mul-add}
+use Rattle.std.proofs.lemmas.Nat.{div-mul-add, or_shifted, pow_pos}
+use Rattle.std.specs.Int.Bits.{bit_or}
 use Rattle.std.specs.Int.Count.{count_leading_zeros, leading_unique}
 use Rattle.std.proofs.lemmas.Bool.Decides.{nat_tests}
 use Rattle.csn_bits.specs.Octets.{IsBits}
-use Rattle.csn_bits.proofs.NumberFacts.{number_of-lt}
+use Rattle.csn_bits.proofs.NumberFacts.{number_of-lt, length-low_bits, IsBits-low_bits, number_of-low_bits_small}
 use Rattle.csn_bits.proofs.Packing.{IsBits-append}
-use Rattle.csn_bits.specs.Numbers.{number_of}
+use Rattle.csn_bits.specs.Numbers.{number_of, low_bits}
 use Rattle.csn_look.specs.KeyMarks.{IsWord, place_of}
 use Rattle.csn_look.specs.WordV.{bits_behind, word_of}
 use Rattle.csn_look.proofs.Basics.Places.{place_of-append, place_of-push, place_of-least, place_of-most, place_of-same}
@@ -84,6 +85,33 @@ word_of-push place bit some small low =
     place_of-same (word_of (2 * place + bit)) (word_of place ++ bit ∷ [])
     (word_of-bits (2 * place + bit) (omega arith) (omega arith)) bits
     (word_of-place (2 * place + bit) (omega arith) (omega arith) ∙ sym (place_of-push (word_of place) bit ∙ ap (λ p. 2 * p + bit) (word_of-place place some (omega arith))))
+
+-- ---- the last bits of a number
+
+-- their place, as it is written
+pub record IsPlaceOf (count number place : ℕ) : Type 0 where
+  pub some : 0 < place
+  pub small : place < 8192
+  pub gives : word_of place ≡ low_bits count number
+
+pub placed : (count number : ℕ) → count ≤ 12 → number < 2 ^ count → IsPlaceOf count number (bit_or (1 * 2 ^ count % 2 ^ 64) number)
+placed count number few least =
+    let power : 2 ^ count ≤ 2 ^ 12 = pow-le-pow_right {n = 2} (omega arith) few in
+    let whole : 1 * 2 ^ count % 2 ^ 64 ≡ 1 * 2 ^ count = omega (arith, power) in
+    let is : bit_or (1 * 2 ^ count % 2 ^ 64) number ≡ 1 * 2 ^ count + number =
+    ap (λ (p : ℕ). bit_or p number) whole ∙ or_shifted 1 count number least in
+    let size = length-low_bits count number in
+    let word : IsWord (low_bits count number) = record { bits = IsBits-low_bits count number; short = omega (arith, size, few) } in
+    let here : place_of (low_bits count number) ≡ 1 * 2 ^ count + number =
+    ap (λ (n : ℕ). 1 * 2 ^ n + number_of (low_bits count number)) size
+    ∙ ap (λ (n : ℕ). 1 * 2 ^ count + n) (number_of-low_bits_small count number least) in
+    let some : 0 < 1 * 2 ^ count + number = omega (arith, pow_pos count) in
+    let small : 1 * 2 ^ count + number < 8192 = omega (arith, power, least) in
+    record {
+      some = rw is some;
+      small = rw is small;
+      gives = ap word_of is ∙ place_of-word (low_bits count number) (1 * 2 ^ count + number) word here some small;
+    }
 
 -- ---- the bits of a word by its place
 

@@ -49,7 +49,7 @@ loop-i-preserved c =
     subst (λ (n : ℕ). KeysAre c.loop-i.later (HasKeyFrom d o parts n) × IsLeastFrom n (Overlaps d o parts) c.loop-i.first) next c.loop-i.invariant in
     let real = denied c.is_null.result (IsNull d c.get-part.result) c.is_null.ensures c.if-is_null.false in
     let own = c.key_table-table.ensures.keys d c.requires.known.keys in (
-      keys_more d o parts i c.get-part.result c.get-part.ensures c.loop-i.later c.key_table-table.result.now c.add_all.new.self real own c.in_ok-add_all.ensures before.0,
+      keys_more d o parts i c.get-part.result c.get-part.ensures c.loop-i.later c.key_table-table.result.now c.add_all.new.self real own c.in_ok-add_all.ensures.added before.0,
       elim c.if-tables_meet.branch [
         | then-tables_meet w ↦ least_then d o parts i c.get-part.result c.get-part.ensures real c.key_table-table.result.now own c.loop-i.later before.0 c.tables_meet.result c.new-in-loop-i.result c.if-tables_meet.first c.new-in-loop-i.ensures c.tables_meet.ensures w.if-tables_meet.true w.first-is
         | else-tables_meet w ↦ least_else d o parts i c.get-part.result c.get-part.ensures real c.key_table-table.result.now own c.loop-i.later before.0 c.tables_meet.result c.new-in-loop-i.result c.if-tables_meet.first c.new-in-loop-i.ensures c.tables_meet.ensures c.loop-i.first w.if-tables_meet.false w.first-is before.1

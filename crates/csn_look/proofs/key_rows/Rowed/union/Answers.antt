@@ -14,7 +14,7 @@ loop-at-preserved c =
     let P : List ℕ → Type 0 = λ m. KeysAre m (InKeys d 12 c.get.result c.args.octet) in
     choice_next d c.args.parts.now c.args.octet c.loop-at.table c.add_all.new.self other c.loop-at.at c.get.result c.get.ensures c.loop-at.invariant
     (subst P (sym c.get-in-loop-at.ensures) (c.of-row.ensures.keys c.args.octet c.requires.octet).keys)
-    c.in_ok-add_all.ensures
+    c.in_ok-add_all.ensures.added
 
 pub returns : goal.returns
 returns c = choice_all c.args.self.now.desc.now c.args.parts.now c.args.octet c.loop-at.table c.loop-at.at (omega (arith, c.len-at-end.ensures.len)) c.loop-at.invariant

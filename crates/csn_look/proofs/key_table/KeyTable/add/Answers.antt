@@ -28,8 +28,8 @@ invariant_of-self-2 c =
     (subst Q (c.deref_mut.ensures.value ∙ base) (c.add_key.ensures c.args.word.now c.place.ensures.word (sym c.place.ensures.value))) in
     (subst P (sym (ap (λ m. marks_of index m) back ∙ no_index index new none)) made, none_within index _ none)
 
-pub returns : goal.returns
-returns c =
+pub returns-clause-added : goal.returns-clause-added
+returns-clause-added c =
     let index = c.unpack.new.index.items in
     let items = c.unpack.new.blocks.items in
     let new = c.add_key.new.marks in

@@ -31,8 +31,8 @@ invariant_of-self-2 c =
     (either new c.deref_mut.result.now c.args.other.now own its (c.deref_mut.ensures.value ∙ base) (sym c.other.view_is) c.join_marks.ensures) in
     (subst P (sym (ap (λ m. marks_of index m) back ∙ no_index index new none)) made, none_within index _ none)
 
-pub returns : goal.returns
-returns c =
+pub returns-clause-added : goal.returns-clause-added
+returns-clause-added c =
     let index = c.unpack.new.index.items in
     let items = c.unpack.new.blocks.items in
     let new = c.join_marks.new.marks in

@@ -28,8 +28,8 @@ invariant_of-self-2 c =
     let made : IsKeyTable new = all.table c.self.invariant.0 in
     (subst P (sym (ap (λ m. marks_of index m) back ∙ no_index index new none)) made, none_within index _ none)
 
-pub returns : goal.returns
-returns c =
+pub returns-clause-added : goal.returns-clause-added
+returns-clause-added c =
     let index = c.unpack.new.index.items in
     let items = c.unpack.new.blocks.items in
     let new = c.add_words.new.marks in

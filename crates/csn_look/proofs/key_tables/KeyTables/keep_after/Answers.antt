@@ -18,7 +18,7 @@ returns-clause-kept c =
     let all : c.as_slice.result.now ≡ old = c.as_slice.ensures.keys ∙ c.self.view_is in
     let P : List ℕ → Type 0 = λ f. Adds c.in_ok-table.table made (AfterKeys f (rests c.as_slice.result.now)) in
     let Q : List (List ℕ) → Type 0 = λ l. Adds c.in_ok-table.table made (AfterKeys one (rests l)) in
-    let adds = subst Q all (subst P read c.in_ok-add_after.ensures) in
+    let adds = subst Q all (subst P read c.in_ok-add_after.ensures.added) in
     let keys = AfterKeys one (rests old) in
     let R : List ℕ → Type 0 = λ m. Adds c.in_ok-table.table m keys in
     IfOk-weaker c.keep.result (λ (at : ℕ). (at < length new) × (get_or new at [] ≡ marks)) (λ (at : ℕ). HasTable new at keys)

@@ -19,7 +19,7 @@ keep_leaf-requires c =
     let P : List ℕ → Bool → Type 0 = λ key mark. (key ≡ c.args.word.now) × (mark ≡ c.args.whole) in
     let is : c.key_mark-leaf.result ≡ key_mark (place_of c.args.word.now) c.args.whole = c.key_mark-leaf.ensures ∙ ap (λ p. key_mark p c.args.whole) c.place.ensures.value in
     let Q : ℕ → Type 0 = λ leaf. KeysAre c.add.new.self (LeafKeys leaf) in
-    subst Q (sym is) (keys_as c.add.new.self P (LeafKeys (key_mark (place_of c.args.word.now) c.args.whole)) (keys_first c.in_ok-table.table c.add.new.self P c.in_ok-table.ensures c.in_ok-add.ensures) (leaf_is_key c.args.word.now c.args.whole c.place.ensures.word))
+    subst Q (sym is) (keys_as c.add.new.self P (LeafKeys (key_mark (place_of c.args.word.now) c.args.whole)) (keys_first c.in_ok-table.table c.add.new.self P c.in_ok-table.ensures c.in_ok-add.ensures.added) (leaf_is_key c.args.word.now c.args.whole c.place.ensures.word))
 
 pub returns-clause-kept : goal.returns-clause-kept
 returns-clause-kept c =

@@ -19,7 +19,7 @@ keep_leaf-requires c =
     let P : List ℕ → Bool → Type 0 = λ key mark. (length key ≡ c.args.size) × (mark ≡ c.args.whole) in
     let is : c.leaf_of_size-leaf.result ≡ leaf_of_size c.args.size c.args.whole = c.leaf_of_size-leaf.ensures in
     let Q : ℕ → Type 0 = λ leaf. KeysAre c.add_words.new.self (LeafKeys leaf) in
-    subst Q (sym is) (keys_as c.add_words.new.self P (LeafKeys (leaf_of_size c.args.size c.args.whole)) (keys_first c.in_ok-table.table c.add_words.new.self P c.in_ok-table.ensures c.in_ok-add_words.ensures) (leaf_is_size c.args.size c.args.whole c.requires))
+    subst Q (sym is) (keys_as c.add_words.new.self P (LeafKeys (leaf_of_size c.args.size c.args.whole)) (keys_first c.in_ok-table.table c.add_words.new.self P c.in_ok-table.ensures c.in_ok-add_words.ensures.added) (leaf_is_size c.args.size c.args.whole c.requires))
 
 pub returns-clause-kept : goal.returns-clause-kept
 returns-clause-kept c =
