@@ -222,12 +222,7 @@ impl<'a> Source<'a> {
         requires held { count ≤ self.now.held }
         ensures { result ≡ take count self.now.bits }
     {
-        let number = self.peek(count);
-        let mut word = Word::new();
-        for at in 0..count {
-            word.push(((number >> (count - 1 - at)) % 2) as u8);
-        }
-        word
+        Word::of_bits(self.peek(count), count)
     }
 
     /// How many of the next bits are as in the number, up to the first that is not.
