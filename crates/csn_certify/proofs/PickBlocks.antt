@@ -1,12 +1,10 @@
 -- Blocks of entries that are kept once, and the tables that they make.
 use Rattle.std.proofs.Common.{◌≡◌, ℕ, zero, suc, ◌+◌, ◌*◌, ◌/◌, ◌%◌, ◌^◌, ◌<◌, ◌⊎◌, inl, inr, Bool, true, false, List, [], ◌∷◌, ◌++◌, map, length, take, sym, ◌∙◌, ap, subst, arith, length-append, append-nil, get_or, refl, rules, Option}
-use Rattle.std.specs.Prelude.{slice_get, slice_index, slice_index_or, if◌then◌else◌, Some}
+use Rattle.std.specs.Prelude.{slice_get, slice_index, slice_index_or, if◌then◌else◌, ◌&&◌, Some}
 use Rattle.std.specs.Option.{option_map}
-use Rattle.std.specs.Bool.{Decides}
 use Rattle.std.specs.List.{IsDistinct}
 use Rattle.std.specs.Cmp.Lexicographic.{pointwise}
 use Rattle.std.proofs.Math.Seq.{get_or-append_seam}
-use Rattle.std.proofs.lemmas.Slice.Eq.{slice_eq-Decides}
 use Rattle.csn_desc.specs.Nodes.{DescV}
 use Rattle.csn_look.specs.KeyMarks.{place_of}
 use Rattle.csn_look.proofs.Basics.Places.{word_take}
@@ -15,29 +13,24 @@ use Rattle.std.proofs.lemmas.Map.Keys.{apart_from_distinct}
 use Rattle.std.proofs.lemmas.Option.{slice_get_within, get_or_from_slice_get, slice_get_read, slice_get-map}
 use Rattle.csn_certify.specs.declared.pick_table.Entry.{Entry}
 use Rattle.csn_certify.specs.declared.pick_table.Entry.TheVariants.{Refuse, Wait, Take}
-use Rattle.csn_certify.specs.contracts.pick_table.EntryPartialEq.TheImpl as entries
 use Rattle.csn_certify.specs.declared.pick_table.Filled.{Filled}
 use Rattle.csn_certify.specs.declared.pick_table.KeptTable.{KeptTable}
 use Rattle.csn_certify.specs.PickTables.{PickTableV, HasEntries, entry_of, entry_in, blocks_at, table_in, IsBlockOf, AreFirstBlocks, AreOnce, IsWithin, AreWithin, IsTableOf, Tells, IsPickTable, AreEntries}
 use Rattle.csn_certify.proofs.PickTables.{place_within}
+use Rattle.csn_certify.specs.SameEntries.{same_entry, block_told}
 
--- entries are the same where they are told to be equal
-abbrev pub same_entry : Entry → Entry → Bool
-same_entry = entries.eq-value.it
+-- the same blocks are told to be equal
+entry_itself : (a : Entry) → same_entry a a ≡ true
+entry_itself Refuse = refl
+entry_itself Wait = refl
+entry_itself (Take j n) = search rules
 
-pub entry_decides : (a b : Entry) → Decides (same_entry a b) (a ≡ b)
-entry_decides Refuse Refuse = ((λ e. refl), (λ e. refl))
-entry_decides Refuse Wait = ((λ e. absurd (cc)), (λ e. absurd (cc)))
-entry_decides Refuse (Take j n) = ((λ e. absurd (cc)), (λ e. absurd (cc)))
-entry_decides Wait Refuse = ((λ e. absurd (cc)), (λ e. absurd (cc)))
-entry_decides Wait Wait = ((λ e. refl), (λ e. refl))
-entry_decides Wait (Take j n) = ((λ e. absurd (cc)), (λ e. absurd (cc)))
-entry_decides (Take i m) Refuse = ((λ e. absurd (cc)), (λ e. absurd (cc)))
-entry_decides (Take i m) Wait = ((λ e. absurd (cc)), (λ e. absurd (cc)))
-entry_decides (Take i m) (Take j n) = search rules
+block_itself : (xs : List Entry) → pointwise same_entry xs xs ≡ true
+block_itself [] = refl
+block_itself (x ∷ xs) = λ k. entry_itself x k && block_itself xs k
 
-blocks_decide : (xs ys : List Entry) → Decides (pointwise same_entry xs ys) (xs ≡ ys)
-blocks_decide xs ys = slice_eq-Decides entry_decides xs ys (pointwise same_entry xs ys) refl
+blocks_same : (xs ys : List Entry) → xs ≡ ys → pointwise same_entry xs ys ≡ true
+blocks_same xs ys e = subst (λ (zs : List Entry). pointwise same_entry xs zs ≡ true) e (block_itself xs)
 
 module _ {X : Type 0} (items : X → List Entry) where
   -- what is stored at the place is the block
@@ -46,7 +39,7 @@ module _ {X : Type 0} (items : X → List Entry) where
       let inside = slice_get_within keys at kept there in
       let size = length-map keys items in (
         omega (arith, inside, size),
-        get_or-map items keys at kept [] inside ∙ ap items (get_or_from_slice_get keys at kept kept there) ∙ sym ((blocks_decide (items x) (items kept)).0 same),
+        get_or-map items keys at kept [] inside ∙ ap items (get_or_from_slice_get keys at kept kept there) ∙ sym (block_told (items x) (items kept) same),
       )
 
   -- where a block is added it stands behind the others
@@ -63,7 +56,7 @@ module _ {X : Type 0} (items : X → List Entry) where
       let high : j < length all = omega (arith, within, size) in
       let differ = apart_from_distinct (λ a b. pointwise same_entry (items a) (items b)) all i j k apart less high in
       let same : items (get_or all i k) ≡ items (get_or all j k) = sym (get_or-map items all i k d low) ∙ e ∙ get_or-map items all j k d high in
-      let told = (blocks_decide (items (get_or all i k)) (items (get_or all j k))).1 same in
+      let told = blocks_same (items (get_or all i k)) (items (get_or all j k)) same in
       cc
 
 -- ---- the blocks of some entries

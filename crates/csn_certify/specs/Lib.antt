@@ -5,6 +5,7 @@ pub mod Certifying
 pub mod Picks
 pub mod Choosing
 pub mod PickTables
+pub mod SameEntries
 pub mod Filling
 pub mod Plans
 pub mod Ahead

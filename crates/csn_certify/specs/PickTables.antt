@@ -1,6 +1,6 @@
 -- Tables of what look-ahead tells at a choice: an entry for each word of as many bits as the choice needs. Entries
 -- are kept in blocks of so many, each without the refusals at its end.
-use Rattle.std.specs.Prelude.{◌≡◌, ◌≢◌, ℕ, ◌+◌, ◌*◌, ◌/◌, ◌%◌, ◌^◌, ◌<◌, ◌≤◌, List, [], map, length, take, slice_get, slice_index, slice_index_or, Option, Some, None, true, false, refl}
+use Rattle.std.specs.Prelude.{◌≡◌, ◌≢◌, ℕ, ◌+◌, ◌*◌, ◌/◌, ◌%◌, ◌^◌, ◌<◌, ◌≤◌, List, [], ◌∷◌, map, length, take, slice_get, slice_index, slice_index_or, Option, Some, None, true, false, refl}
 use Rattle.std.specs.List.{AllPairs}
 use Rattle.std.specs.Coded.{Coded, code_by, coded×, coded_ℕ, coded_list, coded_option}
 use Rattle.csn_desc.specs.declared.node.Node.TheVariants.{Choice}
@@ -99,6 +99,19 @@ pub record IsWithin (blocks : List (List Entry)) (t : KeptTable) : Type 0 where
 
 abbrev pub AreWithin : List (List Entry) → List KeptTable → Type 0
 AreWithin blocks tables = (at : ℕ) (t : KeptTable) → slice_get tables at ≡ Some t → IsWithin blocks t
+
+-- a number that is the same for the same entries, and mostly another for others
+abbrev pub number_of : Entry → ℕ
+number_of Refuse = 1
+number_of Wait = 2
+number_of (Take j bits) = 256 * j + bits + 3
+
+abbrev pub digest_on : ℕ → List Entry → ℕ
+digest_on digest [] = digest
+digest_on digest (entry ∷ more) = digest_on ((digest * 11400714819323198485 % 2 ^ 64 + number_of entry) % 2 ^ 64) more
+
+abbrev pub digest_of : List Entry → ℕ
+digest_of entries = digest_on 0 entries
 
 -- no block is the same as one behind it
 abbrev pub AreOnce : List (List Entry) → Type 0

@@ -8,7 +8,7 @@ ghost use Rattle.csn_certify.specs.Choosing.{IsNone};
 ghost use Rattle.csn_certify.specs.PickTables.{AreEntries};
 ghost use Rattle.csn_certify.specs.Filling.{AreEmpty, HasMarks, AreDeep};
 
-use crate::filling::{Filling, depth, greater};
+use crate::filling::{Filling, widened};
 use crate::pick_table::{Entry, Filled};
 use csn_bits::NoMemory;
 use csn_desc::{Desc, Node, Parts};
@@ -67,7 +67,7 @@ impl Chooser<'_> {
         for j in 0..self.parts.len() {
             match self.keys(j) {
                 None => {}
-                Some(table) => width = greater(width, depth(table, &Word::new())),
+                Some(table) => width = widened(table, &Word::new(), width),
             }
         }
         width

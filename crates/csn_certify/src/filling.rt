@@ -8,18 +8,26 @@ ghost use Rattle.csn_certify.specs.Filling.{started, IsDeep, IsFresh, IsFilled, 
 use crate::pick_table::Entry;
 use csn_look::{KeyTable, Stands, Word};
 
-/// How many bits are looked at of what goes on from the word, to see the keys of a table.
-pub(crate) fn depth(table: &KeyTable, word: &Word) -> u8
+/// The width, or more where more bits have to be looked at of what goes on from the word to see the keys of a table.
+pub(crate) fn widened(table: &KeyTable, word: &Word, width: u8) -> u8
     requires word { IsWord word.now }
     requires fresh { IsFresh table.now word.now }
+    requires width { width ≤ 12 }
     ensures deep { IsDeep table.now word.now result }
     ensures more { length word.now ≤ result }
+    ensures wider { width ≤ result }
     ensures most { result ≤ 12 }
 {
+    if width == 12 {
+        return width;
+    }
     match table.stands(word) {
-        Stands::Key => word.len(),
-        Stands::Neither => word.len(),
-        Stands::Starts => greater(depth(table, &word.with(0)), depth(table, &word.with(1))),
+        Stands::Key => greater(width, word.len()),
+        Stands::Neither => greater(width, word.len()),
+        Stands::Starts => {
+            let first = widened(table, &word.with(0), width);
+            widened(table, &word.with(1), first)
+        }
     }
 }
 

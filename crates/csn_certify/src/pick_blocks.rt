@@ -5,21 +5,41 @@ ghost use Rattle.std.specs.Prelude.{◌≡◌, ℕ, ◌+◌, ◌-◌, ◌*◌, �
 ghost use Rattle.csn_certify.specs.declared.pick_blocks.TheConstants.{BLOCK};
 ghost use Rattle.csn_certify.specs.declared.pick_table.Entry.{Entry};
 ghost use Rattle.csn_certify.specs.declared.pick_table.Entry.TheVariants.{Refuse};
-ghost use Rattle.csn_certify.specs.PickTables.{IsBlockOf, AreFirstBlocks, AreOnce};
+ghost use Rattle.csn_certify.specs.PickTables.{IsBlockOf, AreFirstBlocks, AreOnce, digest_of};
+ghost use Rattle.csn_certify.specs.SameEntries.{block_told};
+ghost use Rattle.std.proofs.Common.{ap};
+ghost use Rattle.std.specs.Hash as fed;
 
 use crate::pick_table::Entry;
 use csn_bits::NoMemory;
 use indexmap::IndexSet;
 use std::alloc::Global;
+use std::hash::{Hash, Hasher};
 use std::marker::Model;
 
 /// How many entries stand in a block.
 pub(crate) const BLOCK: usize = 64;
 
+/// Entries that stand one after another.
+#[derive(Drop, PartialEq, Eq)]
+struct Block {
+    entries: Vec<Entry>,
+}
+
+impl Hash for Block {
+    ghost hash_input = { λ block. fed.u64 (digest_of block.entries.items) };
+
+    ghost respects_eq = { λ a b told. ap (λ entries. fed.u64 (digest_of entries)) (block_told a.entries.items b.entries.items told) };
+
+    fn hash<H: Hasher>(&self, state: &mut H) {
+        digest(self.entries.as_slice()).hash(state);
+    }
+}
+
 /// Blocks of entries, each kept once. A contract sees the list of them.
 #[derive(Drop)]
 pub(crate) struct Blocks {
-    blocks: IndexSet<Vec<Entry>>,
+    blocks: IndexSet<Block>,
 }
 
 impl Model for Blocks {
@@ -31,7 +51,7 @@ impl Model for Blocks {
 
     ghost coded = { blocks_code };
 
-    ghost view = { λ b. map (λ block. block.items) b.blocks.keys };
+    ghost view = { λ b. map (λ block. block.entries.items) b.blocks.keys };
 }
 
 impl Blocks {
@@ -49,7 +69,7 @@ impl Blocks {
         requires { number < length self.now }
         ensures { result ≡ slice_index_or (slice_index_or self.now number []) place Refuse }
     {
-        match self.blocks.as_slice()[number].get(place) {
+        match self.blocks.as_slice()[number].entries.get(place) {
             Some(entry) => *entry,
             None => Entry::Refuse,
         }
@@ -63,15 +83,18 @@ impl Blocks {
         let count = entries.len().div_ceil(BLOCK);
         let mut index = Vec::with_capacity(alloc, count)?;
         for at in 0..count {
-            let number = self.keep(block_of(alloc, entries, at)?)?;
+            let block = Block {
+                entries: block_of(alloc, entries, at)?,
+            };
+            let number = self.keep(block)?;
             index.push(number)?;
         }
         Ok(index)
     }
 
     /// Keeps a block, and answers its number: that of the same one, where it is there.
-    fn keep(&mut self, block: Vec<Entry>) -> Result<u32, NoMemory>
-        ensures kept { IfOk result (λ at. (at < length self.new) × (slice_index_or self.new at [] ≡ block.items)) }
+    fn keep(&mut self, block: Block) -> Result<u32, NoMemory>
+        ensures kept { IfOk result (λ at. (at < length self.new) × (slice_index_or self.new at [] ≡ block.entries.items)) }
         ensures more { (more : List (List Entry)) × (self.new ≡ self.old ++ more) }
         ensures once { AreOnce self.new }
     {
@@ -81,6 +104,19 @@ impl Blocks {
         }
         Ok(at as u32)
     }
+}
+
+/// A number that is the same for the same entries, and mostly another for others.
+fn digest(entries: &[Entry]) -> u64
+    ensures { result ≡ digest_of entries.now }
+{
+    let mut digest: u64 = 0;
+    for at in 0..entries.len() {
+        digest = digest
+            .wrapping_mul(0x9E37_79B9_7F4A_7C15)
+            .wrapping_add(entries[at].number());
+    }
+    digest
 }
 
 /// The block at a place of some entries, without the refusals at its end.

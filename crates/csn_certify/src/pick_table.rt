@@ -2,14 +2,14 @@
 
 ghost use Rattle.std.specs.Prelude.{◌≡◌, ◌+◌, ◌^◌, ◌<◌, ◌≤◌, length};
 ghost use Rattle.csn_look.specs.KeyMarks.{IsWord};
-ghost use Rattle.csn_certify.specs.PickTables.{entry_at, table_in, IsWithin};
+ghost use Rattle.csn_certify.specs.PickTables.{entry_at, number_of, table_in, IsWithin};
 
 use crate::pick_blocks::{BLOCK, Blocks};
 use csn_look::Word;
 use std::marker::Model;
 
 /// How held bits stand to the keys of the alternatives of a choice.
-#[derive(Clone, Copy, Debug, PartialEq, Eq, Hash)]
+#[derive(Clone, Copy, Debug, PartialEq, Eq)]
 pub(crate) enum Entry {
     /// They begin with no key, and are the beginning of none.
     Refuse,
@@ -18,6 +18,19 @@ pub(crate) enum Entry {
     /// They begin with a key of this alternative where there are so many of them, and are its beginning where
     /// there are fewer.
     Take { alternative: u16, bits: u8 },
+}
+
+impl Entry {
+    /// The number of the entry, of which no other entry has the same.
+    pub fn number(self) -> u64
+        ensures { result ≡ number_of self }
+    {
+        match self {
+            Entry::Refuse => 1,
+            Entry::Wait => 2,
+            Entry::Take { alternative, bits } => 256 * (alternative as u64) + bits as u64 + 3,
+        }
+    }
 }
 
 /// The entries of a choice at an octet position, one for each word of at most `width` bits, at the place of the

@@ -1,4 +1,4 @@
-use Rattle.std.proofs.Common.{◌≤◌, ◌+◌, ℕ, subst, sym}
+use Rattle.std.proofs.Common.{◌≤◌, ◌+◌, ℕ, subst, sym, arith}
 use Rattle.csn_certify.specs.Filling.{AreDeep}
 use Rattle.csn_certify.proofs.FillingFacts.{fresh_empty}
 use Rattle.csn_certify.proofs.ChooserFacts.{deep_null, deep_more}
@@ -16,10 +16,10 @@ loop-j-preserved c =
       | in-None w ↦ subst P (sym w.width-is) (deep_null d parts octet j c.loop-j.width w.in-None.ensures c.loop-j.invariant.0, c.loop-j.invariant.1)
       | in-Some w ↦
           subst P (sym w.width-is) (
-            deep_more d parts octet j c.loop-j.width w.depth.result w.greater-width.result w.in-Some.table.now w.new.result w.new.ensures w.in-Some.ensures w.depth.ensures.deep w.greater-width.ensures.first w.greater-width.ensures.second c.loop-j.invariant.0,
-            w.greater-width.ensures.one 12 c.loop-j.invariant.1 w.depth.ensures.most,
+            deep_more d parts octet j c.loop-j.width w.widened-width.result w.widened-width.result w.in-Some.table.now w.new.result w.new.ensures w.in-Some.ensures w.widened-width.ensures.deep w.widened-width.ensures.wider (omega arith) c.loop-j.invariant.0,
+            w.widened-width.ensures.most,
           )
     ]
 
-pub depth-requires-clause-fresh : goal.depth-requires-clause-fresh
-depth-requires-clause-fresh c = fresh_empty c.in-Some.table.now c.new.result c.new.ensures
+pub widened-width-requires-clause-fresh : goal.widened-width-requires-clause-fresh
+widened-width-requires-clause-fresh c = fresh_empty c.in-Some.table.now c.new.result c.new.ensures
