@@ -24,6 +24,7 @@ pub mod OnePick
 pub mod PickTables
 pub mod PickBlocks
 pub mod FillingFacts
+pub mod Covering
 pub mod Choices
 pub mod ChooserFacts
 pub mod TableFacts

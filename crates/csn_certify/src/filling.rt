@@ -1,7 +1,8 @@
 //! Filling the entries of a choice, from the keys of one alternative after another.
 
-ghost use Rattle.std.specs.Prelude.{◌≡◌, ℕ, ◌<◌, ◌≤◌, List, length};
+ghost use Rattle.std.specs.Prelude.{◌≡◌, ℕ, ◌<◌, ◌≤◌, List, length, slice_index_or};
 ghost use Rattle.csn_look.specs.KeyMarks.{IsWord};
+ghost use Rattle.csn_certify.specs.declared.pick_table.Entry.TheVariants.{Refuse};
 ghost use Rattle.csn_certify.specs.PickTables.{HasEntries, entry_of};
 ghost use Rattle.csn_certify.specs.Filling.{started, IsDeep, IsFresh, IsFilled, IsTaken, FillsUnder, FillsAt};
 
@@ -82,10 +83,10 @@ impl Filling<'_> {
             alternative: self.alternative,
             bits,
         };
-        self.put(entries, word, entry);
-        if word.len() < self.width {
-            self.cover(entries, &word.with(0), bits);
-            self.cover(entries, &word.with(1), bits);
+        let place = word.place();
+        for more in 0..self.width - word.len() + 1 {
+            let first = place << more;
+            put_all(entries, first, first + (1 << more), entry);
         }
     }
 
@@ -107,6 +108,20 @@ impl Filling<'_> {
         ensures put { FillsAt word.now self.now.width entry entries.old entries.new }
     {
         entries[word.place()] = entry;
+    }
+}
+
+/// Puts an entry at all places from the first one on, and before the end.
+fn put_all(entries: &mut [Entry], first: usize, end: usize, entry: Entry)
+    requires order { first ≤ end }
+    requires within { end ≤ length entries.old }
+    ensures size { length entries.new ≡ length entries.old }
+    ensures put { (place : ℕ) → first ≤ place → place < end → slice_index_or entries.new place Refuse ≡ entry }
+    ensures before { (place : ℕ) → place < first → slice_index_or entries.new place Refuse ≡ slice_index_or entries.old place Refuse }
+    ensures behind { (place : ℕ) → end ≤ place → slice_index_or entries.new place Refuse ≡ slice_index_or entries.old place Refuse }
+{
+    for place in first..end {
+        entries[place] = entry;
     }
 }
 
