@@ -1,7 +1,7 @@
 //! The marks of a table in blocks, of which equal ones are kept once: most tables have few keys, or many equal
 //! blocks.
 
-ghost use Rattle.std.specs.Prelude.{◌≡◌, ℕ, ◌+◌, ◌*◌, ◌%◌, ◌<◌, ◌≤◌, [], ◌++◌, ◌||◌, length, IsTrue, IfOk};
+ghost use Rattle.std.specs.Prelude.{◌≡◌, ℕ, ◌+◌, ◌*◌, ◌%◌, ◌<◌, ◌≤◌, ◌⊎◌, [], ◌++◌, ◌||◌, bit_or, length, slice_index, IsTrue, IfOk};
 ghost use Rattle.csn_look.specs.KeyMarks.{is_marked};
 ghost use Rattle.csn_look.specs.Blocks.{four, laid_out, marks_of, AreWithin, IsKept, digest_of};
 
@@ -80,14 +80,30 @@ pub(crate) fn keep_block(blocks: &mut Vec<u64>, block: [u64; BLOCK]) -> Result<u
     Ok(last as u8 + 1)
 }
 
-/// Sets the marks that are set in either.
+/// Sets the marks that are set in either. Most blocks of the others have none.
 pub(crate) fn join_marks(marks: &mut [u64], others: &KeyTable)
     requires mine { length marks.old ≡ MARK_WORDS }
     requires other { length others.now ≡ MARK_WORDS }
     ensures { (at : ℕ) → is_marked marks.new at ≡ (is_marked marks.old at || is_marked others.now at) }
 {
-    for at in 0..MARK_WORDS {
-        marks[at] |= others.word(at);
+    for at in 0..BLOCKS {
+        let block = others.block(at);
+        if block != [0; BLOCK] {
+            join_block(marks, at, block);
+        }
+    }
+}
+
+/// Sets the marks of a block at its place.
+fn join_block(marks: &mut [u64], at: usize, block: [u64; BLOCK])
+    requires mine { length marks.old ≡ MARK_WORDS }
+    requires four { length block ≡ 4 }
+    requires within { at < BLOCKS }
+    ensures inside { (k : ℕ) → k < 4 → slice_index marks.new (4 * at + k) ≡ bit_or (slice_index marks.old (4 * at + k)) (slice_index block k) }
+    ensures outside { (k : ℕ) → (k < 4 * at) ⊎ (4 * at + 4 ≤ k) → slice_index marks.new k ≡ slice_index marks.old k }
+{
+    for k in 0..BLOCK {
+        marks[BLOCK * at + k] |= block[k];
     }
 }
 

@@ -1,13 +1,14 @@
-//! The keys of one part after another.
+//! The keys of one part after another. What begins them is marked when all of them are there.
 
 ghost use Rattle.std.specs.Prelude.{◌≡◌, ℕ, ◌+◌, ◌-◌, ◌*◌, ◌^◌, ◌<◌, ◌≤◌, ◌⊎◌, Bool, false, List, [], length, if◌then◌else◌};
 ghost use Rattle.csn_look.specs.KeyMarks.{IsWord, place_of, has_key};
 ghost use Rattle.csn_look.specs.KeyTables.{IsKeyTable};
-ghost use Rattle.csn_look.specs.KeySteps.{Extends, IsBehind, IsKeyBehind, IsAfter};
+ghost use Rattle.csn_look.specs.KeySteps.{Extends, Gains, IsBehind, IsKeyBehind, IsAfter};
 
-use crate::key_marks::{CUT, MARK_WORDS, STARTS, add_key};
+use crate::key_marks::{CUT, MARK_WORDS, STARTS, key_mark};
 use crate::key_table::KeyTable;
-use crate::marks::next_marked;
+use crate::marks::{copy_marks, next_marked, set_mark};
+use crate::starts::mark_starts;
 use crate::word::{MOST_WORD, PLACES};
 
 /// How many words of the most bits there are.
@@ -31,8 +32,9 @@ pub(crate) fn add_words(marks: &mut [u64], words: usize, whole: bool)
     ensures { (size : ℕ) → words ≡ 2 ^ size → size ≤ MOST_WORD → Extends marks.old marks.new (λ word mark. (length word ≡ size) × (mark ≡ whole)) }
 {
     for number in 0..words {
-        add_key(marks, words + number, whole);
+        set_mark(marks, key_mark(words + number, whole));
     }
+    mark_starts(marks);
 }
 
 /// The word with the place `front`, and behind it each of the `words` of one size that has its mark set, the
@@ -51,15 +53,10 @@ fn add_marked(
     requires some { 0 < front }
     requires few { words ≤ MOST_WORDS }
     requires room { (front + 1) * words ≤ PLACES }
-    ensures { (first : List ℕ) (size : ℕ) → IsWord first → place_of first ≡ front → words ≡ 2 ^ size → length first + size ≤ MOST_WORD → Extends marks.old marks.new (λ word mark. IsBehind rest.now plane first size words word × (mark ≡ whole)) }
+    ensures { (first : List ℕ) (size : ℕ) → IsWord first → place_of first ≡ front → words ≡ 2 ^ size → length first + size ≤ MOST_WORD → Gains marks.old marks.new (λ word mark. IsBehind rest.now plane first size words word × (mark ≡ whole)) }
 {
-    let start = plane + words;
-    let end = start + words;
-    let mut at = next_marked(rest, start, end);
-    while at < end {
-        add_key(marks, front * words + (at - start), whole);
-        at = next_marked(rest, at + 1, end);
-    }
+    let to = key_mark(0, whole) + front * words;
+    copy_marks(marks, to, rest, plane + words, words);
 }
 
 /// The word with the place `front`, and behind it each key of one size.
@@ -69,7 +66,7 @@ fn add_keys_of(marks: &mut [u64], front: usize, rest: &KeyTable, words: usize)
     requires some { 0 < front }
     requires few { words ≤ MOST_WORDS }
     requires room { (front + 1) * words ≤ PLACES }
-    ensures { (first : List ℕ) (size : ℕ) → IsWord first → place_of first ≡ front → words ≡ 2 ^ size → length first + size ≤ MOST_WORD → Extends marks.old marks.new (λ word mark. IsBehind rest.now (if mark then 0 else CUT) first size words word) }
+    ensures { (first : List ℕ) (size : ℕ) → IsWord first → place_of first ≡ front → words ≡ 2 ^ size → length first + size ≤ MOST_WORD → Gains marks.old marks.new (λ word mark. IsBehind rest.now (if mark then 0 else CUT) first size words word) }
 {
     add_marked(marks, front, rest, 0, words, true);
     add_marked(marks, front, rest, CUT, words, false);
@@ -82,7 +79,7 @@ fn add_behind(marks: &mut [u64], front: usize, rest: &KeyTable, room: usize)
     requires some { 0 < front }
     requires few { room ≤ MOST_WORD }
     requires within { (front + 1) * 2 ^ room ≤ PLACES }
-    ensures { (first : List ℕ) → IsWord first → place_of first ≡ front → length first + room ≡ MOST_WORD → IsKeyTable rest.now → Extends marks.old marks.new (IsKeyBehind rest.now first) }
+    ensures { (first : List ℕ) → IsWord first → place_of first ≡ front → length first + room ≡ MOST_WORD → IsKeyTable rest.now → Gains marks.old marks.new (IsKeyBehind rest.now first) }
 {
     for size in 0..room + 1 {
         add_keys_of(marks, front, rest, words_of(size));
@@ -96,7 +93,7 @@ fn add_after_wholes(marks: &mut [u64], first: &KeyTable, rest: &KeyTable, size: 
     requires first_size { length first.now ≡ MARK_WORDS }
     requires rest_size { length rest.now ≡ MARK_WORDS }
     requires few { size ≤ MOST_WORD }
-    ensures { IsKeyTable rest.now → Extends marks.old marks.new (IsAfter first.now rest.now size (2 ^ size)) }
+    ensures { IsKeyTable rest.now → Gains marks.old marks.new (IsAfter first.now rest.now size (2 ^ size)) }
 {
     let words = words_of(size);
     let mut at = next_marked(first, words, 2 * words);
@@ -112,7 +109,7 @@ pub(crate) fn add_after_size(marks: &mut [u64], first: &KeyTable, rest: &KeyTabl
     requires first_size { length first.now ≡ MARK_WORDS }
     requires rest_size { length rest.now ≡ MARK_WORDS }
     requires few { size ≤ MOST_WORD }
-    ensures { IsKeyTable rest.now → Extends marks.old marks.new (λ word mark. (IsBehind first.now CUT [] size (2 ^ size) word × (mark ≡ false)) ⊎ IsAfter first.now rest.now size (2 ^ size) word mark) }
+    ensures { IsKeyTable rest.now → Gains marks.old marks.new (λ word mark. (IsBehind first.now CUT [] size (2 ^ size) word × (mark ≡ false)) ⊎ IsAfter first.now rest.now size (2 ^ size) word mark) }
 {
     add_marked(marks, 1, first, CUT, words_of(size), false);
     add_after_wholes(marks, first, rest, size);

@@ -14,6 +14,7 @@ use crate::blocks::{BLOCK, BLOCKS, block_of, digest, join_marks, keep_block, unp
 use crate::key_marks::{MARK_WORDS, MARKS, STARTS, add_key, begins_with_key, is_key, key_mark};
 use crate::key_products::{add_after_size, add_words, words_of};
 use crate::key_set::{KeySet, list_keys};
+use crate::starts::mark_starts;
 use crate::word::{MOST_WORD, Word};
 use csn_bits::NoMemory;
 use std::alloc::Global;
@@ -111,7 +112,7 @@ impl KeyTable {
     }
 
     /// The block at a place.
-    fn block(&self, at: usize) -> [u64; BLOCK]
+    pub(crate) fn block(&self, at: usize) -> [u64; BLOCK]
         requires { at < BLOCKS }
         ensures { result ≡ four self.now at }
     {
@@ -255,6 +256,7 @@ fn add_after(marks: &mut [u64], first: &KeyTable, tables: &[KeyTable], rests: &[
         let _ = &rest.index;
         add_after_size(marks, first, rest, size);
     }
+    mark_starts(marks);
 }
 
 impl PartialEq for KeyTable {

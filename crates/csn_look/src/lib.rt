@@ -20,6 +20,7 @@ mod marks;
 mod node_sets;
 mod octet_set;
 mod reach;
+mod starts;
 mod symbol_set;
 mod table_maker;
 #[cfg(test)]

@@ -1,7 +1,9 @@
 //! Marks, each a bit of a list of numbers of 64 bits, the least significant one first.
 
-ghost use Rattle.std.specs.Prelude.{◌≡◌, ℕ, ◌*◌, ◌<◌, ◌≤◌, true, false, ◌||◌, nat_eq, length};
+ghost use Rattle.std.specs.Prelude.{◌≡◌, ℕ, ◌+◌, ◌*◌, ◌^◌, ◌<◌, ◌≤◌, true, false, ◌||◌, ◌==◌, nat_eq, length};
+ghost use Rattle.std.specs.Int.{bit_at};
 ghost use Rattle.csn_look.specs.KeyMarks.{is_marked};
+ghost use Rattle.csn_look.specs.KeySteps.{Copies};
 
 use crate::key_marks::{MARK_WORDS, MARKS};
 use crate::key_table::KeyTable;
@@ -44,4 +46,66 @@ pub(crate) fn set_mark(marks: &mut [u64], at: usize)
     ensures { (other : ℕ) → is_marked marks.new other ≡ (nat_eq other at || is_marked marks.old other) }
 {
     marks[at / 64] |= 1 << (at % 64);
+}
+
+/// Sets so many marks from a place on where others are set, which begin at a place of their own.
+pub(crate) fn copy_marks(marks: &mut [u64], to: usize, others: &KeyTable, from: usize, count: usize)
+    requires mine { length marks.old ≡ MARK_WORDS }
+    requires other { length others.now ≡ MARK_WORDS }
+    requires to { to + count ≤ MARKS }
+    requires from { from + count ≤ MARKS }
+    ensures { Copies marks.old marks.new others.now to from count }
+{
+    let mut done = 0;
+    while done < count {
+        done += copy_run(marks, to + done, others, from + done, count - done);
+    }
+}
+
+/// Copies as many of some marks as stand in one number of 64 marks on both sides, and answers how many.
+fn copy_run(marks: &mut [u64], to: usize, others: &KeyTable, from: usize, count: usize) -> usize
+    requires mine { length marks.old ≡ MARK_WORDS }
+    requires other { length others.now ≡ MARK_WORDS }
+    requires some { 0 < count }
+    requires to { to + count ≤ MARKS }
+    requires from { from + count ≤ MARKS }
+    ensures some { 0 < result }
+    ensures few { result ≤ count }
+    ensures copied { Copies marks.old marks.new others.now to from result }
+{
+    let run = run_of(to % 64, from % 64, count);
+    let bits = (others.word(from / 64) >> (from % 64)) & (u64::MAX >> (64 - run));
+    marks[to / 64] |= bits << (to % 64);
+    run
+}
+
+/// How many of some marks stand in one number, from both of two places in it on.
+fn run_of(to: usize, from: usize, count: usize) -> usize
+    requires to { to < 64 }
+    requires from { from < 64 }
+    requires some { 0 < count }
+    ensures some { 0 < result }
+    ensures few { result ≤ count }
+    ensures to { to + result ≤ 64 }
+    ensures from { from + result ≤ 64 }
+{
+    let most = 64 - if to < from { from } else { to };
+    if count < most { count } else { most }
+}
+
+/// Of each two marks side by side whether one is set, in half the marks.
+pub(crate) fn halved(marks: u64) -> u64
+    ensures bits { (k : ℕ) → k < 32 → (bit_at result k == 1) ≡ ((bit_at marks (2 * k) == 1) || (bit_at marks (2 * k + 1) == 1)) }
+    ensures small { result < 2 ^ 32 }
+{
+    let mut half: u64 = 0;
+    if marks == 0 {
+        return half;
+    }
+    for at in 0..32u32 {
+        if (marks >> (2 * at)) % 4 != 0 {
+            half |= 1 << at;
+        }
+    }
+    half
 }

@@ -1,5 +1,7 @@
 -- What the marks are that stand in blocks.
-use Rattle.std.proofs.Common.{◌≡◌, ℕ, zero, suc, ◌+◌, ◌*◌, ◌/◌, ◌%◌, ◌<◌, ◌≤◌, List, [], ◌∷◌, ◌++◌, take, length, get_or, refl, sym, ap, ◌∙◌, arith, append_assoc, append-nil}
+use Rattle.std.proofs.Common.{◌≡◌, ℕ, zero, suc, ◌+◌, ◌-◌, ◌*◌, ◌⊎◌, inl, inr, ◌/◌, ◌%◌, ◌<◌, ◌≤◌, List, [], ◌∷◌, ◌++◌, take, length, get_or, refl, sym, ap, ◌∙◌, arith, append_assoc, append-nil}
+use Rattle.std.specs.Int.Bits.{bit_or, or_zero_r}
+use Rattle.std.proofs.lemmas.Bool.{cases_lt}
 use Rattle.std.proofs.lemmas.List.{take_all}
 use Rattle.csn_look.specs.Blocks.{four, laid_out, marks_of, AreWithin, IsKept}
 
@@ -181,3 +183,57 @@ none_within (first ∷ index) blocks none at block h = absurd (cc)
 -- the marks that were laid out
 pub unpacked : (index blocks own : List ℕ) → index ≡ [] → marks_of index blocks ≡ own → blocks ≡ own
 unpacked index blocks own none same = sym (no_index index blocks none) ∙ same
+
+-- ---- the marks of either, by blocks
+
+-- the four numbers of a block, one after another
+four_at : (marks : List ℕ) (at k : ℕ) → k < 4 → get_or (four marks at) k 0 ≡ get_or marks (4 * at + k) 0
+four_at marks at zero small = ap (λ n. get_or marks n 0) (omega arith)
+four_at marks at (suc zero) small = refl
+four_at marks at (suc (suc zero)) small = refl
+four_at marks at (suc (suc (suc zero))) small = refl
+four_at marks at (suc (suc (suc (suc k)))) small = absurd (omega arith)
+
+-- before a place each number has the marks of both, and from it on it is as it was
+abbrev pub AreJoined : (old others new : List ℕ) → ℕ → Type 0
+AreJoined old others new upto =
+    ((k : ℕ) → k < upto → get_or new k 0 ≡ bit_or (get_or old k 0) (get_or others k 0))
+    × ((k : ℕ) → upto ≤ k → get_or new k 0 ≡ get_or old k 0)
+
+-- one block more
+pub block_joined :
+    (old others marks new block : List ℕ) (at : ℕ) → AreJoined old others marks (4 * at) → block ≡ four others at
+    → ((k : ℕ) → k < 4 → get_or new (4 * at + k) 0 ≡ bit_or (get_or marks (4 * at + k) 0) (get_or block k 0))
+    → ((k : ℕ) → (k < 4 * at) ⊎ (4 * at + 4 ≤ k) → get_or new k 0 ≡ get_or marks k 0)
+    → AreJoined old others new (4 * (at + 1))
+block_joined old others marks new block at before is inside outside = (
+  (λ k small. elim (cases_lt k (4 * at)) [
+    | inl below ↦ outside k (inl below) ∙ before.0 k below
+    | inr above ↦ here (k - 4 * at) k (omega arith) (omega arith)
+  ]),
+  (λ k large. outside k (inr (omega arith)) ∙ before.1 k (omega arith)),
+)
+  where
+    here : (j k : ℕ) → k ≡ 4 * at + j → j < 4 → get_or new k 0 ≡ bit_or (get_or old k 0) (get_or others k 0)
+    here j k same small =
+        ap (λ n. get_or new n 0) same ∙ inside j small
+        ∙ ap (λ n. bit_or n (get_or block j 0)) (before.1 (4 * at + j) (omega arith) ∙ ap (λ n. get_or old n 0) (sym same))
+        ∙ ap (λ n. bit_or (get_or old k 0) n) (ap (λ l. get_or l j 0) is ∙ four_at others at j small ∙ ap (λ n. get_or others n 0) (sym same))
+
+-- and one without marks
+abbrev pub blank : List ℕ
+blank = 0 ∷ 0 ∷ 0 ∷ 0 ∷ []
+
+pub blank_joined :
+    (old others marks : List ℕ) (at : ℕ) → AreJoined old others marks (4 * at) → four others at ≡ blank → AreJoined old others marks (4 * (at + 1))
+blank_joined old others marks at before none =
+    block_joined old others marks marks blank at before (sym none)
+    (λ k small. sym (or_zero_r (get_or marks (4 * at + k) 0)) ∙ ap (λ n. bit_or (get_or marks (4 * at + k) 0) n) (sym (zeros k)))
+    (λ k apart. refl)
+  where
+    zeros : (k : ℕ) → get_or blank k 0 ≡ 0
+    zeros zero = refl
+    zeros (suc zero) = refl
+    zeros (suc (suc zero)) = refl
+    zeros (suc (suc (suc zero))) = refl
+    zeros (suc (suc (suc (suc k)))) = refl

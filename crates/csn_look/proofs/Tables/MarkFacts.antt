@@ -45,6 +45,13 @@ set_marked marks at other within =
         ap (λ n. bit_at n (other % 64) == 1) (get_or-set_other marks (at / 64) (other / 64) (bit_or (get_or marks (at / 64) 0) (1 * 2 ^ (at % 64) % 18446744073709551616)) 0 away.1)
         ∙ sym (ap (λ b. b || is_marked marks other) test)
 
+either : (a b c : ℕ) → c ≡ max a b → a < 2 → b < 2 → (c == 1) ≡ ((a == 1) || (b == 1))
+either a b c e k l = grind (arith, nat_tests)
+
+-- a bit of either number
+pub bit_of_either : (a b i : ℕ) → (bit_at (bit_or a b) i == 1) ≡ ((bit_at a i == 1) || (bit_at b i == 1))
+bit_of_either a b i = either (bit_at a i) (bit_at b i) _ (bit_at_or a b i) (bit_at-lt a i) (bit_at-lt b i)
+
 -- the marks of either
 pub joined :
     (old new others : List ℕ) (at : ℕ)
@@ -52,11 +59,21 @@ pub joined :
     → is_marked new at ≡ (is_marked old at || is_marked others at)
 joined old new others at e =
     ap (λ n. bit_at n (at % 64) == 1) e
-    ∙ either (bit_at (get_or old (at / 64) 0) (at % 64)) (bit_at (get_or others (at / 64) 0) (at % 64)) _ (bit_at_or (get_or old (at / 64) 0) (get_or others (at / 64) 0) (at % 64))
-    (bit_at-lt (get_or old (at / 64) 0) (at % 64)) (bit_at-lt (get_or others (at / 64) 0) (at % 64))
-  where
-    either : (a b c : ℕ) → c ≡ max a b → a < 2 → b < 2 → (c == 1) ≡ (a == 1 || b == 1)
-    either a b c e k l = grind (arith, nat_tests)
+    ∙ bit_of_either (get_or old (at / 64) 0) (get_or others (at / 64) 0) (at % 64)
+
+-- the marks of either in one number
+pub word_joined :
+    (marks : List ℕ) (at more n : ℕ) → at < length marks → n / 64 ≡ at
+    → is_marked (slice_set marks at (bit_or (get_or marks at 0) more)) n ≡ (is_marked marks n || (bit_at more (n % 64) == 1))
+word_joined marks at more n there same =
+    let new = bit_or (get_or marks at 0) more in
+    let written : get_or (slice_set marks at new) (n / 64) 0 ≡ new = ap (λ w. get_or (slice_set marks at new) w 0) same ∙ get_or-set_same marks at new 0 there in
+    ap (λ w. bit_at w (n % 64) == 1) written ∙ bit_of_either (get_or marks at 0) more (n % 64)
+    ∙ ap (λ w. (bit_at (get_or marks w 0) (n % 64) == 1) || (bit_at more (n % 64) == 1)) (sym same)
+
+-- the marks in all other numbers
+pub word_other : (marks : List ℕ) (at new n : ℕ) → n / 64 ≢ at → is_marked (slice_set marks at new) n ≡ is_marked marks n
+word_other marks at new n away = ap (λ w. bit_at w (n % 64) == 1) (get_or-set_other marks at (n / 64) new 0 away)
 
 pub zeros : (n k : ℕ) → get_or (replicate {A = ℕ} n 0) k 0 ≡ 0
 zeros zero k = refl

@@ -1,5 +1,5 @@
 -- The steps by which the keys of a product are made.
-use Rattle.std.proofs.Common.{◌≡◌, ℕ, zero, suc, ◌+◌, ◌-◌, ◌*◌, ◌^◌, ◌<◌, ◌≤◌, Bool, true, false, if◌then◌else◌, List, [], ◌∷◌, ◌++◌, length, take, IsTrue, ◌⊎◌, refl, sym, ap, ◌∙◌, subst, arith, inl, inr, append_assoc, length-append}
+use Rattle.std.proofs.Common.{◌≡◌, ℕ, zero, suc, ◌+◌, ◌-◌, ◌*◌, ◌^◌, ◌<◌, ◌≤◌, Bool, true, false, if◌then◌else◌, ◌||◌, nat_eq, List, [], ◌∷◌, ◌++◌, length, take, IsTrue, ◌⊎◌, refl, sym, ap, ◌∙◌, subst, arith, inl, inr, append_assoc, length-append}
 use Rattle.std.proofs.Math.Nat.{pow-le-pow_right, mul-le-mul_left}
 use Rattle.std.proofs.lemmas.Nat.{pow-add}
 use Rattle.std.proofs.lemmas.List.{take-append-le, take_all}
@@ -8,12 +8,13 @@ use Rattle.csn_bits.proofs.NumberFacts.{number_of-same, number_of-lt}
 use Rattle.csn_bits.proofs.Packing.{IsBits-append}
 use Rattle.csn_bits.specs.Numbers.{number_of}
 use Rattle.csn_look.specs.Keys.{Cut, kept, cut}
-use Rattle.csn_look.specs.KeyMarks.{IsWord, is_marked, place_of, has_key}
-use Rattle.csn_look.specs.KeyTables.{IsKeyTable, AddsKey}
+use Rattle.csn_look.specs.KeyMarks.{IsWord, is_marked, place_of, key_mark, has_key}
+use Rattle.csn_look.specs.KeyTables.{IsKeyTable}
 use Rattle.csn_look.specs.KeyProducts.{AfterKeys, after_cut, after_whole}
-use Rattle.csn_look.specs.KeySteps.{Extends, IsBehind, IsShortBehind, IsKeyBehind, IsAfter}
-use Rattle.csn_look.proofs.Basics.Places.{place_of-append, numbered}
-use Rattle.csn_look.proofs.Meaning.Extensions.{extends_none, extends_key, extends_then, extends_same}
+use Rattle.csn_look.specs.KeySteps.{Gains, Copies, IsBehind, IsShortBehind, IsKeyBehind, IsAfter}
+use Rattle.csn_look.proofs.Basics.Places.{place_of-append, place_of-same, place_of-small, numbered}
+use Rattle.csn_look.proofs.Tables.KeyMarkFacts.{or_cases, or_left, or_right}
+use Rattle.csn_look.proofs.Meaning.Extensions.{gains_none, gains_key, gains_then, gains_same}
 
 pub bits_back : (a b : List ℕ) → IsBits (a ++ b) → IsBits b
 bits_back [] b h = h
@@ -31,75 +32,113 @@ lt_or_le m n = grind arith
 below_or : (m n : ℕ) → m < n + 1 → (m < n) ⊎ (m ≡ n)
 below_or m n h = grind arith
 
+placed : (a : List ℕ) (words number : ℕ) {size : ℕ} (b : List ℕ) → words ≡ 2 ^ size → length b ≡ size → number_of b ≡ number → place_of a * 2 ^ length b + number_of b ≡ place_of a * words + number
+placed a words number b power many writes = rw (many, writes, power) refl
+
+pub key_mark-first : (whole : Bool) → key_mark 0 whole ≤ 8192
+key_mark-first true = omega arith
+key_mark-first false = omega arith
+
+key_from : (whole : Bool) (p k : ℕ) → key_mark 0 whole + p + k ≡ key_mark (p + k) whole
+key_from true p k = omega arith
+key_from false p k = omega arith
+
+-- where a mark between these stands
+place_here :
+    (mark whole : Bool) (p q k words : ℕ) → p < 8192 → (q + 1) * words ≤ 8192 → k < words → key_mark 0 whole + q * words + k ≡ key_mark p mark
+    → (mark ≡ whole) × (p ≡ q * words + k)
+place_here true true p q k words low room small e = (refl, omega (arith, e))
+place_here false false p q k words low room small e = (refl, omega (arith, e))
+place_here true false p q k words low room small e = absurd (omega (arith, e))
+place_here false true p q k words low room small e = absurd (omega (arith, e))
+
 -- ---- the words of one size with their marks set
 
 module _ (marks : List ℕ) (plane : ℕ) (first : List ℕ) (size : ℕ) (whole : Bool) where
   abbrev pub Behind : ℕ → List ℕ → Bool → Type 0
   Behind limit word mark = IsBehind marks plane first size limit word × (mark ≡ whole)
 
-  pub behind_none : (old : List ℕ) → Extends old old (Behind 0)
-  behind_none old = extends_none old (Behind 0) (λ word mark is h. let b = h.0.below in omega arith)
-
-  behind_more : (number : ℕ) (word : List ℕ) (mark : Bool) → IsWord word → Behind number word mark → Behind (number + 1) word mark
-  behind_more number word mark is h =
-      let b = h.0.below in
-      (record { back = h.0.back; parts = h.0.parts; many = h.0.many; below = omega arith; marked = h.0.marked }, h.1)
-
   mark_of : (words number : ℕ) (back : List ℕ) → words ≡ 2 ^ size → length back ≡ size → number_of back ≡ number → plane + words + number ≡ plane + place_of back
   mark_of words number back power many writes =
       let same : 2 ^ length back ≡ words = ap (λ n. 2 ^ n) many ∙ sym power in omega arith
 
-  -- where none of some words has its mark set, none is added
-  pub behind_skip :
-      (old mid : List ℕ) (words number upto : ℕ) → words ≡ 2 ^ size → number ≤ upto
-      → ((k : ℕ) → number ≤ k → k < upto → is_marked marks (plane + words + k) ≡ false)
-      → Extends old mid (Behind number) → Extends old mid (Behind upto)
-  behind_skip old mid words number upto power further not e =
-      extends_same old mid (Behind number) (Behind upto) e
-      (λ word mark is h. let b = h.0.below in (record { back = h.0.back; parts = h.0.parts; many = h.0.many; below = omega arith; marked = h.0.marked }, h.1))
-      (λ word mark is h. elim (lt_or_le (number_of h.0.back) number) [
-        | inl b ↦ (record { back = h.0.back; parts = h.0.parts; many = h.0.many; below = b; marked = h.0.marked }, h.1)
-        | inr high ↦
-            let k = number_of h.0.back in
-            let unmarked = not k high h.0.below in
-            let there : is_marked marks (plane + words + k) ≡ true = ap (λ n. is_marked marks n) (mark_of words k h.0.back power h.0.many refl) ∙ h.0.marked in
-            absurd (cc)
-      ])
-
-  pub behind_next :
-      (old mid new : List ℕ) (words number : ℕ) → IsWord first → words ≡ 2 ^ size → length first + size ≤ 12 → number < words
-      → is_marked marks (plane + words + number) ≡ true → length new ≡ length mid
-      → ((word : List ℕ) → IsWord word → place_of word ≡ place_of first * words + number → AddsKey mid new word whole)
-      → Extends old mid (Behind number) → Extends old new (Behind (number + 1))
-  behind_next old mid new words number is power short small marked same adds e =
+  -- the word behind the first one with this number
+  behind_here :
+      (words number : ℕ) (word : List ℕ) → IsWord first → IsWord word → words ≡ 2 ^ size → length first + size ≤ 12 → number < words
+      → place_of word ≡ place_of first * words + number → is_marked marks (plane + words + number) ≡ true → IsBehind marks plane first size words word
+  behind_here words number word is is_word power short small here marked =
       let n = numbered size number (omega (arith, power)) in
       let room : length first + length n.word ≤ 12 = let many = n.many in omega arith in
-      let word : IsWord (first ++ n.word) = word_join first n.word is n.bits room in
-      let place : place_of (first ++ n.word) ≡ place_of first * words + number = place_of-append first n.word ∙ placed first n.word (n.many) (n.writes) power in
-      extends_then old mid new (Behind number) (λ key mark. (key ≡ first ++ n.word) × (mark ≡ whole)) (Behind (number + 1)) e
-      (extends_key mid new (first ++ n.word) whole word same (adds (first ++ n.word) word place))
-      (record {
-        first = behind_more number;
-        second = λ key mark word_k h. (
-          record {
-            back = n.word;
-            parts = h.0;
-            many = n.many;
-            below = (let w = n.writes in omega arith);
-            marked = ap (λ m. is_marked marks m) (sym (mark_of words number n.word power n.many n.writes)) ∙ marked;
-          },
-          h.1,
-        );
-        split = λ key mark word_k h. elim (below_or (number_of h.0.back) number h.0.below) [
-          | inl b ↦ inl (record { back = h.0.back; parts = h.0.parts; many = h.0.many; below = b; marked = h.0.marked }, h.1)
-          | inr writes ↦
-              let equal : h.0.back ≡ n.word = number_of-same h.0.back n.word (word_back first h.0.back key h.0.parts word_k) n.bits (h.0.many ∙ sym n.many) (writes ∙ sym n.writes) in
-              inr (h.0.parts ∙ ap (λ b. first ++ b) equal, h.1)
-        ];
-      })
+      let joined : IsWord (first ++ n.word) = word_join first n.word is n.bits room in
+      let place : place_of (first ++ n.word) ≡ place_of first * words + number = place_of-append first n.word ∙ placed first words number n.word power n.many n.writes in
+      record {
+        back = n.word;
+        parts = place_of-same word (first ++ n.word) is_word.bits joined.bits (here ∙ sym place);
+        many = n.many;
+        below = (let w = n.writes in omega arith);
+        marked = ap (λ m. is_marked marks m) (sym (mark_of words number n.word power n.many n.writes)) ∙ marked;
+      }
+
+  -- all marks of some words of one size are copied
+  pub behind_all :
+      (old new : List ℕ) (words to : ℕ) → IsWord first → words ≡ 2 ^ size → length first + size ≤ 12 → (place_of first + 1) * words ≤ 8192
+      → to ≡ key_mark 0 whole + place_of first * words → Copies old new marks to (plane + words) words → Gains old new (Behind words)
+  behind_all old new words to is power short room start c = record {
+    keys = λ word mark is_word. (
+      λ h. is_old_or (key_mark (place_of word) mark) word mark is_word refl h,
+      λ h. elim h [
+        | inl o ↦ kept_old (key_mark (place_of word) mark) o
+        | inr b ↦ added word mark b.0 b.1
+      ],
+    );
+    starts = λ at high. c.behind at (let low = key_mark-first whole in let all = room_all (place_of first) words room in omega arith);
+  }
     where
-      placed : (a b : List ℕ) → length b ≡ size → number_of b ≡ number → words ≡ 2 ^ size → place_of a * 2 ^ length b + number_of b ≡ place_of a * words + number
-      placed a b many writes power = rw (many, writes, power) refl
+      room_all : (p words : ℕ) → (p + 1) * words ≤ 8192 → p * words + words ≤ 8192
+      room_all p words h = omega arith
+
+      is_old_or :
+          (n : ℕ) (word : List ℕ) (mark : Bool) → IsWord word → n ≡ key_mark (place_of word) mark → is_marked new n ≡ true
+          → (is_marked old (key_mark (place_of word) mark) ≡ true) ⊎ Behind words word mark
+      is_old_or n word mark is_word named h =
+          let P : ℕ → Type 0 = λ m. (is_marked old m ≡ true) ⊎ Behind words word mark in
+          subst P named (elim (lt_or_le n to) [
+            | inl below ↦ inl (sym (c.before n below) ∙ h)
+            | inr low ↦ elim (lt_or_le n (to + words)) [
+              | inr beyond ↦ inl (sym (c.behind n beyond) ∙ h)
+              | inl inside ↦
+                  let k = n - to in
+                  let e : to + k ≡ n = omega arith in
+                  let small : k < words = omega arith in
+                  elim (or_cases (is_marked old (to + k)) (is_marked marks (plane + words + k)) (sym (c.inside k small) ∙ ap (λ m. is_marked new m) e ∙ h)) [
+                    | inl o ↦ inl (ap (λ m. is_marked old m) (sym e) ∙ o)
+                    | inr m ↦
+                        let here = place_here mark whole (place_of word) (place_of first) k words (place_of-small word is_word) room small (sym (ap (λ t. t + k) start) ∙ e ∙ named) in
+                        inr (behind_here words k word is is_word power short small here.1 m, here.0)
+                  ]
+            ]
+          ])
+
+      kept_old : (n : ℕ) → is_marked old n ≡ true → is_marked new n ≡ true
+      kept_old n o =
+          elim (lt_or_le n to) [
+            | inl below ↦ c.before n below ∙ o
+            | inr low ↦ elim (lt_or_le n (to + words)) [
+              | inr beyond ↦ c.behind n beyond ∙ o
+              | inl inside ↦
+                  let k = n - to in
+                  let e : to + k ≡ n = omega arith in
+                  ap (λ m. is_marked new m) (sym e) ∙ c.inside k (omega arith) ∙ or_left (is_marked old (to + k)) (is_marked marks (plane + words + k)) (ap (λ m. is_marked old m) e ∙ o)
+            ]
+          ]
+
+      added : (word : List ℕ) (mark : Bool) → IsBehind marks plane first size words word → mark ≡ whole → is_marked new (key_mark (place_of word) mark) ≡ true
+      added word mark b same =
+          let k = number_of b.back in
+          let place : place_of word ≡ place_of first * words + k = ap place_of b.parts ∙ place_of-append first b.back ∙ placed first words k b.back power b.many refl in
+          let here : to + k ≡ key_mark (place_of word) mark = ap (λ t. t + k) start ∙ key_from whole (place_of first * words) k ∙ ap (λ p. key_mark p whole) (sym place) ∙ ap (λ m. key_mark (place_of word) m) (sym same) in
+          ap (λ m. is_marked new m) (sym here) ∙ c.inside k b.below
+          ∙ or_right (is_marked old (to + k)) (is_marked marks (plane + words + k)) (ap (λ m. is_marked marks m) (mark_of words k b.back power b.many refl) ∙ b.marked)
 
 -- ---- the keys of one size
 
@@ -108,10 +147,10 @@ module _ (marks first : List ℕ) (size : ℕ) where
   Level words word mark = IsBehind marks (if mark then 0 else 8192) first size words word
 
   pub both_marks :
-      (words : ℕ) (old mid new : List ℕ) → Extends old mid (Behind marks 0 first size true words)
-      → Extends mid new (Behind marks 8192 first size false words) → Extends old new (Level words)
+      (words : ℕ) (old mid new : List ℕ) → Gains old mid (Behind marks 0 first size true words)
+      → Gains mid new (Behind marks 8192 first size false words) → Gains old new (Level words)
   both_marks words old mid new one two =
-      extends_then old mid new (Behind marks 0 first size true words) (Behind marks 8192 first size false words) (Level words) one two
+      gains_then old mid new (Behind marks 0 first size true words) (Behind marks 8192 first size false words) (Level words) one two
       (record {
         first = λ word mark is h. let P : Bool → Type 0 = Level words word in subst P (sym h.1) h.0;
         second = λ word mark is h. let P : Bool → Type 0 = Level words word in subst P (sym h.1) h.0;
@@ -151,14 +190,14 @@ split_at (suc n) (x ∷ l) h =
     record { front = x ∷ s.front; next = s.next; back = s.back; parts = ap (λ t. x ∷ t) s.parts; many = omega (arith, s.many) }
 
 module _ (marks first : List ℕ) where
-  pub short_none : (old : List ℕ) → Extends old old (IsShortBehind marks first 0)
-  short_none old = extends_none old (IsShortBehind marks first 0) (λ word mark is h. let b = h.short in omega arith)
+  pub short_none : (old : List ℕ) → Gains old old (IsShortBehind marks first 0)
+  short_none old = gains_none old (IsShortBehind marks first 0) (λ word mark is h. let b = h.short in omega arith)
 
   pub short_next :
-      (size words : ℕ) (old mid new : List ℕ) → words ≡ 2 ^ size → Extends old mid (IsShortBehind marks first size)
-      → Extends mid new (Level marks first size words) → Extends old new (IsShortBehind marks first (size + 1))
+      (size words : ℕ) (old mid new : List ℕ) → words ≡ 2 ^ size → Gains old mid (IsShortBehind marks first size)
+      → Gains mid new (Level marks first size words) → Gains old new (IsShortBehind marks first (size + 1))
   short_next size words old mid new power before level =
-      extends_then old mid new (IsShortBehind marks first size) (Level marks first size words) (IsShortBehind marks first (size + 1)) before level
+      gains_then old mid new (IsShortBehind marks first size) (Level marks first size words) (IsShortBehind marks first (size + 1)) before level
       (record {
         first = λ word mark is h. record { back = h.back; parts = h.parts; short = (let b = h.short in omega arith); key = h.key };
         second = λ word mark is h. record { back = h.back; parts = h.parts; short = (let m = h.many in omega arith); key = sym (level_key marks h.back mark) ∙ h.marked };
@@ -173,10 +212,10 @@ module _ (marks first : List ℕ) where
 
   pub short_all :
       (room words : ℕ) (old mid new : List ℕ) → IsWord first → length first + room ≡ 12 → words ≡ 2 ^ room → IsKeyTable marks
-      → Extends old mid (IsShortBehind marks first (room + 1)) → Extends mid new (Behind marks 16384 first room false words)
-      → Extends old new (IsKeyBehind marks first)
+      → Gains old mid (IsShortBehind marks first (room + 1)) → Gains mid new (Behind marks 16384 first room false words)
+      → Gains old new (IsKeyBehind marks first)
   short_all room words old mid new is_first full power table before starts =
-      extends_then old mid new (IsShortBehind marks first (room + 1)) (Behind marks 16384 first room false words) (IsKeyBehind marks first) before starts
+      gains_then old mid new (IsShortBehind marks first (room + 1)) (Behind marks 16384 first room false words) (IsKeyBehind marks first) before starts
       (record {
         first = λ word mark is h.
             let short = h.short in
@@ -249,8 +288,8 @@ room_after size words number few power small =
         doubled p q = omega arith
 
 module _ (first rest : List ℕ) (size : ℕ) where
-  pub after_none : (old : List ℕ) → Extends old old (IsAfter first rest size 0)
-  after_none old = extends_none old (IsAfter first rest size 0) (λ word mark is h. let b = h.below in omega arith)
+  pub after_none : (old : List ℕ) → Gains old old (IsAfter first rest size 0)
+  after_none old = gains_none old (IsAfter first rest size 0) (λ word mark is h. let b = h.below in omega arith)
 
   after_more : (number : ℕ) (word : List ℕ) (mark : Bool) → IsWord word → IsAfter first rest size number word mark → IsAfter first rest size (number + 1) word mark
   after_more number word mark is h =
@@ -264,9 +303,9 @@ module _ (first rest : List ℕ) (size : ℕ) where
   pub after_skip :
       (old mid : List ℕ) (words number upto : ℕ) → words ≡ 2 ^ size → number ≤ upto
       → ((k : ℕ) → number ≤ k → k < upto → is_marked first (words + k) ≡ false)
-      → Extends old mid (IsAfter first rest size number) → Extends old mid (IsAfter first rest size upto)
+      → Gains old mid (IsAfter first rest size number) → Gains old mid (IsAfter first rest size upto)
   after_skip old mid words number upto power further not e =
-      extends_same old mid (IsAfter first rest size number) (IsAfter first rest size upto) e
+      gains_same old mid (IsAfter first rest size number) (IsAfter first rest size upto) e
       (λ word mark is h. let b = h.below in record { front = h.front; is = h.is; many = h.many; below = omega arith; key = h.key; behind = h.behind })
       (λ word mark is h. elim (lt_or_le (number_of h.front) number) [
         | inl b ↦ record { front = h.front; is = h.is; many = h.many; below = b; key = h.key; behind = h.behind }
@@ -279,14 +318,14 @@ module _ (first rest : List ℕ) (size : ℕ) where
 
   pub after_next :
       (old mid new : List ℕ) (words number : ℕ) → size ≤ 12 → words ≡ 2 ^ size → number < words → is_marked first (words + number) ≡ true
-      → ((word : List ℕ) → IsWord word → place_of word ≡ words + number → length word + (12 - size) ≡ 12 → Extends mid new (IsKeyBehind rest word))
-      → Extends old mid (IsAfter first rest size number) → Extends old new (IsAfter first rest size (number + 1))
+      → ((word : List ℕ) → IsWord word → place_of word ≡ words + number → length word + (12 - size) ≡ 12 → Gains mid new (IsKeyBehind rest word))
+      → Gains old mid (IsAfter first rest size number) → Gains old new (IsAfter first rest size (number + 1))
   after_next old mid new words number few power small marked adds e =
       let n = numbered size number (omega (arith, power)) in
       let many = n.many in
       let is_front : IsWord n.word = record { bits = n.bits; short = omega arith } in
       let place = whole_mark words number n.word power n.many n.writes in
-      extends_then old mid new (IsAfter first rest size number) (IsKeyBehind rest n.word) (IsAfter first rest size (number + 1)) e
+      gains_then old mid new (IsAfter first rest size number) (IsKeyBehind rest n.word) (IsAfter first rest size (number + 1)) e
       (adds n.word is_front (sym place) (omega arith))
       (record {
         first = after_more number;
@@ -312,11 +351,11 @@ module _ (first rest : List ℕ) (size : ℕ) where
   AtSize word mark = (IsBehind first 8192 [] size (2 ^ size) word × (mark ≡ false)) ⊎ IsAfter first rest size (2 ^ size) word mark
 
   pub after_size :
-      (old mid new : List ℕ) (words : ℕ) → words ≡ 2 ^ size → Extends old mid (Behind first 8192 [] size false words)
-      → Extends mid new (IsAfter first rest size (2 ^ size)) → Extends old new AtSize
+      (old mid new : List ℕ) (words : ℕ) → words ≡ 2 ^ size → Gains old mid (Behind first 8192 [] size false words)
+      → Gains mid new (IsAfter first rest size (2 ^ size)) → Gains old new AtSize
   after_size old mid new words power cuts wholes =
-      let P : ℕ → Type 0 = λ limit. Extends old mid (Behind first 8192 [] size false limit) in
-      extends_then old mid new (Behind first 8192 [] size false (2 ^ size)) (IsAfter first rest size (2 ^ size)) AtSize (subst P power cuts) wholes
+      let P : ℕ → Type 0 = λ limit. Gains old mid (Behind first 8192 [] size false limit) in
+      gains_then old mid new (Behind first 8192 [] size false (2 ^ size)) (IsAfter first rest size (2 ^ size)) AtSize (subst P power cuts) wholes
       (record { first = λ word mark is h. inl h; second = λ word mark is h. inr h; split = λ word mark is h. h })
 
 -- ---- the keys of the product
@@ -328,14 +367,14 @@ pub record AfterBelow (first : List ℕ) (rests : ℕ → List ℕ) (limit : ℕ
   pub key : AtSize first (rests size) size word mark
 
 module _ (first : List ℕ) (rests : ℕ → List ℕ) where
-  pub below_none : (old : List ℕ) → Extends old old (AfterBelow first rests 0)
-  below_none old = extends_none old (AfterBelow first rests 0) (λ word mark is h. let b = h.below in omega arith)
+  pub below_none : (old : List ℕ) → Gains old old (AfterBelow first rests 0)
+  below_none old = gains_none old (AfterBelow first rests 0) (λ word mark is h. let b = h.below in omega arith)
 
   pub below_next :
-      (size : ℕ) (old mid new : List ℕ) → Extends old mid (AfterBelow first rests size) → Extends mid new (AtSize first (rests size) size)
-      → Extends old new (AfterBelow first rests (size + 1))
+      (size : ℕ) (old mid new : List ℕ) → Gains old mid (AfterBelow first rests size) → Gains mid new (AtSize first (rests size) size)
+      → Gains old new (AfterBelow first rests (size + 1))
   below_next size old mid new before level =
-      extends_then old mid new (AfterBelow first rests size) (AtSize first (rests size) size) (AfterBelow first rests (size + 1)) before level
+      gains_then old mid new (AfterBelow first rests size) (AtSize first (rests size) size) (AfterBelow first rests (size + 1)) before level
       (record {
         first = λ word mark is h. record { size = h.size; below = (let b = h.below in omega arith); key = h.key };
         second = λ word mark is h. record { size = size; below = omega arith; key = h };
@@ -345,8 +384,8 @@ module _ (first : List ℕ) (rests : ℕ → List ℕ) where
         ];
       })
 
-  pub below_all : (limit : ℕ) (old new : List ℕ) → limit ≡ 13 → Extends old new (AfterBelow first rests limit) → Extends old new (AfterKeys first rests)
-  below_all limit old new all e = extends_same old new (AfterBelow first rests limit) (AfterKeys first rests) e (λ word mark is h. to word mark h.size h.key) from
+  pub below_all : (limit : ℕ) (old new : List ℕ) → limit ≡ 13 → Gains old new (AfterBelow first rests limit) → Gains old new (AfterKeys first rests)
+  below_all limit old new all e = gains_same old new (AfterBelow first rests limit) (AfterKeys first rests) e (λ word mark is h. to word mark h.size h.key) from
     where
       to : (word : List ℕ) (mark : Bool) (size : ℕ) → AtSize first (rests size) size word mark → AfterKeys first rests word mark
       to word mark size (inl h) = after_cut (ap (λ w. has_key first w false) h.0.parts ∙ h.0.marked) h.1
@@ -372,21 +411,22 @@ module _ (size : ℕ) (whole : Bool) where
   abbrev pub OfSize : ℕ → List ℕ → Bool → Type 0
   OfSize limit word mark = (length word ≡ size) × (number_of word < limit) × (mark ≡ whole)
 
-  pub of_size_none : (old : List ℕ) → Extends old old (OfSize 0)
-  of_size_none old = extends_none old (OfSize 0) (λ word mark is h. let b = h.1 in omega arith)
+  pub of_size_none : (old : List ℕ) → Gains old old (OfSize 0)
+  of_size_none old = gains_none old (OfSize 0) (λ word mark is h. let b = h.1 in omega arith)
 
   pub of_size_next :
-      (old mid new : List ℕ) (words number : ℕ) → size ≤ 12 → words ≡ 2 ^ size → number < words → length new ≡ length mid
-      → ((word : List ℕ) → IsWord word → place_of word ≡ words + number → AddsKey mid new word whole)
-      → Extends old mid (OfSize number) → Extends old new (OfSize (number + 1))
-  of_size_next old mid new words number few power small same adds e =
+      (old mid new : List ℕ) (words number : ℕ) → size ≤ 12 → words ≡ 2 ^ size → number < words
+      → ((n : ℕ) → is_marked new n ≡ (nat_eq n (key_mark (words + number) whole) || is_marked mid n))
+      → Gains old mid (OfSize number) → Gains old new (OfSize (number + 1))
+  of_size_next old mid new words number few power small set e =
       let n = numbered size number (omega (arith, power)) in
       let many = n.many in
       let writes = n.writes in
       let word : IsWord n.word = record { bits = n.bits; short = omega arith } in
       let sizes : 2 ^ length n.word ≡ words = ap (λ m. 2 ^ m) n.many ∙ sym power in
-      extends_then old mid new (OfSize number) (λ key mark. (key ≡ n.word) × (mark ≡ whole)) (OfSize (number + 1)) e
-      (extends_key mid new n.word whole word same (adds n.word word (omega arith)))
+      let place : words + number ≡ place_of n.word = omega arith in
+      gains_then old mid new (OfSize number) (λ key mark. (key ≡ n.word) × (mark ≡ whole)) (OfSize (number + 1)) e
+      (gains_key mid new n.word whole word (λ m. set m ∙ ap (λ p. nat_eq m (key_mark p whole) || is_marked mid m) place))
       (record {
         first = λ key mark word_k h. let b = h.1 in (h.0, omega arith, h.2);
         second = λ key mark word_k h.
@@ -399,10 +439,10 @@ module _ (size : ℕ) (whole : Bool) where
       })
 
   pub of_size_all :
-      (old new : List ℕ) (words : ℕ) → words ≡ 2 ^ size → Extends old new (OfSize words)
-      → Extends old new (λ word mark. (length word ≡ size) × (mark ≡ whole))
+      (old new : List ℕ) (words : ℕ) → words ≡ 2 ^ size → Gains old new (OfSize words)
+      → Gains old new (λ word mark. (length word ≡ size) × (mark ≡ whole))
   of_size_all old new words power e =
-      extends_same old new (OfSize words) (λ word mark. (length word ≡ size) × (mark ≡ whole)) e
+      gains_same old new (OfSize words) (λ word mark. (length word ≡ size) × (mark ≡ whole)) e
       (λ word mark is h. (h.0, h.2))
       (λ word mark is h.
       let small : number_of word < 2 ^ length word = number_of-lt word is.bits in

@@ -1,6 +1,6 @@
 use Rattle.std.proofs.Common.{◌≡◌, ℕ, ◌+◌, ◌-◌, ◌*◌, ◌^◌, ◌<◌, ◌≤◌, false, List, ap, ◌∙◌, subst, arith}
 use Rattle.csn_look.specs.KeyMarks.{is_marked}
-use Rattle.csn_look.specs.KeySteps.{Extends, IsAfter}
+use Rattle.csn_look.specs.KeySteps.{Gains, IsAfter}
 use Rattle.csn_look.proofs.Tables.Products.{room_after, after_none, after_skip, after_next}
 use Rattle.csn_look.proofs.key_products.add_after_wholes.Goals as goal
 
@@ -64,5 +64,5 @@ returns c = λ table.
     let high = c.loop-at.invariant.high in
     let value = c.words_of-words.ensures.value in
     let all : c.loop-at.at - c.words_of-words.result ≡ 2 ^ c.args.size = omega (arith, c.loop-at-test.false) in
-    let P : ℕ → Type 0 = λ limit. Extends c.args.marks.now c.loop-at.marks (IsAfter c.args.first.now c.args.rest.now c.args.size limit) in
+    let P : ℕ → Type 0 = λ limit. Gains c.args.marks.now c.loop-at.marks (IsAfter c.args.first.now c.args.rest.now c.args.size limit) in
     subst P all (c.loop-at.invariant.added table)

@@ -1,5 +1,5 @@
 use Rattle.std.proofs.Common.{◌≡◌, ℕ, ◌+◌, subst, arith}
-use Rattle.csn_look.specs.KeySteps.{Extends, IsShortBehind}
+use Rattle.csn_look.specs.KeySteps.{Gains, IsShortBehind}
 use Rattle.csn_look.proofs.Tables.Products.{room_for, short_none, short_next, short_all}
 use Rattle.csn_look.proofs.key_products.add_behind.Goals as goal
 
@@ -20,7 +20,7 @@ add_marked-requires-clause-room c = room_for c.args.front c.args.room c.args.roo
 
 pub returns : goal.returns
 returns c = λ first is here room table.
-    let P : ℕ → Type 0 = λ size. Extends c.args.marks.now c.loop-size.marks (IsShortBehind c.args.rest.now first size) in
+    let P : ℕ → Type 0 = λ size. Gains c.args.marks.now c.loop-size.marks (IsShortBehind c.args.rest.now first size) in
     let all : c.loop-size.size ≡ c.args.room + 1 = omega arith in
     short_all c.args.rest.now first c.args.room c.words_of-2.result c.args.marks.now c.loop-size.marks c.add_marked.new.marks is room c.words_of-2.ensures.value table
     (subst P all (c.loop-size.invariant first is here room))
