@@ -16,16 +16,6 @@ use Rattle.csn_judge.proofs.Paying.{weighs}
 use Rattle.csn_desc.proofs.Splits.{rest_empty}
 use Rattle.csn_judge.proofs.Turning.{stays_as}
 
--- a turn that waits is paid for but for one step, and where nothing is open it takes none
-last_step : (nodes : ℕ) (frames : List Frame) (pace : Pace) (bits steps steps_after : ℕ)
-    → steps_after ≤ steps + 2 → (frames ≡ [] → steps_after ≡ steps) → steps_after ≤ 1 + (steps + credit_of nodes frames pace bits)
-last_step nodes [] pace bits steps steps_after few idle = omega (arith, idle refl)
-last_step nodes (frame ∷ frames) pace bits steps steps_after few idle =
-    omega (arith, few, weighs frame, heavier (weight_of frame) (weights_of frames) (4 * (nodes - pace.next)) (if pace.again then 0 else 4 * nodes) (6 * nodes * bits))
-  where
-    heavier : (top frames next again bits : ℕ) → top ≤ top + frames + next + again + bits
-    heavier top frames next again bits = omega arith
-
 module _ (d : DescV) {S : Type 0} (takes : S → Move → Node → S → Type 0) where
   -- the turns so far, from the first state on: what they have come to, and that they are paid for
   pub record Going (first now : StateV) (s t : S) (steps steps_now : ℕ) : Type 0 where
@@ -73,11 +63,10 @@ module _ (d : DescV) {S : Type 0} (takes : S → Move → Node → S → Type 0)
 
   pub waits_pays : {first now : StateV} {s t : S} {steps steps_now : ℕ} {here : DescV} (next : StateV) (steps_next : ℕ) → here ≡ d → Going first now s t steps steps_now
       → Pays (credit_of (length here.nodes) now.frames now.pace (length now.coming.bits)) (credit_of (length here.nodes) next.frames next.pace (length next.coming.bits)) steps_now steps_next Waits
-      → (now.frames ≡ [] → steps_next ≡ steps_now)
       → PaysAll (credit_of (length d.nodes) first.frames first.pace (length first.coming.bits)) (credit_of (length d.nodes) next.frames next.pace (length next.coming.bits)) steps steps_next still_going
-  waits_pays {now = now} {steps_now = steps_now} next steps_next same going pays idle =
+  waits_pays {now = now} {steps_now = steps_now} next steps_next same going pays =
       let less = subst (λ (e : DescV). Pays (credit_of (length e.nodes) now.frames now.pace (length now.coming.bits)) (credit_of (length e.nodes) next.frames next.pace (length next.coming.bits)) steps_now steps_next Waits) same pays in
-      (omega (arith, going.paid, less.0, less.1), omega (arith, going.paid, last_step (length d.nodes) now.frames now.pace (length now.coming.bits) steps_now steps_next less.0 idle))
+      (omega (arith, going.paid, less.0), omega (arith, going.paid, less.2))
 
   pub refused_pays : {first now : StateV} {s t : S} {steps steps_now : ℕ} {here : DescV} (next : StateV) (steps_next place : ℕ) → here ≡ d → Going first now s t steps steps_now
       → Pays (credit_of (length here.nodes) now.frames now.pace (length now.coming.bits)) (credit_of (length here.nodes) next.frames next.pace (length next.coming.bits)) steps_now steps_next (Refused place)

@@ -91,7 +91,7 @@ weighs (frame.Open i) = omega arith
 weighs (frame.Choice i) = omega arith
 weighs (frame.Times i part left) = omega arith
 weighs (frame.Many i part) = omega arith
-weighs (frame.Window i end outer) = omega arith
+weighs (frame.Window i start bits outer) = omega arith
 weighs (frame.Named i) = omega arith
 
 -- a turn of a repetition begins by a rising number, or it is the first since the last bit that goes back

@@ -8,6 +8,7 @@ use Rattle.csn_desc.specs.Nodes.{DescV}
 use Rattle.csn_judge.specs.declared.frame.Frame.{Frame}
 use Rattle.csn_judge.specs.declared.frame.Frame.TheVariants as frame
 use Rattle.csn_judge.specs.declared.leaf.Leaf.{Leaf}
+use Rattle.csn_judge.specs.declared.leaf.Leaf.TheVariants as leaf
 use Rattle.csn_judge.specs.declared.leaf.Read.TheVariants as read
 use Rattle.csn_judge.specs.declared.values.Value.{Value}
 use Rattle.csn_judge.specs.declared.pace.Pace.{Pace}
@@ -74,12 +75,12 @@ same_pays {old_bits} nodes new_bits {frames_after} {next} steps spent frames oth
 -- one step was paid for that is taken before, or besides
 pub paid_before : (before after steps steps_after : ℕ) (turn : Turn) → Pays before after (steps + 1) (steps_after + 1) turn → Pays before after steps steps_after turn
 paid_before before after steps steps_after Moved paid = (omega (arith, paid.0), paid.1)
-paid_before before after steps steps_after Waits paid = (omega (arith, paid.0), paid.1)
+paid_before before after steps steps_after Waits paid = (omega (arith, paid.0), paid.1, omega (arith, paid.2))
 paid_before before after steps steps_after (Refused place) paid = omega (arith, paid)
 
 pub paid_with : (before after steps : ℕ) (turn : Turn) → Pays before after 0 1 turn → Pays before after steps (steps + 1) turn
 paid_with before after steps Moved paid = (omega (arith, paid.0), paid.1)
-paid_with before after steps Waits paid = (omega (arith, paid.0), paid.1)
+paid_with before after steps Waits paid = (omega (arith, paid.0), paid.1, omega (arith, paid.2))
 paid_with before after steps (Refused place) paid = omega (arith, paid)
 
 -- ---- how many bits a leaf takes
@@ -147,8 +148,26 @@ counted_credit {nodes} {part} i behind frames pace bits light within rises =
     by : (a b c w : ℕ) → a + (1 + 3) ≤ c + w → a ≡ 3 + b → w ≡ 1 → b + 1 ≤ c
     by a b c w less same light = omega (arith, less, same, light)
 
-pub entered_pays : (credit lighter after steps middle steps_after : ℕ) (turn : Turn) → lighter + 1 ≤ credit → middle ≡ steps + 1 → Pays lighter after middle (steps_after + 1) turn → (turn ≡ Waits → steps_after ≡ middle)
-    → Pays credit after steps (steps_after + 1) turn
-entered_pays credit lighter after steps middle steps_after Moved less one paid still = (omega (arith, less, one, paid.0), omega (arith, less, paid.1))
-entered_pays credit lighter after steps middle steps_after Waits less one paid still = (omega (arith, one, still refl), omega (arith, less, paid.1))
-entered_pays credit lighter after steps middle steps_after (Refused place) less one paid still = omega (arith, less, one, paid)
+-- a field is entered with its label, which is lighter too
+pub labelled_credit : {nodes part : ℕ} (i m : ℕ) (frames : List Frame) (pace : Pace) (bits : ℕ) → part < nodes → pace.next ≤ part
+    → credit_of nodes (frame.Leaf part (leaf.Field m) ∷ frame.Named i ∷ frames) (begun_by part pace) bits + 1 ≤ credit_of nodes (frame.Begin i ∷ frames) pace bits
+labelled_credit {nodes} {part} i m frames pace bits within rises =
+    let less = begun_credit (frame.Begin i) (frame.Named i) frames pace bits within (inl rises) in
+    let same = lighter (weights_of (frame.Named i ∷ frames)) (4 * (nodes - (begun_by part pace).next)) (if (begun_by part pace).again then 0 else 4 * nodes) (6 * nodes * bits) in
+    by (credit_of nodes (frame.Begin part ∷ frame.Named i ∷ frames) (begun_by part pace) bits) (credit_of nodes (frame.Leaf part (leaf.Field m) ∷ frame.Named i ∷ frames) (begun_by part pace) bits) (credit_of nodes (frame.Begin i ∷ frames) pace bits) less same
+  where
+    lighter : (w next again bits : ℕ) → 3 + w + next + again + bits ≡ 2 + (1 + w + next + again + bits)
+    lighter w next again bits = omega arith
+
+    by : (a b c : ℕ) → a + (1 + 3) ≤ c + 1 → a ≡ 2 + b → b + 1 ≤ c
+    by a b c less same = omega (arith, less, same)
+
+-- one turn after another is paid for
+pub pays_then : (before middle after steps steps_middle steps_after : ℕ) (turn : Turn) → Pays before middle steps steps_middle Moved → Pays middle after steps_middle steps_after turn → Pays before after steps steps_after turn
+pays_then before middle after steps steps_middle steps_after Moved first second = (omega (arith, first.0, second.0), omega (arith, first.1, second.1))
+pays_then before middle after steps steps_middle steps_after Waits first second = (omega (arith, first.0, second.0), omega (arith, first.1, second.1), omega (arith, first.0, second.2))
+pays_then before middle after steps steps_middle steps_after (Refused place) first second = omega (arith, first.0, second)
+
+-- and a turn behind a step that has made the stack lighter
+pub entered_pays : (credit lighter after steps middle steps_after : ℕ) (turn : Turn) → lighter + 1 ≤ credit → middle ≡ steps + 1 → Pays lighter after middle steps_after turn → Pays credit after steps steps_after turn
+entered_pays credit lighter after steps middle steps_after turn less one paid = pays_then credit lighter after steps middle steps_after turn (omega (arith, less, one), omega (arith, less)) paid

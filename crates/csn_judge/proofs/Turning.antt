@@ -60,7 +60,7 @@ module _ (d : DescV) where
   round_length (round_none first) = refl
   round_length (round_choice is round) = ap suc (round_length round)
   round_length (round_named is round) = ap suc (round_length round)
-  round_length (round_window is round) = ap suc (round_length round)
+  round_length (round_window ends is round) = ap suc (round_length round)
   round_length (round_seq parts is round) = ap suc (round_length round)
   round_length (round_trunc parts is round) = ap suc (round_length round)
   round_length (round_times is round) = ap suc (round_length round)
@@ -80,7 +80,7 @@ module _ (d : DescV) where
   frames_room (shows_free is_of kept round) is = omega (arith, room is, round_length round)
   frames_room (shows_taken i is_of kept round) is = omega (arith, room is, round_length round)
   frames_room (shows_labelled i is_of kept round) is = omega (arith, room is, round_length round)
-  frames_room (shows_window i is_of kept round) is = omega (arith, room is, round_length round)
+  frames_room (shows_window i ends is_of kept round) is = omega (arith, room is, round_length round)
 
   -- behind a node the frames round it show what is left of theirs
   pub shown_behind : {frames : List Frame} {outer : List Left} {k : ℕ} {values : List Value} (done : List ℕ)
@@ -88,7 +88,7 @@ module _ (d : DescV) where
   shown_behind done (round_none first) kept = shows_none kept
   shown_behind done (round_choice is round) kept = shows_taken _ is kept round
   shown_behind done (round_named is round) kept = shows_labelled _ is kept round
-  shown_behind done (round_window is round) kept = shows_window _ is kept round
+  shown_behind done (round_window ends is round) kept = shows_window _ ends is kept round
   shown_behind done (round_seq parts is round) kept = shows_parts parts is kept round
   shown_behind done (round_trunc parts is round) kept = shows_lead parts is kept round
   shown_behind done (round_times is round) kept = shows_turns is kept round
@@ -101,7 +101,7 @@ module _ (d : DescV) where
   kept_plain done (round_none first) plain = refl
   kept_plain done (round_choice is round) plain = refl
   kept_plain done (round_named is round) plain = refl
-  kept_plain done (round_window is round) plain = refl
+  kept_plain done (round_window ends is round) plain = refl
   kept_plain done (round_seq {from = from} {v = v} parts is round) plain = plain (drop from done) v
   kept_plain done (round_trunc {from = from} {v = v} parts is round) plain = plain (drop from done) v
   kept_plain done (round_times is round) plain = refl
@@ -211,17 +211,17 @@ module _ (d : DescV) where
 
   -- ---- a window behind its part
 
-  pub record WindowStands (k end limit : ℕ) (frames : List Frame) (values : List Value) (stack : List Left) : Type 0 where
+  pub record WindowStands (k start bits limit : ℕ) (frames : List Frame) (values : List Value) (stack : List Left) : Type 0 where
     pub outer : List Left
-    pub is : stack ≡ window_left end ∷ outer
+    pub is : stack ≡ window_left (start + bits) ∷ outer
     pub kept : values ≡ kept_of d (seen_in outer)
     pub i : ℕ
     pub cuts : Cuts d k i limit outer
     pub round : Round d frames outer k
 
-  pub window_stands : {k end limit : ℕ} {frames : List Frame} {values : List Value} {stack : List Left} {done : List ℕ}
-      → Shows d (frame.Window k end limit ∷ frames) values stack done → WindowStands k end limit frames values stack
-  window_stands (shows_window i is kept round) = record { outer = _; is = refl; kept = kept; i = i; cuts = is; round = round }
+  pub window_stands : {k start bits limit : ℕ} {frames : List Frame} {values : List Value} {stack : List Left} {done : List ℕ}
+      → Shows d (frame.Window k start bits limit ∷ frames) values stack done → WindowStands k start bits limit frames values stack
+  window_stands (shows_window {outer = outer} i ends is kept round) = record { outer = outer; is = ap (λ (e : ℕ). window_left e ∷ outer) ends; kept = kept; i = i; cuts = is; round = round }
 
   -- where it has its bits
   pub window_done : {next : ℕ} {fresh : Option ℕ} {end : ℕ} {outer : List Left} {done : List ℕ} → Known d → length done ≡ end
@@ -459,15 +459,15 @@ module _ (d : DescV) where
 
     -- a window is left behind its part
     pub ends_window :
-        {k end limit : ℕ} {frames : List Frame} {after : S} {stack : List Left} {done : List ℕ} (later : Coming)
+        {k start count limit : ℕ} {frames : List Frame} {after : S} {stack : List Left} {done : List ℕ} (later : Coming)
         → later.bits ≡ coming.bits → later.ended ≡ coming.ended → later.place ≡ coming.place → later.limit ≡ limit
-        → (node : Node) → coming.place ≡ end → Known d → Stands d (state (frame.Window k end limit ∷ frames)) stack done
+        → (node : Node) → coming.place ≡ start + count → Known d → Stands d (state (frame.Window k start count limit ∷ frames)) stack done
         → slice_get d.nodes k ≡ Some node → takes before Leave node after
-        → GoesOn d takes (state (frame.Window k end limit ∷ frames)) (record { frames = frames; values = values; pace = pace; coming = later }) before after stack done
-    ends_window {k} {end} {limit} {frames} {after} {stack} {done} later bits ended place limited node full known stands at told =
+        → GoesOn d takes (state (frame.Window k start count limit ∷ frames)) (record { frames = frames; values = values; pace = pace; coming = later }) before after stack done
+    ends_window {k} {start} {count} {limit} {frames} {after} {stack} {done} later bits ended place limited node full known stands at told =
         let t = window_stands stands.shows in
-        let P : List Left → Type 0 = λ l. GoesOn d takes (state (frame.Window k end limit ∷ frames)) (record { frames = frames; values = values; pace = pace; coming = later }) before after l done in
-        let here : length done ≡ end = sym stands.place ∙ full in
+        let P : List Left → Type 0 = λ l. GoesOn d takes (state (frame.Window k start count limit ∷ frames)) (record { frames = frames; values = values; pace = pace; coming = later }) before after l done in
+        let here : length done ≡ start + count = sym stands.place ∙ full in
         let owed = subst (λ (l : List Left). AreOwed l done coming.bits) t.is stands.owed in
         subst P (sym t.is)
         (leaves_until later bits ended node known at told refl (place ∙ stands.place)
@@ -475,22 +475,22 @@ module _ (d : DescV) where
         (t.kept ∙ sym (kept_unnamed done t.round (unnamed _ t.cuts.at refl)))
         (limited ∙ t.cuts.limit_is)
         (subst (λ (l : List ℕ). AreOwed t.outer done l) (sym bits) owed)
-        (passes_of coming.ended (window_alike d end t.outer done later.bits here)))
+        (passes_of coming.ended (window_alike d (start + count) t.outer done later.bits here)))
 
     -- or stays as it is
     pub window_stops :
-        (k end limit : ℕ) (frames : List Frame) (turn : Turn) → IsStopped coming turn → Known d → ¬ (coming.place ≡ end)
-        → Turns d takes (state (frame.Window k end limit ∷ frames)) (state (frame.Window k end limit ∷ frames)) before before turn
-    window_stops k end limit frames turn stopped known not =
-        stops (frame.Window k end limit ∷ frames) turn stopped known
+        (k start count limit : ℕ) (frames : List Frame) (turn : Turn) → IsStopped coming turn → Known d → ¬ (coming.place ≡ start + count)
+        → Turns d takes (state (frame.Window k start count limit ∷ frames)) (state (frame.Window k start count limit ∷ frames)) before before turn
+    window_stops k start count limit frames turn stopped known not =
+        stops (frame.Window k start count limit ∷ frames) turn stopped known
         (λ stack done stands bit rest is g.
         let t = window_stands stands.shows in
         let P : List Left → Type 0 = λ l. Goes d l done (bit ∷ []) in
-        window_stuck d end bit [] (λ here. not (stands.place ∙ here)) (subst P t.is g))
+        window_stuck d (start + count) bit [] (λ here. not (stands.place ∙ here)) (subst P t.is g))
         (λ stack done stands ended. inr (λ rest h.
         let t = window_stands stands.shows in
         let P : List Left → Type 0 = λ l. Rest d l done [] rest in
         window_unended (λ here. not (stands.place ∙ here)) (subst P t.is h)))
       where
-        window_unended : {outer : List Left} {done b : List ℕ} {rest : List Move} → ¬ (length done ≡ end) → ¬ Rest d (window_left end ∷ outer) done b rest
+        window_unended : {end : ℕ} {outer : List Left} {done b : List ℕ} {rest : List Move} → ¬ (length done ≡ end) → ¬ Rest d (window_left end ∷ outer) done b rest
         window_unended not (rest_next b1 b2 first others cut made (completes_window none here leave) o) = not here

@@ -239,17 +239,16 @@ module _ (d : DescV) where
       pub window : (unit n part bits : ℕ) (count : Count) (later : Coming) → slice_get d.nodes i ≡ Some (Window unit count part) → takes before (Enter i) (Window unit count part) after
           → count_of (at_begin stands).stands.v count ≡ Some n → bits ≡ unit * n
           → later.bits ≡ coming.bits → later.ended ≡ coming.ended → later.place ≡ coming.place → later.limit ≡ min coming.limit (coming.place + bits)
-          → GoesOn d takes (state d takes before values pace coming (frame.Begin i ∷ frames)) (record { frames = frame.Begin part ∷ frame.Window i (coming.place + bits) coming.limit ∷ frames; values = values; pace = begun_by part pace; coming = later }) before after stack done
+          → GoesOn d takes (state d takes before values pace coming (frame.Begin i ∷ frames)) (record { frames = frame.Begin part ∷ frame.Window i coming.place bits coming.limit ∷ frames; values = values; pace = begun_by part pace; coming = later }) before after stack done
       window unit n part bits count later here told counts size same_bits same_ended same_place limit =
           let a = at_begin stands in
-          let P : List Left → Type 0 = λ l. GoesOn d takes (state d takes before values pace coming (frame.Begin i ∷ frames)) (record { frames = frame.Begin part ∷ frame.Window i (coming.place + bits) coming.limit ∷ frames; values = values; pace = begun_by part pace; coming = later }) before after l done in
+          let P : List Left → Type 0 = λ l. GoesOn d takes (state d takes before values pace coming (frame.Begin i ∷ frames)) (record { frames = frame.Begin part ∷ frame.Window i coming.place bits coming.limit ∷ frames; values = values; pace = begun_by part pace; coming = later }) before after l done in
           let end : coming.place + bits ≡ length done + unit * n = ap (λ o. o + bits) a.place ∙ ap (λ b. length done + b) size in
           let cuts : Cuts d i part coming.limit a.stands.outer = record { unit = unit; count = count; at = here; limit_is = a.limit } in
           let is_first = first_next d 12 known.description known.certified here refl in
-          let R : ℕ → Type 0 = λ e. Round d (frame.Window i (coming.place + bits) coming.limit ∷ frames) (window_left e ∷ a.stands.outer) part in
           subst P (sym a.stands.is)
           (still_until d takes before values pace coming (begun_by part pace) later same_bits same_ended (same_place ∙ a.place)
-          (shows_begin a.stands.seen a.stands.kept (subst R end (round_window cuts a.stands.round)))
+          (shows_begin a.stands.seen a.stands.kept (round_window (sym end) cuts a.stands.round))
           (risen d pace (omega (arith, a.just, is_first)) (of_begun d (window_begun d 12 known.description known.certified here counts a.begun)))
           (limit ∙ ap (λ l. min l (coming.place + bits)) a.limit ∙ ap (λ e. min (limit_in a.stands.outer) e) end)
           (subst (λ (l : List ℕ). AreOwed a.stands.outer done l) (sym same_bits) a.owed)

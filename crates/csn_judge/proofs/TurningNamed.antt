@@ -4,14 +4,16 @@ use Rattle.std.proofs.lemmas.List.{drop_all}
 use Rattle.csn_bits.specs.Numbers.{number_of}
 use Rattle.csn_desc.specs.declared.moves.Move.{Move}
 use Rattle.csn_desc.specs.declared.moves.Move.TheVariants.{Enter}
+use Rattle.csn_desc.specs.declared.node.Count.{Count}
 use Rattle.csn_desc.specs.declared.node.Count.TheVariants.{Fixed}
 use Rattle.csn_desc.specs.declared.node.Node.{Node}
 use Rattle.csn_desc.specs.declared.node.Node.TheVariants.{Field, Named}
 use Rattle.csn_desc.specs.Nodes.{DescV}
-use Rattle.csn_desc.specs.Values.{Values}
+use Rattle.csn_desc.specs.Values.{Values, count_of}
 use Rattle.csn_desc.specs.Formed.{is_counted}
 use Rattle.csn_judge.specs.declared.frame.Frame.{Frame}
 use Rattle.csn_judge.specs.declared.frame.Frame.TheVariants as frame
+use Rattle.csn_judge.specs.declared.leaf.Leaf.TheVariants as leaf
 use Rattle.csn_judge.specs.declared.values.Value.{Value}
 use Rattle.csn_judge.specs.declared.pace.Pace.{Pace}
 use Rattle.csn_judge.specs.Known.{Known}
@@ -30,7 +32,8 @@ use Rattle.csn_judge.proofs.Stacks.{begun_of, of_begun, just_begun, first_next, 
 use Rattle.csn_judge.proofs.Turning.{moving, risen, still, begun_within, room, round_length}
 use Rattle.csn_judge.proofs.TurningCounted.{counted_width}
 use Rattle.csn_judge.proofs.CountedParents.{counted_began}
-use Rattle.csn_judge.proofs.TurningEntry.{begin_stands}
+use Rattle.csn_judge.proofs.TurningEntry.{begin_stands, at_begin, field}
+use Rattle.csn_judge.proofs.TurningOn.{on_then}
 
 module _ (d : DescV) where
   -- the part of a label begins by the next number
@@ -82,7 +85,17 @@ module _ (d : DescV) where
         (passes_of coming.ended (split d t.outer coming.bits (enter_label d (moving d known) i part label t.v done at)))
         (tells_enter node after look took (tells_none refl refl)))
 
-    -- the field that it stands before is entered with it
+    -- a field that it stands before is entered with it
+    pub field_goes_on : {part unit n m : ℕ} {count : Count} {middle after : S} {stack : List Left} {done : List ℕ} (label : List ℕ) (node : Node) → Known d → is_counted d.nodes i ≡ false → slice_get d.nodes i ≡ Some (Named label part)
+        → slice_get d.nodes i ≡ Some node → takes first (Enter i) node middle → slice_get d.nodes part ≡ Some (Field unit count) → takes middle (Enter part) (Field unit count) after
+        → ((v : Values) → values ≡ kept_of d v → count_of v count ≡ Some n) → m ≡ unit * n → Stands d begin_state stack done
+        → GoesOn d takes begin_state (record { frames = frame.Leaf part (leaf.Field m) ∷ frame.Named i ∷ frames; values = values; pace = begun_by part pace; coming = coming }) first after stack done
+    field_goes_on {part} {unit} {n} {m} {count} {middle} label node known alone at look took field_at told counts size stands =
+        let on = label_goes_on label node known alone at look took stands in
+        let b = at_begin d takes middle values (begun_by part pace) coming on.stands in
+        on_then d takes on (field d takes middle values (begun_by part pace) coming known on.stands unit n m count field_at told (counts b.stands.v b.stands.kept) size)
+
+    -- the field on which counts stand is entered with it
     pub counted_goes_on : {part unit width : ℕ} {middle after : S} {stack : List Left} {done : List ℕ} (label : List ℕ) (node field : Node) → Known d → is_counted d.nodes i ≡ true → slice_get d.nodes i ≡ Some (Named label part)
         → slice_get d.nodes part ≡ Some (Field unit (Fixed width)) → slice_get d.nodes i ≡ Some node → takes first (Enter i) node middle → slice_get d.nodes part ≡ Some field → takes middle (Enter part) field after
         → Stands d begin_state stack done

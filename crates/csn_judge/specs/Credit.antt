@@ -30,10 +30,10 @@ credit_of nodes frames pace bits =
     weights_of frames + 4 * (nodes - pace.next) + (if pace.again then 0 else 4 * nodes) + 6 * nodes * bits
 
 -- a turn takes no more steps than it pays for: where the machine has moved it has less credit than before; where it
--- waits it takes two steps at most; and where it refuses, no more than the credit
+-- waits it takes two steps more at most, and at the end one; and where it refuses, no more than the credit
 abbrev pub Pays : (before after : ℕ) → (steps steps_after : ℕ) → Turn → Type 0
 Pays before after steps steps_after Moved = (steps_after + after ≤ steps + before) × (after < before)
-Pays before after steps steps_after Waits = (steps_after ≤ steps + 2) × (after ≤ before)
+Pays before after steps steps_after Waits = (steps_after + after ≤ 2 + (steps + before)) × (after ≤ before) × (steps_after ≤ 1 + (steps + before))
 Pays before after steps steps_after (Refused place) = steps_after ≤ steps + before
 
 -- the credit of a state

@@ -116,9 +116,9 @@ module _ (d : DescV) where
         → LabelsAlone k i → Round frames outer k
         → Round (frame.Named k ∷ frames) (none_left ∷ outer) i
     round_window :
-        {frames : List Frame} {outer : List Left} {k i end limit : ℕ}
-        → Cuts k i limit outer → Round frames outer k
-        → Round (frame.Window k end limit ∷ frames) (window_left end ∷ outer) i
+        {frames : List Frame} {outer : List Left} {k i start bits end limit : ℕ}
+        → end ≡ start + bits → Cuts k i limit outer → Round frames outer k
+        → Round (frame.Window k start bits limit ∷ frames) (window_left end ∷ outer) i
     round_seq :
         {frames : List Frame} {outer : List Left} {k i next count from : ℕ} {after : List ℕ} {v : Values}
         (parts : List ℕ) → HasNext (Seq parts) parts k next count i after v outer → Round frames outer k
@@ -211,6 +211,6 @@ module _ (d : DescV) where
         (i : ℕ) → LabelsAlone k i → values ≡ kept_of (seen_in outer) → Round frames outer k
         → Shows (frame.Named k ∷ frames) values (none_left ∷ outer) done
     shows_window :
-        {frames : List Frame} {outer : List Left} {k end limit : ℕ} {values : List Value} {done : List ℕ}
-        (i : ℕ) → Cuts k i limit outer → values ≡ kept_of (seen_in outer) → Round frames outer k
-        → Shows (frame.Window k end limit ∷ frames) values (window_left end ∷ outer) done
+        {frames : List Frame} {outer : List Left} {k start bits end limit : ℕ} {values : List Value} {done : List ℕ}
+        (i : ℕ) → end ≡ start + bits → Cuts k i limit outer → values ≡ kept_of (seen_in outer) → Round frames outer k
+        → Shows (frame.Window k start bits limit ∷ frames) values (window_left end ∷ outer) done

@@ -34,7 +34,7 @@ around_of (frame.Open i ∷ frames) = i ∷ around_of frames
 around_of (frame.Choice i ∷ frames) = i ∷ around_of frames
 around_of (frame.Times i part left ∷ frames) = i ∷ around_of frames
 around_of (frame.Many i part ∷ frames) = i ∷ around_of frames
-around_of (frame.Window i end outer ∷ frames) = i ∷ around_of frames
+around_of (frame.Window i start bits outer ∷ frames) = i ∷ around_of frames
 around_of (frame.Named i ∷ frames) = i ∷ around_of frames
 
 -- nothing takes a bit: there is none, or the next one is refused

@@ -1,8 +1,9 @@
 //! Nodes are entered.
 
-ghost use Rattle.std.specs.Prelude.{◌≡◌, ℕ, ◌+◌, ◌*◌, ◌<◌, ◌≤◌, List, ◌∷◌, length, min, reverse, slice_get, Some};
+ghost use Rattle.std.specs.Prelude.{◌≡◌, ℕ, ◌+◌, ◌*◌, ◌<◌, ◌≤◌, List, ◌∷◌, false, length, min, reverse, slice_get, Some};
 ghost use Rattle.csn_desc.specs.declared.node.Node.TheVariants.{Named};
 ghost use Rattle.csn_judge.specs.declared.frame.Frame.TheVariants as frame;
+ghost use Rattle.csn_desc.specs.Formed.{is_counted};
 ghost use Rattle.csn_desc.specs.Values.{Values, count_of};
 ghost use Rattle.csn_judge.specs.Credit.{TurnPays};
 ghost use Rattle.csn_judge.specs.Shown.{KeepsCount, kept_of};
@@ -82,7 +83,7 @@ impl Machine<'_> {
         requires few { part < 65535 }
         requires room { length self.old.frames.items < 63 }
         ensures frames { reverse self.new.frames.items
-            ≡ frame.Begin part ∷ frame.Window i (source.old.place + bits) source.old.limit ∷ reverse self.old.frames.items }
+            ≡ frame.Begin part ∷ frame.Window i source.old.place bits source.old.limit ∷ reverse self.old.frames.items }
         ensures values { self.new.values ≡ self.old.values }
         ensures pace { self.new.pace ≡ begun_by part self.old.pace }
         ensures plan { self.new.plan ≡ self.old.plan }
@@ -91,19 +92,21 @@ impl Machine<'_> {
         ensures limit { source.new.limit ≡ min source.old.limit (source.old.place + bits) }
         ensures ended { source.new.ended ≡ source.old.ended }
     {
-        let end = source.place() as u64 + bits as u64;
+        let start = source.place();
         let outer = source.limit();
+        let end = start as u64 + bits as u64;
         source.set_limit(end.min(outer as u64) as u32);
         let behind = Frame::Window {
             node: i,
-            end,
+            start,
+            bits,
             outer,
         };
         self.begin(part, behind);
     }
 
-    /// A labelled part was entered: the part begins. Where counts stand on it, it is a field of constant width,
-    /// which is entered with it.
+    /// A label was entered. Where counts stand on it, its part is a field of constant width, which is entered with
+    /// it.
     fn enter_named<T: Track, L: Ledger>(
         &mut self,
         i: u16,
@@ -121,8 +124,7 @@ impl Machine<'_> {
         ensures plan { self.new.plan ≡ self.old.plan }
     {
         if !self.plan.counts(i) {
-            self.begin(part, Frame::Named { node: i });
-            return Turn::Moved;
+            return self.enter_plain(i, part, source, track, steps);
         }
         let field = self.plan.node(part, steps);
         let Node::Field { unit, count } = field else {
@@ -141,6 +143,37 @@ impl Machine<'_> {
             number: 0,
         };
         self.read_counted(counted, field, source, track, steps)
+    }
+
+    /// A label that no counts stand on was entered: its part begins. A field is entered with it.
+    fn enter_plain<T: Track, L: Ledger>(
+        &mut self,
+        i: u16,
+        part: u16,
+        source: &mut Source<'_>,
+        track: &mut T,
+        steps: &mut Steps<L>,
+    ) -> Turn
+        requires part { (label : List ℕ) × (slice_get self.old.plan.now.nodes i ≡ Some (Named label part)) }
+        requires plain { is_counted self.old.plan.now.nodes i ≡ false }
+        requires stands { StandsSomewhere self.old.plan.now (state_with (frame.Begin i) self.old source.old) }
+        ensures turns { Entered self.old.plan.now T.takes i (state_with (frame.Begin i) self.old source.old)
+            (state_of self.new source.new) track.old track.new result }
+        ensures pays { TurnPays self.old.plan.now (state_with (frame.Begin i) self.old source.old) (state_of self.new source.new)
+            steps.old (steps.new + 1) result }
+        ensures plan { self.new.plan ≡ self.old.plan }
+    {
+        let field = self.plan.node(part, steps);
+        let Node::Field { unit, count } = field else {
+            self.begin(part, Frame::Named { node: i });
+            return Turn::Moved;
+        };
+        source.none_behind_end();
+        let left = *unit as u32 * self.number_of(count);
+        self.pace.begin(part);
+        self.frames.push(Frame::Named { node: i });
+        track.step(Move::Enter(part), field);
+        self.read(part, Leaf::Field { left }, field, source, track)
     }
 
     /// How many a count is.

@@ -52,7 +52,6 @@ impl Machine<'_> {
             track.old track.new result }
         ensures pays { TurnPays self.old.plan.now (state_of self.old source.old) (state_of self.new source.new)
             steps.old steps.new result }
-        ensures idle { reverse self.old.frames.items ≡ [] → steps.new ≡ steps.old }
         ensures plan { self.new.plan ≡ self.old.plan }
     {
         let Some(frame) = self.frames.pop() else {
@@ -70,9 +69,12 @@ impl Machine<'_> {
             Frame::Choice { node } => self.pass(node, source, track, steps),
             Frame::Times { node, part, left } => self.times(node, part, left, source, track, steps),
             Frame::Many { node, part } => self.many(node, part, source, track, steps),
-            Frame::Window { node, end, outer } => {
-                self.window(node, end, outer, source, track, steps)
-            }
+            Frame::Window {
+                node,
+                start,
+                bits,
+                outer,
+            } => self.window(node, start, bits, outer, source, track, steps),
             Frame::Named { node } => self.pass(node, source, track, steps),
         }
     }

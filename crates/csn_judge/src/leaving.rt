@@ -49,23 +49,24 @@ impl Machine<'_> {
         Turn::Moved
     }
 
-    /// The next part of a sequence begins, or it is left behind its last, and what it has shown of values with it.
+    /// The next part of a sequence is entered, or it is left behind its last, and what it has shown of values with it.
     pub fn seq<T: Track, L: Ledger>(
         &mut self,
         i: u16,
         at: u16,
         values: u8,
-        source: &Source<'_>,
+        source: &mut Source<'_>,
         track: &mut T,
         steps: &mut Steps<L>,
     ) -> Turn
-        requires { StandsSomewhere self.old.plan.now (state_with (frame.Seq i at values) self.old source.now) }
-        ensures turns { Turns self.old.plan.now T.takes (state_with (frame.Seq i at values) self.old source.now)
-            (state_of self.new source.now) track.old track.new result }
-        ensures pays { TurnPays self.old.plan.now (state_with (frame.Seq i at values) self.old source.now) (state_of self.new source.now)
+        requires { StandsSomewhere self.old.plan.now (state_with (frame.Seq i at values) self.old source.old) }
+        ensures turns { Turns self.old.plan.now T.takes (state_with (frame.Seq i at values) self.old source.old)
+            (state_of self.new source.new) track.old track.new result }
+        ensures pays { TurnPays self.old.plan.now (state_with (frame.Seq i at values) self.old source.old) (state_of self.new source.new)
             steps.old steps.new result }
         ensures plan { self.new.plan ≡ self.old.plan }
     {
+        source.none_behind_end();
         let node = self.plan.node(i, steps);
         let Node::Seq(parts) = node else {
             unreachable!();
@@ -80,8 +81,10 @@ impl Machine<'_> {
             at: at + 1,
             values,
         };
-        self.begin(parts.get(at), behind);
-        Turn::Moved
+        let part = parts.get(at);
+        self.pace.begin(part);
+        self.frames.push(behind);
+        self.enter(part, source, track, steps)
     }
 
     /// The part of a repetition begins again, or it is left.
@@ -119,23 +122,26 @@ impl Machine<'_> {
     pub fn window<T: Track, L: Ledger>(
         &mut self,
         i: u16,
-        end: u64,
+        start: u32,
+        bits: u32,
         outer: u32,
         source: &mut Source<'_>,
         track: &mut T,
         steps: &mut Steps<L>,
     ) -> Turn
-        requires { StandsSomewhere self.old.plan.now (state_with (frame.Window i end outer) self.old source.old) }
-        ensures turns { Turns self.old.plan.now T.takes (state_with (frame.Window i end outer) self.old source.old)
+        requires { StandsSomewhere self.old.plan.now (state_with (frame.Window i start bits outer) self.old source.old) }
+        ensures turns { Turns self.old.plan.now T.takes (state_with (frame.Window i start bits outer) self.old source.old)
             (state_of self.new source.new) track.old track.new result }
-        ensures pays { TurnPays self.old.plan.now (state_with (frame.Window i end outer) self.old source.old) (state_of self.new source.new)
+        ensures pays { TurnPays self.old.plan.now (state_with (frame.Window i start bits outer) self.old source.old) (state_of self.new source.new)
             steps.old steps.new result }
         ensures plan { self.new.plan ≡ self.old.plan }
     {
+        let end = start as u64 + bits as u64;
         if source.place() as u64 != end {
             self.frames.push(Frame::Window {
                 node: i,
-                end,
+                start,
+                bits,
                 outer,
             });
             return Turn::stopped(source);

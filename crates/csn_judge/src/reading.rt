@@ -2,7 +2,6 @@
 
 ghost use Rattle.std.specs.Prelude.{◌≡◌, ◌+◌, slice_get, Some};
 ghost use Rattle.csn_judge.specs.declared.frame.Frame.TheVariants as frame;
-ghost use Rattle.csn_judge.specs.declared.turn.Turn.TheVariants.{Waits};
 ghost use Rattle.csn_judge.specs.Credit.{TurnPays};
 ghost use Rattle.csn_judge.specs.Turns.{state_of, state_with, StandsSomewhere, Turns};
 
@@ -112,7 +111,6 @@ impl Machine<'_> {
         ensures plan { self.new.plan ≡ self.old.plan }
         ensures pays { TurnPays self.old.plan.now (state_with (frame.Counted counted) self.old source.old) (state_of self.new source.new)
             steps.old (steps.new + 1) result }
-        ensures waits { result ≡ Waits → steps.new ≡ steps.old }
     {
         let ready = source.ready(counted.left);
         if ready == 0 {

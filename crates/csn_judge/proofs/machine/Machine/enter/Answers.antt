@@ -226,6 +226,6 @@ returns-in-Window-clause-pays g c =
     (c.number_of-in-Window.ensures.count (at_begin d g.T.Track.takes c.args.track.now c.args.self.now.values.items c.args.self.now.pace c.args.source.now c.requires.stands).stands.v (at_begin d g.T.Track.takes c.args.track.now c.args.self.now.values.items c.args.self.now.pace c.args.source.now c.requires.stands).stands.kept) refl
     c.enter_window.ensures.bits c.enter_window.ensures.ended c.enter_window.ensures.place c.enter_window.ensures.limit
     in
-    begun_pays_on c.args.steps.now 1 (frame.Begin c.args.i) (frame.Window c.args.i (c.args.source.now.place + bits) c.args.source.now.limit)
+    begun_pays_on c.args.steps.now 1 (frame.Begin c.args.i) (frame.Window c.args.i c.args.source.now.place bits c.args.source.now.limit)
     (ap (λ (l : List ℕ). length l) c.enter_window.ensures.bits) c.enter_window.ensures.frames c.enter_window.ensures.pace c.node-node.ensures.step (begin_within on.stands.shows on.stands.stack_is)
     (inl (first_rises d g.T.Track.takes c.args.track.now c.args.self.now.values.items c.args.self.now.pace c.args.source.now c.requires.known c.requires.stands c.in-Window.part (c.in-Window.part ∷ []) (Window c.in-Window.unit c.in-Window.count c.in-Window.part) (c.node-node.ensures.node ∙ ap (λ n. Some n) c.in-Window.is) refl refl)) (omega arith) (omega arith)

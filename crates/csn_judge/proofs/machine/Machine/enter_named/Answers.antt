@@ -1,5 +1,5 @@
 use Rattle.std.specs.Prelude.{⊤}
-use Rattle.std.proofs.Common.{inl, ◌≡◌, ◌*◌, ◌∷◌, ◌++◌, length, reverse, Some, slice_get, refl, sym, ap, ◌∙◌, subst, arith}
+use Rattle.std.proofs.Common.{◌+◌, inl, ◌≡◌, ◌*◌, ◌∷◌, ◌++◌, length, reverse, Some, slice_get, refl, sym, ap, ◌∙◌, subst, arith}
 use Rattle.std.proofs.lemmas.List.{length-reverse}
 use Rattle.std.proofs.lemmas.Option.{slice_get_within}
 use Rattle.csn_desc.specs.declared.node.Node.TheVariants.{Field, Named}
@@ -16,30 +16,6 @@ use Rattle.csn_judge.proofs.TurningCounted.{field_width, counted_width}
 use Rattle.csn_judge.proofs.TurningNamed.{label_goes_on, counted_goes_on, label_begins}
 use Rattle.csn_judge.proofs.Paying.{begun_pays}
 use Rattle.csn_judge.proofs.machine.Machine.enter_named.Goals as goal
-
-pub begin-requires-clause-few : goal.begin-requires-clause-few
-begin-requires-clause-few g c =
-    let t = label_begins c.args.self.now.plan.now c.args.self.now.pace c.requires.stands.known c.requires.part.1 c.requires.stands.stands.shows c.requires.stands.stands.stack_is in
-    omega (arith, t.within, c.requires.stands.known.description.few)
-
-pub begin-requires-clause-room : goal.begin-requires-clause-room
-begin-requires-clause-room g c =
-    let t = label_begins c.args.self.now.plan.now c.args.self.now.pace c.requires.stands.known c.requires.part.1 c.requires.stands.stands.shows c.requires.stands.stands.stack_is in
-    omega (arith, t.room, length-reverse c.args.self.now.frames.items)
-
-pub returns-then-not-counts-clause-turns : goal.returns-then-not-counts-clause-turns
-returns-then-not-counts-clause-turns g c =
-    let d : DescV = c.args.self.now.plan.now in
-    λ first node look took stack done stands.
-    GoesOn-along d g.T.Track.takes first c.args.self.now.values.items c.args.self.now.pace c.args.source.now c.begin.ensures.frames (ap (λ v. v.items) c.begin.ensures.values) c.begin.ensures.pace
-    (label_goes_on d g.T.Track.takes first c.args.self.now.values.items c.args.self.now.pace c.args.source.now c.args.i (reverse c.args.self.now.frames.items) c.requires.part.0 node c.requires.stands.known
-    (sym c.counts.ensures ∙ c.if-not-counts.true) c.requires.part.1 look took stands)
-
-pub returns-then-not-counts-clause-pays : goal.returns-then-not-counts-clause-pays
-returns-then-not-counts-clause-pays g c =
-    let t = label_begins c.args.self.now.plan.now c.args.self.now.pace c.requires.stands.known c.requires.part.1 c.requires.stands.stands.shows c.requires.stands.stands.stack_is in
-    begun_pays c.args.steps.now (length c.args.source.now.bits) 1 (frame.Begin c.args.i) (frame.Named c.args.i) c.begin.ensures.frames c.begin.ensures.pace refl
-    t.within (inl t.rises) (omega arith) (omega arith)
 
 pub node-field-requires : goal.node-field-requires
 node-field-requires g c =
@@ -65,8 +41,8 @@ unreachable-requires-in_default-count g c =
     let same : c.in-Field.count ≡ Fixed f.width = cc in
     c.in_default-count.not-Fixed f.width same
 
-pub begin-requires-2 : goal.begin-requires-2
-begin-requires-2 g c =
+pub begin-requires : goal.begin-requires
+begin-requires g c =
     let d : DescV = c.args.self.now.plan.now in
     omega (arith, slice_get_within d.nodes c.args.part c.node-field.result.now c.node-field.ensures.node, c.requires.stands.known.description.few)
 
@@ -80,7 +56,7 @@ pub read_counted-requires-clause-stands : goal.read_counted-requires-clause-stan
 read_counted-requires-clause-stands g c =
     let d : DescV = c.args.self.now.plan.now in
     let look : slice_get d.nodes c.args.part ≡ Some (Field c.in-Field.unit (Fixed c.in-Fixed.width)) = c.node-field.ensures.node ∙ ap (λ n. Some n) (c.in-Field.is ∙ ap (λ k. Field c.in-Field.unit k) c.in-Fixed.is) in
-    let paced : c.begin-2.new.self ≡ begun_by c.args.part c.args.self.now.pace = begun_again d c.args.self.now.pace c.args.part c.begin-2.ensures in
+    let paced : c.begin.new.self ≡ begun_by c.args.part c.args.self.now.pace = begun_again d c.args.self.now.pace c.args.part c.begin.ensures in
     let on = counted_goes_on d {S = ⊤} (λ _ _ _ _. ⊤) tt c.args.self.now.values.items c.args.self.now.pace c.args.source.now c.args.i (reverse c.args.self.now.frames.items) {middle = tt} {after = tt} c.requires.part.0 (Named c.requires.part.0 c.args.part) c.node-field.result.now
     c.requires.stands.known (sym c.counts.ensures ∙ c.if-not-counts.false) c.requires.part.1 look c.requires.part.1 tt c.node-field.ensures.node tt c.requires.stands.stands in
     let P : Pace → Type 0 = λ p. Stands d (record { frames = frame.Counted (record { node = c.args.i; part = c.args.part; left = c.in-Field.unit * c.in-Fixed.width; number = 0 }) ∷ reverse c.args.self.now.frames.items; values = c.args.self.now.values.items; pace = p; coming = c.args.source.now }) on.now (c.requires.stands.done ++ on.taken) in
@@ -90,9 +66,9 @@ pub returns-clause-turns : goal.returns-clause-turns
 returns-clause-turns g c =
     let d : DescV = c.args.self.now.plan.now in
     let look : slice_get d.nodes c.args.part ≡ Some (Field c.in-Field.unit (Fixed c.in-Fixed.width)) = c.node-field.ensures.node ∙ ap (λ n. Some n) (c.in-Field.is ∙ ap (λ k. Field c.in-Field.unit k) c.in-Fixed.is) in
-    let paced : c.begin-2.new.self ≡ begun_by c.args.part c.args.self.now.pace = begun_again d c.args.self.now.pace c.args.part c.begin-2.ensures in
+    let paced : c.begin.new.self ≡ begun_by c.args.part c.args.self.now.pace = begun_again d c.args.self.now.pace c.args.part c.begin.ensures in
     λ first node look_node took.
-    let middle : StateV = record { frames = frame.Counted (record { node = c.args.i; part = c.args.part; left = c.in-Field.unit * c.in-Fixed.width; number = 0 }) ∷ reverse c.args.self.now.frames.items; values = c.args.self.now.values.items; pace = c.begin-2.new.self; coming = c.args.source.now } in
+    let middle : StateV = record { frames = frame.Counted (record { node = c.args.i; part = c.args.part; left = c.in-Field.unit * c.in-Fixed.width; number = 0 }) ∷ reverse c.args.self.now.frames.items; values = c.args.self.now.values.items; pace = c.begin.new.self; coming = c.args.source.now } in
     turns_then d g.T.Track.takes {middle = middle} (state_of c.read_counted.new.self c.read_counted.new.source) c.read_counted.new.track c.read_counted.result c.none_behind_end.ensures
     (λ stack done stands.
     let P : Pace → Type 0 = λ p. GoesOn d g.T.Track.takes (state_with (frame.Begin c.args.i) c.args.self.now c.args.source.now) (record { frames = frame.Counted (record { node = c.args.i; part = c.args.part; left = c.in-Field.unit * c.in-Fixed.width; number = 0 }) ∷ reverse c.args.self.now.frames.items; values = c.args.self.now.values.items; pace = p; coming = c.args.source.now }) first c.step.new.self stack done in
@@ -104,13 +80,16 @@ returns-clause-turns g c =
 pub returns-clause-pays : goal.returns-clause-pays
 returns-clause-pays g c =
     let d : DescV = c.args.self.now.plan.now in
-    let paced : c.begin-2.new.self ≡ begun_by c.args.part c.args.self.now.pace = begun_again d c.args.self.now.pace c.args.part c.begin-2.ensures in
+    let paced : c.begin.new.self ≡ begun_by c.args.part c.args.self.now.pace = begun_again d c.args.self.now.pace c.args.part c.begin.ensures in
     let t = label_begins c.args.self.now.plan.now c.args.self.now.pace c.requires.stands.known c.requires.part.1 c.requires.stands.stands.shows c.requires.stands.stands.stack_is in
     let top = frame.Counted (record { node = c.args.i; part = c.args.part; left = c.in-Field.unit * c.in-Fixed.width; number = 0 }) in
     let frames = reverse c.args.self.now.frames.items in
     let bits = length c.args.source.now.bits in
     let less = counted_credit c.args.i top frames c.args.self.now.pace bits refl (slice_get_within d.nodes c.args.part c.node-field.result.now c.node-field.ensures.node) t.rises in
     let same = ap (λ p. credit_of (length d.nodes) (top ∷ frames) p bits) paced in
-    entered_pays (credit_of (length d.nodes) (frame.Begin c.args.i ∷ frames) c.args.self.now.pace bits) (credit_of (length d.nodes) (top ∷ frames) c.begin-2.new.self bits)
-    (credit_of (length d.nodes) (reverse c.read_counted.new.self.frames.items) c.read_counted.new.self.pace (length c.read_counted.new.source.bits)) c.args.steps.now c.node-field.new.steps c.read_counted.new.steps c.read_counted.result
-    (omega (arith, less, same)) c.node-field.ensures.step c.read_counted.ensures.pays c.read_counted.ensures.waits
+    entered_pays (credit_of (length d.nodes) (frame.Begin c.args.i ∷ frames) c.args.self.now.pace bits) (credit_of (length d.nodes) (top ∷ frames) c.begin.new.self bits)
+    (credit_of (length d.nodes) (reverse c.read_counted.new.self.frames.items) c.read_counted.new.self.pace (length c.read_counted.new.source.bits)) c.args.steps.now c.node-field.new.steps (c.read_counted.new.steps + 1) c.read_counted.result
+    (omega (arith, less, same)) c.node-field.ensures.step c.read_counted.ensures.pays
+
+pub enter_plain-requires-clause-plain : goal.enter_plain-requires-clause-plain
+enter_plain-requires-clause-plain g c = sym c.counts.ensures ∙ c.if-not-counts.true

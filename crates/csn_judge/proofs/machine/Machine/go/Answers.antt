@@ -33,7 +33,7 @@ returns-in-Waits-clause-turns g c =
 pub returns-in-Waits-clause-pays : goal.returns-in-Waits-clause-pays
 returns-in-Waits-clause-pays g c =
     waits_pays c.args.self.now.plan.now g.T.Track.takes (state_of c.turn.new.self c.turn.new.source) c.turn.new.steps (ap (λ p. p.now) c.loop-place.invariant.0) c.loop-place.invariant.1
-    c.in-Waits.ensures.pays c.turn.ensures.idle
+    c.in-Waits.ensures.pays
 
 pub returns-in-Waits-clause-plan : goal.returns-in-Waits-clause-plan
 returns-in-Waits-clause-plan g c = c.turn.ensures.plan ∙ c.loop-place.invariant.0

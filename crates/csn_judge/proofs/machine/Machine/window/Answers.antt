@@ -13,8 +13,8 @@ push-requires g c =
 pub returns-then-place-end-clause-turns : goal.returns-then-place-end-clause-turns
 returns-then-place-end-clause-turns g c =
     stays c.args.self.now.plan.now g.T.Track.takes c.args.track.now c.args.self.now.values.items c.args.self.now.pace c.args.source.now c.stopped.result _ c.args.track.now
-    (ap (λ (l : List Frame). reverse l) c.push.ensures.items ∙ pushed c.args.self.now.frames.items (frame.Window c.args.i c.args.end c.args.outer))
-    (window_stops c.args.self.now.plan.now g.T.Track.takes c.args.track.now c.args.self.now.values.items c.args.self.now.pace c.args.source.now c.args.i c.args.end c.args.outer (reverse c.args.self.now.frames.items) c.stopped.result c.stopped.ensures c.requires.known (λ same. c.if-place-end.true (c.place.ensures.place ∙ same)))
+    (ap (λ (l : List Frame). reverse l) c.push.ensures.items ∙ pushed c.args.self.now.frames.items (frame.Window c.args.i c.args.start c.args.bits c.args.outer))
+    (window_stops c.args.self.now.plan.now g.T.Track.takes c.args.track.now c.args.self.now.values.items c.args.self.now.pace c.args.source.now c.args.i c.args.start c.args.bits c.args.outer (reverse c.args.self.now.frames.items) c.stopped.result c.stopped.ensures c.requires.known (λ same. c.if-place-end.true (c.place.ensures.place ∙ same)))
 
 pub leave-requires : goal.leave-requires
 leave-requires g c =

@@ -1,0 +1,119 @@
+use Rattle.std.specs.Prelude.{⊤}
+use Rattle.std.proofs.Common.{inl, ◌≡◌, ◌+◌, ◌*◌, List, ◌∷◌, ◌++◌, length, reverse, Some, slice_get, refl, sym, ap, ◌∙◌, subst, arith, lit<}
+use Rattle.std.proofs.lemmas.List.{length-reverse}
+use Rattle.csn_desc.specs.declared.moves.Move.TheVariants.{Enter}
+use Rattle.csn_desc.specs.declared.node.Node.{Node}
+use Rattle.csn_desc.specs.declared.node.Node.TheVariants.{Field, Named}
+use Rattle.csn_desc.specs.Nodes.{DescV}
+use Rattle.csn_judge.specs.declared.frame.Frame.{Frame}
+use Rattle.csn_judge.specs.declared.frame.Frame.TheVariants as frame
+use Rattle.csn_judge.specs.declared.leaf.Leaf.TheVariants as leaf
+use Rattle.csn_judge.specs.declared.pace.Pace.{Pace}
+use Rattle.csn_judge.specs.Credit.{credit_of}
+use Rattle.csn_judge.specs.Turns.{begun_by, StateV, state_of, state_with, Stands, GoesOn}
+use Rattle.csn_judge.proofs.Paying.{begun_pays}
+use Rattle.csn_judge.proofs.PayingBits.{labelled_credit, entered_pays, paid_with}
+use Rattle.csn_judge.proofs.Turning.{GoesOn-along, begun_again, pushed}
+use Rattle.csn_judge.proofs.TurningEntry.{field_fits, keeps_field}
+use Rattle.csn_judge.proofs.TurningOn.{turns_then}
+use Rattle.csn_judge.proofs.TurningNamed.{label_goes_on, field_goes_on, label_begins}
+use Rattle.csn_judge.proofs.machine.Machine.enter_plain.Goals as goal
+
+pub node-field-requires : goal.node-field-requires
+node-field-requires g c =
+    let t = label_begins c.args.self.now.plan.now c.args.self.now.pace c.requires.stands.known c.requires.part.1 c.requires.stands.stands.shows c.requires.stands.stands.stack_is in
+    t.within
+
+pub begin-requires-clause-few : goal.begin-requires-clause-few
+begin-requires-clause-few g c =
+    let t = label_begins c.args.self.now.plan.now c.args.self.now.pace c.requires.stands.known c.requires.part.1 c.requires.stands.stands.shows c.requires.stands.stands.stack_is in
+    omega (arith, t.within, c.requires.stands.known.description.few)
+
+pub begin-requires-clause-room : goal.begin-requires-clause-room
+begin-requires-clause-room g c =
+    let t = label_begins c.args.self.now.plan.now c.args.self.now.pace c.requires.stands.known c.requires.part.1 c.requires.stands.stands.shows c.requires.stands.stands.stack_is in
+    omega (arith, t.room, length-reverse c.args.self.now.frames.items)
+
+pub returns-in_default-clause-turns : goal.returns-in_default-clause-turns
+returns-in_default-clause-turns g c =
+    let d : DescV = c.args.self.now.plan.now in
+    λ first node look took stack done stands.
+    GoesOn-along d g.T.Track.takes first c.args.self.now.values.items c.args.self.now.pace c.args.source.now c.begin.ensures.frames (ap (λ v. v.items) c.begin.ensures.values) c.begin.ensures.pace
+    (label_goes_on d g.T.Track.takes first c.args.self.now.values.items c.args.self.now.pace c.args.source.now c.args.i (reverse c.args.self.now.frames.items) c.requires.part.0 node c.requires.stands.known c.requires.plain c.requires.part.1 look took stands)
+
+pub returns-in_default-clause-pays : goal.returns-in_default-clause-pays
+returns-in_default-clause-pays g c =
+    let t = label_begins c.args.self.now.plan.now c.args.self.now.pace c.requires.stands.known c.requires.part.1 c.requires.stands.stands.shows c.requires.stands.stands.stack_is in
+    begun_pays c.args.steps.now (length c.args.source.now.bits) 2 (frame.Begin c.args.i) (frame.Named c.args.i) c.begin.ensures.frames c.begin.ensures.pace (omega (arith, c.node-field.ensures.step))
+    t.within (inl t.rises) (omega arith) (omega arith)
+
+pub number_of-requires : goal.number_of-requires
+number_of-requires g c =
+    let d : DescV = c.args.self.now.plan.now in
+    let on = label_goes_on d {S = ⊤} (λ _ _ _ _. ⊤) tt c.args.self.now.values.items c.args.self.now.pace c.args.source.now c.args.i (reverse c.args.self.now.frames.items) {after = tt} c.requires.part.0 (Named c.requires.part.0 c.args.part) c.requires.stands.known c.requires.plain c.requires.part.1 c.requires.part.1 tt c.requires.stands.stands in
+    keeps_field d {S = ⊤} (λ _ _ _ _. ⊤) tt c.args.self.now.values.items (begun_by c.args.part c.args.self.now.pace) c.args.source.now c.requires.stands.known on.stands c.in-Field.unit c.in-Field.count (c.node-field.ensures.node ∙ ap (λ n. Some n) c.in-Field.is)
+
+pub overflow_mul-left : goal.overflow_mul-left
+overflow_mul-left g c =
+    let d : DescV = c.args.self.now.plan.now in
+    let on = label_goes_on d {S = ⊤} (λ _ _ _ _. ⊤) tt c.args.self.now.values.items c.args.self.now.pace c.args.source.now c.args.i (reverse c.args.self.now.frames.items) {after = tt} c.requires.part.0 (Named c.requires.part.0 c.args.part) c.requires.stands.known c.requires.plain c.requires.part.1 c.requires.part.1 tt c.requires.stands.stands in
+    omega (arith, field_fits d {S = ⊤} (λ _ _ _ _. ⊤) tt c.args.self.now.values.items (begun_by c.args.part c.args.self.now.pace) c.args.source.now c.requires.stands.known on.stands c.in-Field.unit c.number_of.result c.in-Field.count (c.node-field.ensures.node ∙ ap (λ n. Some n) c.in-Field.is) c.number_of.ensures.small)
+
+pub begin-requires-2 : goal.begin-requires-2
+begin-requires-2 g c =
+    let t = label_begins c.args.self.now.plan.now c.args.self.now.pace c.requires.stands.known c.requires.part.1 c.requires.stands.stands.shows c.requires.stands.stands.stack_is in
+    omega (arith, t.within, c.requires.stands.known.description.few)
+
+pub push-requires : goal.push-requires
+push-requires g c =
+    let t = label_begins c.args.self.now.plan.now c.args.self.now.pace c.requires.stands.known c.requires.part.1 c.requires.stands.stands.shows c.requires.stands.stands.stack_is in
+    (lit< tt, omega (arith, t.room, length-reverse c.args.self.now.frames.items))
+
+pub read-requires-clause-stands : goal.read-requires-clause-stands
+read-requires-clause-stands g c =
+    let d : DescV = c.args.self.now.plan.now in
+    let frames = reverse c.args.self.now.frames.items in
+    let paced : c.begin-2.new.self ≡ begun_by c.args.part c.args.self.now.pace = begun_again d c.args.self.now.pace c.args.part c.begin-2.ensures in
+    let put : reverse c.push.new.self.items ≡ frame.Named c.args.i ∷ frames = ap (λ (l : List Frame). reverse l) c.push.ensures.items ∙ pushed c.args.self.now.frames.items (frame.Named c.args.i) in
+    let on = field_goes_on d {S = ⊤} (λ _ _ _ _. ⊤) tt c.args.self.now.values.items c.args.self.now.pace c.args.source.now c.args.i (reverse c.args.self.now.frames.items) {middle = tt} {after = tt} c.requires.part.0 (Named c.requires.part.0 c.args.part)
+    c.requires.stands.known c.requires.plain c.requires.part.1 c.requires.part.1 tt (c.node-field.ensures.node ∙ ap (λ n. Some n) c.in-Field.is) tt c.number_of.ensures.count refl c.requires.stands.stands in
+    let top : Frame = frame.Leaf c.args.part (leaf.Field (c.in-Field.unit * c.number_of.result)) in
+    let P : List Frame → Type 0 = λ l. Stands d (record { frames = top ∷ l; values = c.args.self.now.values.items; pace = c.begin-2.new.self; coming = c.args.source.now }) on.now (c.requires.stands.done ++ on.taken) in
+    let Q : Pace → Type 0 = λ p. Stands d (record { frames = top ∷ frame.Named c.args.i ∷ frames; values = c.args.self.now.values.items; pace = p; coming = c.args.source.now }) on.now (c.requires.stands.done ++ on.taken) in
+    record { known = c.requires.stands.known; stack = on.now; done = c.requires.stands.done ++ on.taken; stands = subst P (sym put) (subst Q (sym paced) on.stands) }
+
+pub returns-clause-turns : goal.returns-clause-turns
+returns-clause-turns g c =
+    let d : DescV = c.args.self.now.plan.now in
+    let frames = reverse c.args.self.now.frames.items in
+    let paced : c.begin-2.new.self ≡ begun_by c.args.part c.args.self.now.pace = begun_again d c.args.self.now.pace c.args.part c.begin-2.ensures in
+    let put : reverse c.push.new.self.items ≡ frame.Named c.args.i ∷ frames = ap (λ (l : List Frame). reverse l) c.push.ensures.items ∙ pushed c.args.self.now.frames.items (frame.Named c.args.i) in
+    let top : Frame = frame.Leaf c.args.part (leaf.Field (c.in-Field.unit * c.number_of.result)) in
+    λ first node look_node took.
+    let middle : StateV = record { frames = top ∷ reverse c.push.new.self.items; values = c.args.self.now.values.items; pace = c.begin-2.new.self; coming = c.args.source.now } in
+    turns_then d g.T.Track.takes {middle = middle} (state_of c.read.new.self c.read.new.source) c.read.new.track c.read.result c.none_behind_end.ensures
+    (λ stack done stands.
+    let P : List Frame → Type 0 = λ l. GoesOn d g.T.Track.takes (state_with (frame.Begin c.args.i) c.args.self.now c.args.source.now) (record { frames = top ∷ l; values = c.args.self.now.values.items; pace = c.begin-2.new.self; coming = c.args.source.now }) first c.step.new.self stack done in
+    let Q : Pace → Type 0 = λ p. GoesOn d g.T.Track.takes (state_with (frame.Begin c.args.i) c.args.self.now c.args.source.now) (record { frames = top ∷ frame.Named c.args.i ∷ frames; values = c.args.self.now.values.items; pace = p; coming = c.args.source.now }) first c.step.new.self stack done in
+    subst P (sym put) (subst Q (sym paced)
+    (field_goes_on d g.T.Track.takes first c.args.self.now.values.items c.args.self.now.pace c.args.source.now c.args.i (reverse c.args.self.now.frames.items) c.requires.part.0 node
+    c.requires.stands.known c.requires.plain c.requires.part.1 look_node took (c.node-field.ensures.node ∙ ap (λ n. Some n) c.in-Field.is) (subst (λ (n : Node). g.T.Track.takes c.args.track.now (Enter c.args.part) n c.step.new.self) c.in-Field.is c.step.ensures)
+    c.number_of.ensures.count refl stands)))
+    c.read.ensures.turns
+
+pub returns-clause-pays : goal.returns-clause-pays
+returns-clause-pays g c =
+    let d : DescV = c.args.self.now.plan.now in
+    let frames = reverse c.args.self.now.frames.items in
+    let bits = length c.args.source.now.bits in
+    let t = label_begins c.args.self.now.plan.now c.args.self.now.pace c.requires.stands.known c.requires.part.1 c.requires.stands.stands.shows c.requires.stands.stands.stack_is in
+    let paced : c.begin-2.new.self ≡ begun_by c.args.part c.args.self.now.pace = begun_again d c.args.self.now.pace c.args.part c.begin-2.ensures in
+    let put : reverse c.push.new.self.items ≡ frame.Named c.args.i ∷ frames = ap (λ (l : List Frame). reverse l) c.push.ensures.items ∙ pushed c.args.self.now.frames.items (frame.Named c.args.i) in
+    let left = c.in-Field.unit * c.number_of.result in
+    let top : Frame = frame.Leaf c.args.part (leaf.Field left) in
+    let less = labelled_credit c.args.i left frames c.args.self.now.pace bits t.within t.rises in
+    let same = ap (λ (l : List Frame). credit_of (length d.nodes) (top ∷ l) c.begin-2.new.self bits) put ∙ ap (λ p. credit_of (length d.nodes) (top ∷ frame.Named c.args.i ∷ frames) p bits) paced in
+    entered_pays (credit_of (length d.nodes) (frame.Begin c.args.i ∷ frames) c.args.self.now.pace bits) (credit_of (length d.nodes) (top ∷ reverse c.push.new.self.items) c.begin-2.new.self bits)
+    (credit_of (length d.nodes) (reverse c.read.new.self.frames.items) c.read.new.self.pace (length c.read.new.source.bits)) c.args.steps.now c.node-field.new.steps (c.node-field.new.steps + 1) c.read.result
+    (omega (arith, less, same)) c.node-field.ensures.step
+    (paid_with (credit_of (length d.nodes) (top ∷ reverse c.push.new.self.items) c.begin-2.new.self bits) (credit_of (length d.nodes) (reverse c.read.new.self.frames.items) c.read.new.self.pace (length c.read.new.source.bits)) c.node-field.new.steps c.read.result c.read.ensures.pays)
