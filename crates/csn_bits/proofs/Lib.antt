@@ -7,3 +7,4 @@ pub mod Feeding
 pub mod Written
 pub mod ReadBack
 pub mod Decided
+pub mod Decoding

@@ -71,7 +71,7 @@ AreOctets-take (suc n) (o ∷ rest) bytes (suc k) = AreOctets-take n rest (λ i.
 
 -- ---- the octets of a block
 
-octets_of-behind : (front bits : List ℕ) → octets_of (bits_of_octets front ++ bits) ≡ front ++ octets_of bits
+pub octets_of-behind : (front bits : List ℕ) → octets_of (bits_of_octets front ++ bits) ≡ front ++ octets_of bits
 octets_of-behind [] bits = refl
 octets_of-behind (n ∷ front) bits =
     ap (λ (m : ℕ). m ∷ octets_of (bits_of_octets front ++ bits)) (octet_of-bits_of_octet n)

@@ -1,10 +1,12 @@
 ghost use Rattle.std.specs.Prelude.{◌≡◌, ◌+◌, ◌*◌, ◌/◌, ◌<◌, ◌≤◌, ◌↔◌, [], ◌∷◌, ◌++◌, length, slice_index, take, ◌⊎◌, IfOk, IfErr, OnOk, OnErr, IsErrOf};
+ghost use Rattle.std.specs.Option.{ForSome};
 ghost use Rattle.csn_bits.specs.Fault.{IsLineFault};
 ghost use Rattle.csn_bits.specs.Line.{BlockLine, written};
 ghost use Rattle.csn_bits.specs.Octets.{IsBits, bits_of_octets, octets_of};
 
 use crate::fault::{BitsFault, NoMemory};
 use crate::feed::{HexEnd, HexFeed, HexStep, MOST_LINE, MOST_OCTETS};
+use hex::FromHexError;
 use std::alloc::Global;
 use std::marker::Model;
 
@@ -109,6 +111,33 @@ impl Bits {
     /// digits in either case. The line is without its line feed. Of several faults the first in the
     /// order of [`BitsFault`] is told.
     pub fn from_hex_line(alloc: Global, line: &[u8]) -> Result<Bits, BitsFault>
+        requires { length line.now ≤ MOST_LINE }
+        ensures ok { IfOk result (λ b. BlockLine line.now b) }
+        ensures refused { IfErr result (λ e. (e ≡ BitsFault.NoMemory) ⊎ IsLineFault line.now e) }
+    {
+        match Bits::from_whole_octets(alloc, line)? {
+            Some(bits) => Ok(bits),
+            None => Bits::from_digits(alloc, line),
+        }
+    }
+
+    // The bits of a line of digits alone, two for each octet of a block, and None for any other line.
+    fn from_whole_octets(alloc: Global, line: &[u8]) -> Result<Option<Bits>, BitsFault>
+        ensures ok { IfOk result (λ read. ForSome read (λ b. BlockLine line.now b)) }
+        ensures refused { IfErr result (λ e. e ≡ BitsFault.NoMemory) }
+    {
+        match hex::decode(alloc, line) {
+            Ok(octets) if !octets.is_empty() && octets.len() <= MOST_OCTETS as usize => {
+                let len = 8 * octets.len() as u32;
+                Ok(Some(Bits { octets, len }))
+            }
+            Err(FromHexError::OutOfMemory) => Err(BitsFault::NoMemory),
+            _ => Ok(None),
+        }
+    }
+
+    // The bits that a block line spells, digit by digit.
+    fn from_digits(alloc: Global, line: &[u8]) -> Result<Bits, BitsFault>
         requires { length line.now ≤ MOST_LINE }
         ensures ok { IfOk result (λ b. BlockLine line.now b) }
         ensures refused { IfErr result (λ e. (e ≡ BitsFault.NoMemory) ⊎ IsLineFault line.now e) }

@@ -4,8 +4,8 @@ use Rattle.std.proofs.lemmas.List.{take_all, take_more}
 use Rattle.csn_bits.specs.Feed.{octets_given}
 use Rattle.csn_bits.specs.Line.{BlockLine}
 use Rattle.csn_bits.proofs.Written.{block_line-dot, few_given, packs_line}
-use Rattle.csn_bits.proofs.bits.Bits.from_hex_line.Goals as goal
-use Rattle.csn_bits.proofs.bits.Bits.from_hex_line.Goals.{in-Octet+in_ok-push, in_default}
+use Rattle.csn_bits.proofs.bits.Bits.from_digits.Goals as goal
+use Rattle.csn_bits.proofs.bits.Bits.from_digits.Goals.{in-Octet+in_ok-push, in_default}
 
 pub loop-byte-preserved : goal.loop-byte-preserved
 loop-byte-preserved c =

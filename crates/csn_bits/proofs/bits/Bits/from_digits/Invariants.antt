@@ -1,6 +1,6 @@
 use Rattle.std.proofs.Common.{◌≡◌, take}
 use Rattle.csn_bits.specs.Feed.{Fed, octets_given, seen_of}
-use Rattle.csn_bits.proofs.bits.Bits.from_hex_line.Given as goal
+use Rattle.csn_bits.proofs.bits.Bits.from_digits.Given as goal
 
 abbrev pub invariant-loop-byte : goal.invariant-loop-byte
 invariant-loop-byte l =
