@@ -80,14 +80,14 @@ module _ (d : DescV) (parts : List ℕ) (octet : ℕ) (held : List ℕ) where
           its = refl;
         }
 
-    pub begins_none : (marks.StartsKey table held → ⊥) → BeginsKeyOf d parts octet held j → ⊥
-    begins_none absent h = by_rest h.key.begins.0 h.key.begins.1
+    pub starts_key : BeginsKeyOf d parts octet held j → marks.StartsKey table held
+    starts_key h = by_rest h.key.begins.0 h.key.begins.1
       where
-        by_rest : (rest : List ℕ) → h.key.word ≡ held ++ rest → ⊥
+        by_rest : (rest : List ℕ) → h.key.word ≡ held ++ rest → marks.StartsKey table held
         by_rest [] is =
             let size : length h.key.word ≡ length held = ap length (is ∙ append-nil held) in
             let more = h.key.not_all in
-            omega arith
+            absurd (omega arith)
         by_rest (x ∷ back) is =
             let is_part = h.key.is_part in
             let its = h.its in
@@ -96,7 +96,10 @@ module _ (d : DescV) (parts : List ℕ) (octet : ℕ) (held : List ℕ) where
             let Q : List ℕ → Type 0 = λ l. InKeys d 12 part octet l h.key.mark in
             let key = subst Q is (subst P same h.key.key) in
             let word = key_word d key in
-            absent (record { next = x; back = back; whole = h.key.mark; word = word; key = (are (held ++ x ∷ back) h.key.mark word).1 key })
+            record { next = x; back = back; whole = h.key.mark; word = word; key = (are (held ++ x ∷ back) h.key.mark word).1 key }
+
+    pub begins_none : (marks.StartsKey table held → ⊥) → BeginsKeyOf d parts octet held j → ⊥
+    begins_none absent h = absent (starts_key h)
 
     -- what the table tells of the held bits
     pub standing : (told : Begins) → (IsNull d part → ⊥) → marks.IsWord held → marks.IsBeginning told table held → StandsTo d parts octet held j (Some told)

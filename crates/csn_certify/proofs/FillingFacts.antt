@@ -1,16 +1,18 @@
 -- How the entries of a choice are filled word by word.
-use Rattle.std.proofs.Common.{◌≡◌, ℕ, zero, suc, ◌<◌, ◌≤◌, ◌⊎◌, inl, inr, List, [], ◌∷◌, ◌++◌, length, refl, sym, ◌∙◌, ap, subst, arith, append_assoc, append-nil, length-append}
+use Rattle.std.proofs.Common.{◌≡◌, ℕ, zero, suc, ◌+◌, ◌-◌, ◌<◌, ◌≤◌, ◌⊎◌, inl, inr, List, [], ◌∷◌, ◌++◌, length, take, drop, take-append-drop, refl, sym, ◌∙◌, ap, subst, arith, append_assoc, append-nil, length-append}
 use Rattle.std.specs.Prelude.{IsTrue}
-use Rattle.std.proofs.lemmas.List.{append_cancel_left}
+use Rattle.std.proofs.lemmas.List.{append_cancel_left, length-take-le}
 use Rattle.csn_bits.specs.Octets.{IsBits}
+use Rattle.csn_bits.proofs.Packing.{IsBits-append, IsBits-take}
 use Rattle.csn_desc.proofs.BitFacts.{IsBits-along}
 use Rattle.csn_look.specs.KeyMarks.{IsWord, has_key, IsKeyOf, BeginsWithKey, StartsKey}
+use Rattle.csn_look.specs.Full.{IsFull}
 use Rattle.csn_look.proofs.Basics.Places.{word_front}
 use Rattle.csn_look.proofs.Tables.Products.{bits_back}
 use Rattle.csn_certify.specs.declared.pick_table.Entry.{Entry}
 use Rattle.csn_certify.specs.Conflicts.{IsBegunBy}
 use Rattle.csn_certify.specs.PickTables.{entry_of}
-use Rattle.csn_certify.specs.Filling.{IsFresh, IsDeep, IsFilled, with_key, with_none, IsTaken, FillsUnder, FillsAt}
+use Rattle.csn_certify.specs.Filling.{IsFresh, IsDeep, IsFilled, with_key, with_full, with_none, IsTaken, FillsUnder, FillsAt}
 use Rattle.csn_certify.proofs.Pieces.{begun_both}
 
 -- ---- words that go on from a word
@@ -149,6 +151,56 @@ fresh_behind marks word more bit is none front back parts some key =
         let its = ap length e in
         absurd (omega (arith, long, own, its, length-append front back, length-append word (bit ∷ []), length-append word (x ∷ rest), some))
 
+-- ---- words behind which all words of one size are keys
+
+module _ (marks word held : List ℕ) (bits : ℕ) (is_word : IsWord held) (begun : IsBegunBy held word) (full : IsFull marks word bits) where
+  rest_bits : IsBits begun.0
+  rest_bits = bits_back word begun.0 (IsBits-along (sym begun.1) is_word.bits)
+
+  size_of : length held ≡ length word + length begun.0
+  size_of = ap length begun.1 ∙ length-append word begun.0
+
+  on : (back : List ℕ) → held ++ back ≡ word ++ (begun.0 ++ back)
+  on back = ap (λ l. l ++ back) begun.1 ∙ append_assoc word begun.0 back
+
+  -- so it is with what goes on from them and is no longer
+  pub full_on : length held ≤ bits → IsFull marks held bits
+  full_on few = record {
+    more = few;
+    short = full.short;
+    full = λ back is size. subst (λ (l : List ℕ). IsKeyOf marks l) (sym (on back)) (full.full (begun.0 ++ back) (IsBits-append begun.0 back rest_bits is) (omega (arith, size, size_of, length-append begun.0 back)));
+    none = λ back is size key. full.none (begun.0 ++ back) (IsBits-append begun.0 back rest_bits is) (omega (arith, size, size_of, length-append begun.0 back)) (subst (λ (l : List ℕ). IsKeyOf marks l) (on back) key);
+  }
+
+  -- what goes on from them and is no shorter begins with a key
+  pub full_begins : bits ≤ length held → BeginsWithKey marks held
+  full_begins many =
+      let count = bits - length word in
+      let front = take count begun.0 in
+      let back = drop count begun.0 in
+      let size : length front ≡ count = length-take-le count begun.0 (omega (arith, many, size_of)) in
+      let key = full.full front (IsBits-take count begun.0 rest_bits) (omega (arith, size, full.more)) in
+      record {
+        front = word ++ front;
+        back = back;
+        parts = begun.1 ∙ ap (λ l. word ++ l) (sym (take-append-drop count begun.0)) ∙ sym (append_assoc word front back);
+        whole = key.0;
+        key = key.1;
+      }
+
+  -- and what is shorter with none, where the first ones begin with none
+  pub full_fresh : ¬ BeginsWithKey marks word → length held < bits → ¬ BeginsWithKey marks held
+  full_fresh none few h = by_order (begun_both h.front h.back word begun.0 [] [] {b = held} {c = held} h.parts begun.1 refl)
+    where
+      by_order : IsBegunBy h.front word ⊎ IsBegunBy word h.front → ⊥
+      by_order (inl (rest, e)) =
+          let front : IsWord h.front = word_front h.front h.back (subst (λ (l : List ℕ). IsWord l) h.parts is_word) in
+          let size = ap length h.parts in
+          let own = ap length e in
+          full.none rest (bits_back word rest (IsBits-along (sym e) front.bits)) (omega (arith, size, own, few, length-append h.front h.back, length-append word rest))
+          (subst (λ (l : List ℕ). IsKeyOf marks l) e (h.whole, h.key))
+      by_order (inr (rest, e)) = none (record { front = h.front; back = rest; parts = e; whole = h.whole; key = h.key })
+
 -- ---- how many bits are looked at
 
 module _ (marks word : List ℕ) where
@@ -156,7 +208,17 @@ module _ (marks word : List ℕ) where
   deep_at_key n key held is begun long none = absurd (none (key_on marks word held begun key))
 
   pub deep_at_none : (n : ℕ) → ¬ StartsKey marks word → IsDeep marks word n
-  deep_at_none n none held is begun long no_key start = none (starts_front marks word held begun start)
+  deep_at_none n none held is begun long no_key start = absurd (none (starts_front marks word held begun start))
+
+  pub deep_at_full : (bits n : ℕ) → IsFull marks word bits → IsDeep marks word n
+  deep_at_full bits n full held is begun long no_key start = (bits, by (either bits (length held)))
+    where
+      either : (a b : ℕ) → (a ≤ b) ⊎ (b ≤ a)
+      either a b = grind arith
+
+      by : (bits ≤ length held) ⊎ (length held ≤ bits) → IsFull marks held bits
+      by (inl many) = absurd (no_key (full_begins marks word held bits is begun full many))
+      by (inr few) = full_on marks word held bits is begun full few
 
   pub deep_behind : (bit n : ℕ) (more : List ℕ) → more ≡ word ++ bit ∷ [] → IsDeep marks word n → IsDeep marks more n
   deep_behind bit n more same deep held is begun =
@@ -173,16 +235,16 @@ module _ (marks word : List ℕ) where
         | by_one further ↦ deep_high held is (subst (λ (l : List ℕ). IsBegunBy held l) (sym is_high) further) (omega (arith, b_most, long)) none
       ]
 
-  -- where the word only begins a key, more bits are looked at
-  pub deep_room : (n : ℕ) → IsWord word → IsDeep marks word n → ¬ BeginsWithKey marks word → StartsKey marks word → length word < n
-  deep_room n is deep none start = by_order (either (length word) n)
+  -- where the word only begins a key, and not all words of one size behind it are keys, more bits are looked at
+  pub deep_room : (n : ℕ) → IsWord word → IsDeep marks word n → ¬ BeginsWithKey marks word → StartsKey marks word → ((bits : ℕ) → ¬ IsFull marks word bits) → length word < n
+  deep_room n is deep none start part = by_order (either (length word) n)
     where
       either : (a b : ℕ) → (a < b) ⊎ (b ≤ a)
       either a b = grind arith
 
       by_order : (length word < n) ⊎ (n ≤ length word) → length word < n
       by_order (inl less) = less
-      by_order (inr long) = absurd (deep word is (begun_itself word) long none start)
+      by_order (inr long) = let full = deep word is (begun_itself word) long none start in absurd (part full.0 full.1)
 
 -- ---- filling
 
@@ -246,3 +308,16 @@ module _ (marks : List ℕ) (j : ℕ) (word : List ℕ) (width : ℕ) where
         with_key bits (key_on marks word held begun key) (omega (arith, size, longer)) ((taken held is short).0 begun)),
     (taken held is short).1,
   )
+
+  pub filled_full : (bits : ℕ) (old new : List Entry) → ¬ BeginsWithKey marks word → IsFull marks word bits → FillsUnder word width (IsTaken j bits) old new → FillsUnder word width (IsFilled marks j) old new
+  filled_full bits old new none full taken held is short = (
+    (λ begun. by (either bits (length held)) begun),
+    (taken held is short).1,
+  )
+    where
+      either : (a b : ℕ) → (a ≤ b) ⊎ (b < a)
+      either a b = grind arith
+
+      by : (bits ≤ length held) ⊎ (length held < bits) → IsBegunBy held word → IsFilled marks j held (entry_of old held) (entry_of new held)
+      by (inl many) begun = with_key bits (full_begins marks word held bits is begun full many) many ((taken held is short).0 begun)
+      by (inr few) begun = with_full bits (full_fresh marks word held bits is begun full none few) (full_on marks word held bits is begun full (omega (arith, few))) ((taken held is short).0 begun)

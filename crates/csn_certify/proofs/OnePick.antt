@@ -107,7 +107,7 @@ module _ (d : DescV) (most : ℕ) where
 
 module _ (d : DescV) (most : ℕ) (certified : Certified d most) where
   module _ {node octet : ℕ} {parts held : List ℕ} (at : slice_get d.nodes node ≡ Some (Choice parts)) (reached : Reached d node octet) where
-    one_key : {j k : ℕ} → BeginsWithKey d most parts octet held j → BeginsWithKey d most parts octet held k → j ≡ k
+    pub one_key : {j k : ℕ} → BeginsWithKey d most parts octet held j → BeginsWithKey d most parts octet held k → j ≡ k
     one_key {j} {k} a b =
         elim (order j k) [
           | equal_numbers same ↦ same

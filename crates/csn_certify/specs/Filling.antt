@@ -1,11 +1,12 @@
 -- Filling the entries of a choice from the keys of one alternative after another, for the contracts of the
 -- functions that do it; no public contract cites these.
-use Rattle.std.specs.Prelude.{◌≡◌, ◌≢◌, ℕ, ◌<◌, ◌≤◌, List, ◌++◌, length, slice_get, Some}
+use Rattle.std.specs.Prelude.{◌≡◌, ◌≢◌, ℕ, ◌<◌, ◌≤◌, ◌⊎◌, List, ◌++◌, length, slice_get, Some}
 use Rattle.csn_desc.specs.Nodes.{DescV}
 use Rattle.csn_look.specs.Keys.{InKeys}
 use Rattle.csn_look.specs.LookV.{LookV}
 use Rattle.csn_look.specs.LookKeys.{table_at}
 use Rattle.csn_look.specs.KeyMarks.{IsWord, KeysAre, IsKeyOf, BeginsWithKey, StartsKey}
+use Rattle.csn_look.specs.Full.{IsFull}
 use Rattle.csn_certify.specs.declared.pick_table.Entry.{Entry}
 use Rattle.csn_certify.specs.declared.pick_table.Entry.TheVariants.{Refuse, Wait, Take}
 use Rattle.csn_certify.specs.Conflicts.{IsNull, IsBegunBy}
@@ -19,11 +20,13 @@ started Refuse = Wait
 started Wait = Wait
 started (Take j bits) = Take j bits
 
--- of the words of at least so many bits that go on from this one, none is only the beginning of a key
+-- a word of at least so many bits that goes on from this one and only begins a key is one behind which all words of
+-- one size are keys
 abbrev pub IsDeep : List ℕ → List ℕ → ℕ → Type 0
 IsDeep marks word depth =
     (held : List ℕ) → IsWord held → IsBegunBy held word → depth ≤ length held → ¬ BeginsWithKey marks held
-    → ¬ StartsKey marks held
+    → StartsKey marks held
+    → (bits : ℕ) × IsFull marks held bits
 
 -- no key is a proper prefix of the word
 abbrev pub IsFresh : List ℕ → List ℕ → Type 0
@@ -35,8 +38,11 @@ pub data IsFilled (marks : List ℕ) (j : ℕ) (held : List ℕ) (old new : Entr
   with_key :
       (bits : ℕ) → BeginsWithKey marks held → bits ≤ length held → new ≡ Take j bits
       → IsFilled marks j held old new
+  with_full :
+      (bits : ℕ) → ¬ BeginsWithKey marks held → IsFull marks held bits → new ≡ Take j bits
+      → IsFilled marks j held old new
   with_start :
-      ¬ BeginsWithKey marks held → StartsKey marks held → new ≡ started old
+      ¬ BeginsWithKey marks held → StartsKey marks held → ((bits : ℕ) → ¬ IsFull marks held bits) → new ≡ started old
       → IsFilled marks j held old new
   with_none :
       ¬ BeginsWithKey marks held → ¬ StartsKey marks held → new ≡ old
@@ -73,12 +79,26 @@ module _ (d : DescV) (parts : List ℕ) (octet : ℕ) where
     pub real : ¬ IsNull d part
     pub are : KeysAre marks (InKeys d 12 part octet)
 
-  -- held bits of at least so many are not only the beginning of a key of the first alternatives
+  -- behind the held bits all words of one size are keys of the alternative j, which takes bits; none begins them
+  pub record IsFullOf (j : ℕ) (held : List ℕ) (bits : ℕ) : Type 0 where
+    pub marks : List ℕ
+    pub has : HasMarks j marks
+    pub none : ¬ BeginsWithKey marks held
+    pub full : IsFull marks held bits
+
+  -- held bits of at least so many that are only the beginning of a key of one of the first alternatives are bits
+  -- behind which all words of one size are keys of it
   abbrev pub AreDeep : ℕ → ℕ → Type 0
   AreDeep count width =
       (held : List ℕ) (j : ℕ) → IsWord held → width ≤ length held → BeginsKeyOf d parts octet held j
       → ¬ pick.BeginsWithKey d 12 parts octet held j
-      → count ≤ j
+      → (count ≤ j) ⊎ ((bits : ℕ) × IsFullOf j held bits)
+
+  -- no bits begin with keys of two alternatives
+  abbrev pub AreApart : Type 0
+  AreApart =
+      (held : List ℕ) (j k : ℕ) → pick.BeginsWithKey d 12 parts octet held j → pick.BeginsWithKey d 12 parts octet held k
+      → j ≡ k
 
 -- each alternative has one table at both octet positions
 abbrev pub HaveSameTables : LookV → List ℕ → ℕ → ℕ → Type 0

@@ -6,13 +6,13 @@ ghost use Rattle.csn_look.specs.LookKeys.{IsKeysOf};
 ghost use Rattle.csn_look.specs.Steps.{HasPartsBelow};
 ghost use Rattle.csn_certify.specs.Choosing.{IsNone};
 ghost use Rattle.csn_certify.specs.PickTables.{AreEntries};
-ghost use Rattle.csn_certify.specs.Filling.{AreEmpty, HasMarks, AreDeep};
+ghost use Rattle.csn_certify.specs.Filling.{AreApart, AreEmpty, HasMarks, AreDeep};
 
 use crate::filling::{Filling, widened};
 use crate::pick_table::{Entry, Filled};
 use csn_bits::NoMemory;
 use csn_desc::{Desc, Node, Parts};
-use csn_look::{KeyTable, Look, Word};
+use csn_look::{KeyTable, Look, MOST_WORD, Word};
 use std::alloc::Global;
 
 /// The alternatives of a choice, and what is known of their keys at an octet position.
@@ -30,6 +30,7 @@ impl Chooser<'_> {
         requires keys { IsKeysOf self.now.desc.now self.now.look.now }
         requires below { HasPartsBelow (Choice self.now.parts.now) (length self.now.desc.now.nodes) }
         requires octet { self.now.octet ≤ 7 }
+        requires apart { AreApart self.now.desc.now self.now.parts.now self.now.octet }
         ensures { IfOk result (AreEntries self.now.desc.now self.now.parts.now self.now.octet) }
     {
         let width = self.width();
@@ -60,7 +61,7 @@ impl Chooser<'_> {
         requires keys { IsKeysOf self.now.desc.now self.now.look.now }
         requires below { HasPartsBelow (Choice self.now.parts.now) (length self.now.desc.now.nodes) }
         requires octet { self.now.octet ≤ 7 }
-        ensures most { result ≤ 12 }
+        ensures most { result ≤ MOST_WORD }
         ensures deep { AreDeep self.now.desc.now self.now.parts.now self.now.octet (length self.now.parts.now) result }
     {
         let mut width = 0;
@@ -91,7 +92,7 @@ impl Chooser<'_> {
 
 /// As many entries as there are words of at most so many bits, and one more.
 fn no_entries(alloc: Global, width: u8) -> Result<Vec<Entry>, NoMemory>
-    requires { width ≤ 12 }
+    requires { width ≤ MOST_WORD }
     ensures { IfOk result (λ entries. AreEmpty width entries.items) }
 {
     match vec![in alloc; Entry::Refuse; 2 << width] {

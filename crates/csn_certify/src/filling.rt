@@ -7,28 +7,32 @@ ghost use Rattle.csn_certify.specs.PickTables.{HasEntries, entry_of};
 ghost use Rattle.csn_certify.specs.Filling.{started, IsDeep, IsFresh, IsFilled, IsTaken, FillsUnder, FillsAt};
 
 use crate::pick_table::Entry;
-use csn_look::{KeyTable, Stands, Word};
+use csn_look::{KeyTable, MOST_WORD, Stands, Word};
 
 /// The width, or more where more bits have to be looked at of what goes on from the word to see the keys of a table.
+/// No further bit is looked at where all words of one size are keys.
 pub(crate) fn widened(table: &KeyTable, word: &Word, width: u8) -> u8
     requires word { IsWord word.now }
     requires fresh { IsFresh table.now word.now }
-    requires width { width ≤ 12 }
+    requires width { width ≤ MOST_WORD }
     ensures deep { IsDeep table.now word.now result }
     ensures more { length word.now ≤ result }
     ensures wider { width ≤ result }
-    ensures most { result ≤ 12 }
+    ensures most { result ≤ MOST_WORD }
 {
-    if width == 12 {
+    if width as usize == MOST_WORD {
         return width;
     }
     match table.stands(word) {
         Stands::Key => greater(width, word.len()),
         Stands::Neither => greater(width, word.len()),
-        Stands::Starts => {
-            let first = widened(table, &word.with(0), width);
-            widened(table, &word.with(1), first)
-        }
+        Stands::Starts => match table.full_behind(word) {
+            Some(_) => greater(width, word.len()),
+            None => {
+                let first = widened(table, &word.with(0), width);
+                widened(table, &word.with(1), first)
+            }
+        },
     }
 }
 
@@ -63,11 +67,14 @@ impl Filling<'_> {
         match self.table.stands(word) {
             Stands::Neither => {}
             Stands::Key => self.cover(entries, word, word.len()),
-            Stands::Starts => {
-                self.put(entries, word, self.entry(entries, word).started());
-                self.fill(entries, &word.with(0));
-                self.fill(entries, &word.with(1));
-            }
+            Stands::Starts => match self.table.full_behind(word) {
+                Some(bits) => self.cover(entries, word, bits),
+                None => {
+                    self.put(entries, word, self.entry(entries, word).started());
+                    self.fill(entries, &word.with(0));
+                    self.fill(entries, &word.with(1));
+                }
+            },
         }
     }
 

@@ -6,6 +6,8 @@ ghost use Rattle.csn_look.specs.NodeSets.{IsLookOf};
 ghost use Rattle.csn_look.specs.LookKeys.{IsKeysOf};
 ghost use Rattle.csn_look.specs.ReachV.{IsReachOf};
 ghost use Rattle.csn_look.specs.FollowV.{IsFollowOf};
+ghost use Rattle.csn_look.specs.Reached.{Reached};
+ghost use Rattle.csn_certify.specs.Conflicts.{Certified};
 ghost use Rattle.csn_certify.specs.Search.{IsSurveyed};
 ghost use Rattle.csn_look.specs.Steps.{HasPartsBelow};
 ghost use Rattle.csn_certify.specs.PickTables.{PickTableV, table_of, HasEntries, IsTableOf, HasNumber, HaveTables, ArePickTables};
@@ -17,7 +19,7 @@ use crate::pick_table::{Filled, KeptTable, PickTable};
 use crate::search::Search;
 use csn_bits::NoMemory;
 use csn_desc::{Desc, Node, Parts};
-use csn_look::{Look, Reach};
+use csn_look::{Look, MOST_WORD, Reach};
 use std::alloc::Global;
 use std::marker::Model;
 
@@ -56,6 +58,7 @@ impl PickTables {
         requires keys { IsKeysOf desc.now look.now }
         requires reached { IsReachOf desc.now reach.now.reached }
         requires follow { IsFollowOf desc.now reach.now.follow }
+        requires certified { Certified desc.now MOST_WORD }
         ensures { IfOk result (ArePickTables desc.now) }
     {
         let known = Search { desc, look, reach };
@@ -101,6 +104,7 @@ impl PickTables {
     ) -> Result<(), NoMemory>
         requires known { IsSurveyed known.now.desc.now known.now.look.now known.now.reach.now }
         requires choice { slice_get known.now.desc.now.nodes node ≡ Some (Choice parts.now) }
+        requires certified { Certified known.now.desc.now MOST_WORD }
         requires before { HaveTables known.now.desc.now (8 * node) self.old }
         ensures { IfOk result (λ done. HaveTables known.now.desc.now (8 * (node + 1)) self.new) }
     {
@@ -126,6 +130,8 @@ impl PickTables {
         requires known { IsSurveyed known.now.desc.now known.now.look.now known.now.reach.now }
         requires choice { slice_get known.now.desc.now.nodes node ≡ Some (Choice parts.now) }
         requires octet { octet ≤ 7 }
+        requires reached { Reached known.now.desc.now node octet }
+        requires certified { Certified known.now.desc.now MOST_WORD }
         requires before { HaveTables known.now.desc.now (8 * node + octet) self.old }
         ensures number { IfOk result (HasNumber known.now.desc.now parts.now octet self.new.tables) }
         ensures numbers { self.new.numbers ≡ self.old.numbers }

@@ -2,6 +2,8 @@
 pub mod MarkFacts
 pub mod MarksCopied
 pub mod MarksHalved
+pub mod FullFacts
+pub mod SizeFacts
 pub mod BlockFacts
 pub mod KeyMarkFacts
 pub mod KeyWords

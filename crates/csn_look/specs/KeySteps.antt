@@ -1,5 +1,6 @@
 -- What the parts of a product of two sets of keys add, for the contracts of the functions that make it.
-use Rattle.std.specs.Prelude.{◌≡◌, ℕ, ◌+◌, ◌*◌, ◌<◌, ◌≤◌, Bool, true, ◌||◌, List, ◌++◌, length, IsTrue}
+use Rattle.std.specs.Prelude.{◌≡◌, ℕ, ◌+◌, ◌*◌, ◌^◌, ◌<◌, ◌≤◌, Bool, true, false, ◌||◌, List, ◌++◌, length, IsTrue}
+use Rattle.std.specs.Int.{bit_at}
 use Rattle.csn_bits.specs.Numbers.{number_of}
 use Rattle.csn_look.specs.KeyMarks.{IsWord, is_marked, place_of, has_key, Adds}
 use Rattle.csn_look.specs.KeyTables.{IsKeyTable}
@@ -14,6 +15,11 @@ pub record Extends (old new : List ℕ) (P : List ℕ → Bool → Type 0) : Typ
 pub record Gains (old new : List ℕ) (P : List ℕ → Bool → Type 0) : Type 0 where
   pub keys : Adds old new P
   pub starts : (at : ℕ) → 16384 ≤ at → is_marked new at ≡ is_marked old at
+
+-- the words of each size whose bit is not set have no marks, where the marks begin at `plane`
+abbrev pub HasSizes : List ℕ → ℕ → ℕ → Type 0
+HasSizes marks plane sizes =
+    (size : ℕ) → size ≤ 12 → bit_at sizes size ≡ 0 → (k : ℕ) → k < 2 ^ size → is_marked marks (plane + (2 ^ size + k)) ≡ false
 
 -- so many marks from a place on are set as well where others are, and no more
 pub record Copies (old new others : List ℕ) (to from count : ℕ) : Type 0 where

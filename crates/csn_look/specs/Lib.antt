@@ -27,3 +27,4 @@ pub mod FollowV
 pub mod Laws
 pub mod Examples
 pub mod Blocks
+pub mod Full

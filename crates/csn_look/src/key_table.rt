@@ -1,4 +1,4 @@
-ghost use Rattle.std.specs.Prelude.{◌≡◌, ◌↔◌, ℕ, ◌<◌, ◌≤◌, ◌%◌, [], length, nat_eq, IsTrue, IfOk, OnErr, slice_index, slice_index_or, refl};
+ghost use Rattle.std.specs.Prelude.{◌≡◌, ◌↔◌, ℕ, ◌<◌, ◌≤◌, ◌%◌, [], length, nat_eq, IsTrue, IfNone, IfOk, IfSome, OnErr, slice_index, slice_index_or, refl};
 ghost use Rattle.std.specs.Cmp.{partial_equiv_from_equiv};
 ghost use Rattle.std.specs.Cmp.Lexicographic.{nat_list_eq_equiv, pointwise};
 ghost use Rattle.std.specs.Hash as fed;
@@ -9,8 +9,10 @@ ghost use Rattle.csn_look.specs.KeyLists.{IsKeyList};
 ghost use Rattle.csn_look.specs.KeyProducts.{AfterKeys};
 ghost use Rattle.csn_look.specs.KeySteps.{Extends};
 ghost use Rattle.csn_look.specs.Blocks.{four, digest_of};
+ghost use Rattle.csn_look.specs.Full.{IsFull};
 
 use crate::blocks::{BLOCK, BLOCKS, block_of, digest, join_marks, keep_block, unpack};
+use crate::full::full_size;
 use crate::key_marks::{MARK_WORDS, MARKS, STARTS, add_key, begins_with_key, is_key, key_mark};
 use crate::key_products::{add_after_size, add_words, words_of};
 use crate::key_set::{KeySet, list_keys};
@@ -180,6 +182,20 @@ impl KeyTable {
         } else {
             Stands::Neither
         }
+    }
+
+    /// How many bits the keys have that go on from the word, where all words of one size that go on from it are keys,
+    /// and no shorter one is.
+    pub fn full_behind(&self, word: &Word) -> Option<u8>
+        ensures full { IfSome result (IsFull self.now word.now) }
+        ensures none { IfNone result ((bits : ℕ) → ¬ IsFull self.now word.now bits) }
+    {
+        let _ = &self.index;
+        let len = word.len();
+        let Some(more) = full_size(self, word.place(), len) else {
+            return None;
+        };
+        Some(len + more)
     }
 
     /// The keys of the set in a list.

@@ -4,6 +4,7 @@
 mod blocks;
 mod follow;
 mod following;
+mod full;
 mod hand_down;
 mod key_marks;
 mod key_products;
@@ -20,6 +21,7 @@ mod marks;
 mod node_sets;
 mod octet_set;
 mod reach;
+mod sizes;
 mod starts;
 mod symbol_set;
 mod table_maker;

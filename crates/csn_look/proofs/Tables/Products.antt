@@ -23,7 +23,7 @@ bits_back (x ∷ a) b h = bits_back a b h.1
 word_back : (a b word : List ℕ) → word ≡ a ++ b → IsWord word → IsBits b
 word_back a b word parts is = bits_back a b (let P : List ℕ → Type 0 = IsBits in subst P parts is.bits)
 
-word_join : (a b : List ℕ) → IsWord a → IsBits b → length a + length b ≤ 12 → IsWord (a ++ b)
+pub word_join : (a b : List ℕ) → IsWord a → IsBits b → length a + length b ≤ 12 → IsWord (a ++ b)
 word_join a b h k short = record { bits = IsBits-append a b h.bits k; short = omega (arith, length-append a b) }
 
 lt_or_le : (m n : ℕ) → (m < n) ⊎ (n ≤ m)

@@ -11,7 +11,7 @@ use Rattle.csn_look.proofs.Tables.KeyMarkFacts.{or_left, or_right}
 use Rattle.csn_look.proofs.Tables.MarkFacts.{bit_of_either, word_joined, word_other}
 use Rattle.csn_look.proofs.Tables.MarksHalved.{either_of, two_halved}
 
-mark_is : (marks : List ℕ) (at k n : ℕ) → n / 64 ≡ at → n % 64 ≡ k → (bit_at (get_or marks at 0) k == 1) ≡ is_marked marks n
+pub mark_is : (marks : List ℕ) (at k n : ℕ) → n / 64 ≡ at → n % 64 ≡ k → (bit_at (get_or marks at 0) k == 1) ≡ is_marked marks n
 mark_is marks at k n e f = ap (λ w. bit_at (get_or marks w 0) k == 1) (sym e) ∙ ap (λ i. bit_at (get_or marks (n / 64) 0) i == 1) (sym f)
 
 -- the marks of three kinds as one number

@@ -2,7 +2,7 @@ use Rattle.std.proofs.Common.{ℕ, ◌∷◌, [], List, length, length-append, s
 use Rattle.csn_look.specs.KeyMarks.{IsWord}
 use Rattle.csn_certify.proofs.TablesMeet.{longer_is_word}
 use Rattle.csn_certify.specs.Filling.{started, IsFilled, with_start}
-use Rattle.csn_certify.proofs.FillingFacts.{begins_itself, fresh_key, fresh_behind, fills_both, filled_none, filled_key, deep_room, deep_behind}
+use Rattle.csn_certify.proofs.FillingFacts.{begins_itself, fresh_key, fresh_behind, fills_both, filled_none, filled_key, filled_full, deep_room, deep_behind}
 use Rattle.csn_certify.proofs.filling.Filling.+fill.Goals as goal
 
 pub fill-requires : goal.fill-requires
@@ -10,24 +10,24 @@ fill-requires t c =
     let marks = c.args.self.now.table.now in
     let word = c.args.word.now in
     let none = fresh_key marks word c.requires.fresh c.in-Starts.ensures.0 in
-    let room = deep_room marks word c.args.self.now.width c.requires.word c.requires.deep none c.in-Starts.ensures.1 in
+    let room = deep_room marks word c.args.self.now.width c.requires.word c.requires.deep none c.in-Starts.ensures.1 c.in-None.ensures.none in
     let most = c.requires.size.short in
     let size = ap length c.with.ensures.value in
     let longer = length-append word (0 ∷ []) in
     let is : IsWord c.with.result = subst (λ (l : List ℕ). IsWord l) (sym c.with.ensures.value) (longer_is_word word 0 (omega arith) (omega (arith, room, most)) c.requires.word) in
     (omega (arith, room, most, size, longer, c.decreases), (c.put.ensures.size, (is, (omega (arith, room, size, longer), (fresh_behind marks word c.with.result 0 c.with.ensures.value none, deep_behind marks word 0 c.args.self.now.width c.with.result c.with.ensures.value c.requires.deep)))))
 
-pub fill-requires-in-Starts : goal.fill-requires-in-Starts
-fill-requires-in-Starts t c =
+pub fill-requires-in-None : goal.fill-requires-in-None
+fill-requires-in-None t c =
     let marks = c.args.self.now.table.now in
     let word = c.args.word.now in
     let none = fresh_key marks word c.requires.fresh c.in-Starts.ensures.0 in
-    let room = deep_room marks word c.args.self.now.width c.requires.word c.requires.deep none c.in-Starts.ensures.1 in
+    let room = deep_room marks word c.args.self.now.width c.requires.word c.requires.deep none c.in-Starts.ensures.1 c.in-None.ensures.none in
     let most = c.requires.size.short in
-    let size = ap length c.with-in-Starts.ensures.value in
+    let size = ap length c.with-in-None.ensures.value in
     let longer = length-append word (1 ∷ []) in
-    let is : IsWord c.with-in-Starts.result = subst (λ (l : List ℕ). IsWord l) (sym c.with-in-Starts.ensures.value) (longer_is_word word 1 (omega arith) (omega (arith, room, most)) c.requires.word) in
-    (omega (arith, room, most, size, longer, c.decreases), (c.fill.ensures.size, (is, (omega (arith, room, size, longer), (fresh_behind marks word c.with-in-Starts.result 1 c.with-in-Starts.ensures.value none, deep_behind marks word 1 c.args.self.now.width c.with-in-Starts.result c.with-in-Starts.ensures.value c.requires.deep)))))
+    let is : IsWord c.with-in-None.result = subst (λ (l : List ℕ). IsWord l) (sym c.with-in-None.ensures.value) (longer_is_word word 1 (omega arith) (omega (arith, room, most)) c.requires.word) in
+    (omega (arith, room, most, size, longer, c.decreases), (c.fill.ensures.size, (is, (omega (arith, room, size, longer), (fresh_behind marks word c.with-in-None.result 1 c.with-in-None.ensures.value none, deep_behind marks word 1 c.args.self.now.width c.with-in-None.result c.with-in-None.ensures.value c.requires.deep)))))
 
 pub returns-in-Neither-clause-fills : goal.returns-in-Neither-clause-fills
 returns-in-Neither-clause-fills t c =
@@ -37,10 +37,15 @@ pub returns-in-Key-clause-fills : goal.returns-in-Key-clause-fills
 returns-in-Key-clause-fills t c =
     filled_key c.args.self.now.table.now c.args.self.now.alternative c.args.word.now c.args.self.now.width c.len.result c.args.entries.now c.cover.new.entries c.len.ensures.count (begins_itself c.args.self.now.table.now c.args.word.now c.in-Key.ensures) c.cover.ensures.fills
 
-pub returns-in-Starts-clause-fills : goal.returns-in-Starts-clause-fills
-returns-in-Starts-clause-fills t c =
+pub returns-in-None-clause-fills : goal.returns-in-None-clause-fills
+returns-in-None-clause-fills t c =
     let marks = c.args.self.now.table.now in
     let j = c.args.self.now.alternative in
-    fills_both c.args.word.now c.args.self.now.width (IsFilled marks j) c.requires.word c.requires.within c.started.result c.with.result c.with-in-Starts.result
-    c.args.entries.now c.put.new.entries c.fill.new.entries c.fill-in-Starts.new.entries c.with.ensures.value c.with-in-Starts.ensures.value
-    (with_start (fresh_key c.args.self.now.table.now c.args.word.now c.requires.fresh c.in-Starts.ensures.0) c.in-Starts.ensures.1 (c.started.ensures ∙ ap started c.entry.ensures)) c.put.ensures.put c.fill.ensures.fills c.fill-in-Starts.ensures.fills
+    fills_both c.args.word.now c.args.self.now.width (IsFilled marks j) c.requires.word c.requires.within c.started.result c.with.result c.with-in-None.result
+    c.args.entries.now c.put.new.entries c.fill.new.entries c.fill-in-None.new.entries c.with.ensures.value c.with-in-None.ensures.value
+    (with_start (fresh_key c.args.self.now.table.now c.args.word.now c.requires.fresh c.in-Starts.ensures.0) c.in-Starts.ensures.1 c.in-None.ensures.none (c.started.ensures ∙ ap started c.entry.ensures)) c.put.ensures.put c.fill.ensures.fills c.fill-in-None.ensures.fills
+
+pub returns-in-Some-clause-fills : goal.returns-in-Some-clause-fills
+returns-in-Some-clause-fills t c =
+    filled_full c.args.self.now.table.now c.args.self.now.alternative c.args.word.now c.args.self.now.width c.in-Some.bits c.args.entries.now c.cover-in-Some.new.entries
+    (fresh_key c.args.self.now.table.now c.args.word.now c.requires.fresh c.in-Starts.ensures.0) c.in-Some.ensures.full c.cover-in-Some.ensures.fills
