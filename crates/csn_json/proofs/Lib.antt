@@ -8,3 +8,5 @@ pub mod Counts
 pub mod Texts
 pub mod Decided
 pub mod WrittenShown
+pub mod Plain
+pub mod Joined

@@ -1,13 +1,13 @@
 -- JSON texts of trees, and bytes that are none. Which bytes are JSON, and which value they are, is what
 -- the JSON library says: UTF-8, at most 127 arrays and objects in one another, each number within the
 -- range of a float, and of the members of an object that share a key the last.
-use Rattle.std.specs.Prelude.{◌≡◌, ◌⊎◌, List, ℕ, Some, IsUtf8}
-use Rattle.csn_desc.specs.TreeV.{TreeV}
+use Rattle.std.specs.Prelude.{◌≡◌, ◌⊎◌, Bool, true, List, [], ◌++◌, ℕ, Some, IsUtf8}
+use Rattle.csn_desc.specs.TreeV.{TreeV, Trees, none, more}
 use Rattle.csn_desc.specs.TreeParts.{HasTreeParts}
 use Rattle.csn_treetext.specs.Fits.{Fits}
 use Rattle.serde_json.specs.Data.{Data}
 use Rattle.serde_json.specs.Read.{read}
-use Rattle.serde_json.specs.Written.{compact_text}
+use Rattle.serde_json.specs.Written.{compact_text, comma_if}
 use Rattle.csn_json.specs.declared.fault.JsonFault.{JsonFault}
 use Rattle.csn_json.specs.declared.fault.JsonFault.TheVariants.{NotJson, NotTree, NoMemory}
 use Rattle.csn_json.specs.JsonTree.{JsonTree, json_of}
@@ -24,6 +24,11 @@ JsonText t text = (value : Data) × IsJson text value × JsonTree t value
 -- the value of the tree with no space, and the members of each object in the order of their keys
 abbrev pub json_text : TreeV → List ℕ
 json_text t = compact_text (json_of t)
+
+-- what is written for the trees of a row, with a comma between, and before the first where `later`
+abbrev pub row_text : Bool → Trees → List ℕ
+row_text later none = []
+row_text later (more t ts) = comma_if later ++ (json_text t ++ row_text true ts)
 
 -- the bytes are the one text that is written for the tree
 pub record WrittenJson (t : TreeV) (text : List ℕ) : Type 0 where

@@ -1,12 +1,16 @@
 -- Laws over JSON texts of trees.
-use Rattle.std.specs.Prelude.{◌≡◌, ◌↔◌, ℕ, List}
-use Rattle.csn_desc.specs.TreeV.{TreeV}
+use Rattle.std.specs.Prelude.{◌≡◌, ◌↔◌, ℕ, false, List, ◌++◌, codes}
+use Rattle.std.specs.Fmt.{decimal}
+use Rattle.csn_bits.specs.Octets.{IsBits}
+use Rattle.csn_bits.specs.Line.{written}
+use Rattle.csn_desc.specs.Label.{IsLabel}
+use Rattle.csn_desc.specs.TreeV.{TreeV, bits, row, alt, named, Trees}
 use Rattle.serde_json.specs.Data.{Data}
 use Rattle.csn_json.specs.declared.fault.JsonFault.{JsonFault}
 use Rattle.csn_json.specs.declared.fault.JsonFault.TheVariants.{NoMemory}
 use Rattle.csn_treetext.specs.Place.{TreeText}
 use Rattle.csn_json.specs.JsonTree.{JsonTree}
-use Rattle.csn_json.specs.JsonText.{JsonText, WrittenJson, IsFaultOf, Decided}
+use Rattle.csn_json.specs.JsonText.{JsonText, WrittenJson, IsFaultOf, Decided, json_text, row_text}
 
 -- one value shows a tree
 abbrev pub TreesHaveOneValue : Type 0
@@ -35,3 +39,15 @@ WrittenIsShown = (t : TreeV) (text : List ℕ) → WrittenJson t text → JsonTe
 -- a tree has a JSON value exactly where it has a text of the plain form
 abbrev pub TreeTextsShareTrees : Type 0
 TreeTextsShareTrees = (t : TreeV) → ((value : Data) × JsonTree t value) ↔ ((text : List ℕ) × TreeText t text)
+
+-- what is written for a tree, by what is written for the trees in it: block lines and labels stand in their quotes as
+-- they are
+pub record TextsAreJoined : Type 0 where
+  pub leaf : (b : List ℕ) → IsBits b → json_text (bits b) ≡ codes "\"" ++ (written b ++ codes "\"")
+  pub rows : (ts : Trees) → json_text (row ts) ≡ codes "[" ++ (row_text false ts ++ codes "]")
+  pub alternative :
+      (j : ℕ) (t : TreeV)
+      → json_text (alt j t) ≡ codes "{\"alt\":" ++ (decimal j ++ (codes ",\"tree\":" ++ (json_text t ++ codes "}")))
+  pub labelled :
+      (l : List ℕ) (t : TreeV) → IsLabel l
+      → json_text (named l t) ≡ codes "{\"label\":\"" ++ (l ++ (codes "\",\"tree\":" ++ (json_text t ++ codes "}")))

@@ -1,6 +1,6 @@
 //! Laws over trees as JSON, each the contract of a function that does nothing.
 
-ghost use Rattle.csn_json.specs.Laws.{TreesHaveOneValue, ValuesHaveOneTree, TextsAreDecided, TextsHaveOneTree, TextsAreNotRefused, TreeTextsShareTrees, WrittenIsShown};
+ghost use Rattle.csn_json.specs.Laws.{TreesHaveOneValue, ValuesHaveOneTree, TextsAreDecided, TextsHaveOneTree, TextsAreJoined, TextsAreNotRefused, TreeTextsShareTrees, WrittenIsShown};
 
 /// A tree has one value, a value shows one tree, and so does a text.
 pub fn texts_have_one_tree()
@@ -33,4 +33,9 @@ pub fn written_is_shown()
 /// A tree can be shown as JSON exactly where it has a text of the plain form.
 pub fn plain_texts_share_trees()
     ensures { TreeTextsShareTrees }
+{}
+
+/// What is written for a tree is joined of what is written for the trees in it.
+pub fn texts_are_joined()
+    ensures { TextsAreJoined }
 {}

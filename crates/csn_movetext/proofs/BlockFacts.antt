@@ -5,6 +5,8 @@ use Rattle.std.proofs.lemmas.List.{take-append-le}
 use Rattle.csn_desc.specs.declared.moves.Move.{Move}
 use Rattle.csn_desc.specs.Nodes.{DescV}
 use Rattle.csn_desc.specs.TreeV.{TreeV}
+use Rattle.csn_desc.specs.TreeParts.{HasTreeParts}
+use Rattle.csn_treetext.specs.Fits.{Fits}
 use Rattle.csn_desc.specs.Follows.{NFollow, IsPlace}
 use Rattle.csn_desc.specs.Formed.{IsDescription}
 use Rattle.csn_desc.specs.Laws.{PrefixesAreFollowed, StringsAreFollowed, MeaningsAreBits}
@@ -17,13 +19,15 @@ use Rattle.csn_judge.specs.declared.verdict.Verdict.TheVariants as verdict
 use Rattle.csn_judge.specs.declared.verdict.Judged.{Judged}
 use Rattle.csn_judge.specs.declared.verdict.Judged.TheVariants as judged
 use Rattle.csn_judge.proofs.JudgingFacts.{place_stays, not_followed}
-use Rattle.csn_treetext.specs.declared.version.Version.TheVariants.{Second}
-use Rattle.csn_treetext.specs.Text.{text_of}
+use Rattle.csn_json.specs.Laws.{TextsAreJoined}
 use Rattle.csn_movetext.specs.declared.fault.Fed.{Fed}
 use Rattle.csn_movetext.specs.declared.fault.Fed.TheVariants.{Going, Refused, NoMemory}
 use Rattle.csn_movetext.specs.declared.fault.BlockFault.TheVariants as fault
 use Rattle.csn_movetext.specs.declared.fault.BlockFault.{BlockFault}
-use Rattle.csn_movetext.specs.Openings.{opening_in, AreOpenings}
+use Rattle.csn_movetext.specs.declared.form.TreeForm.{TreeForm}
+use Rattle.csn_movetext.specs.declared.form.TreeForm.TheVariants.{Text, Json}
+use Rattle.csn_movetext.specs.Forms.{IsShown, text_in}
+use Rattle.csn_movetext.specs.Openings.{OpeningsV, opening_in, HasOpenings}
 use Rattle.csn_movetext.specs.Writing.{ready}
 use Rattle.csn_movetext.specs.Kept.{Extends}
 use Rattle.csn_movetext.specs.Track.{TrackV, Writes}
@@ -34,7 +38,7 @@ use Rattle.csn_movetext.proofs.TreeParts.{node_parts}
 use Rattle.csn_movetext.proofs.Followed.{same_openings, extends, followed, tells-then, nothing_shown, all_written}
 
 -- no bits so far
-pub writes_none : (j : JudgeV) (openings : List (List ℕ)) (before : List ℕ) → JudgesFor j [] [] → opened j ≡ [] → WritesFor (stands j (nothing openings before) Going before) []
+pub writes_none : (j : JudgeV) (openings : OpeningsV) (before : List ℕ) → JudgesFor j [] [] → opened j ≡ [] → WritesFor (stands j (nothing openings before) Going before) []
 writes_none j openings before for none = writes_on [] refl for (tells_none none refl)
 
 -- ---- what stays, whatever is judged
@@ -85,7 +89,7 @@ module _ (old new : JudgeV) (before after : TrackV) (front : List ℕ) (more : L
   feeds_on same kept judges b (writes_on moves going for told) =
       let on = judges b moves for in
       let T : DescV → Type 0 = λ d. Tells d Writes [] (moves ++ on.made) (opened new) (nothing after.openings front) after in
-      let O : List (List ℕ) → Type 0 = λ l. Tells old.desc Writes [] (moves ++ on.made) (opened new) (nothing l front) after in
+      let O : OpeningsV → Type 0 = λ l. Tells old.desc Writes [] (moves ++ on.made) (opened new) (nothing l front) after in
       record {
         writes = writes_on (moves ++ on.made) refl on.judges (subst T (sym same) (subst O (sym kept) (tells-then old.desc told on.told)));
         followed = on.followed;
@@ -159,6 +163,11 @@ feeds_still prefixes d more NoMemory is other = wanting_still d more is
 
 -- ---- at the end of a block
 
+-- a tree that fits is shown by its text in a form
+pub shown : (form : TreeForm) (t : TreeV) → Fits t → HasTreeParts t → IsShown form t (text_in form t)
+shown Text t fits parts = record { fits = fits; parts = parts; spelled = refl }
+shown Json t fits parts = record { fits = fits; parts = parts; spelled = refl }
+
 pub ends_refused : StringsAreFollowed → (d : BlockV) (place : ℕ) → d.answer ≡ Refused place → Ends d (Err (fault.Refused place))
 ends_refused strings d place is b (writes_on moves going for told) = absurd (cc)
 ends_refused strings d place is b (writes_no_more before refusal at small) =
@@ -192,34 +201,31 @@ module _ (j : JudgeV) (before after : TrackV) (front : List ℕ) where
   few_bits going few (judges_on stack done none seen cut stands for goes unread) = omega (arith, few, seen)
   few_bits going few (judges_no_more place refused at small) = let clash : None ≡ Some place = sym going ∙ refused in absurd (cc)
 
-  pub ends_text : MeaningsAreBits → IsDescription j.desc → HasOneTree j.desc → AreOpenings j.desc (opening_in before.openings) → j.refused ≡ None → j.seen ≤ 524288
+  pub ends_text : TextsAreJoined → MeaningsAreBits → IsDescription j.desc → HasOneTree j.desc → HasOpenings j.desc before.openings → j.refused ≡ None → j.seen ≤ 524288
       → after.refused ≡ false → EndSays judged.Ok → Ends (stands j before Going front) (Ok after.kept.text)
-  ends_text are_bits is one are none few going judges b (writes_no_more other refusal at small) = absurd (cc)
-  ends_text are_bits is one are none few going judges b (writes_on moves on for told) =
+  ends_text joined are_bits is one are none few going judges b (writes_no_more other refusal at small) = absurd (cc)
+  ends_text joined are_bits is one are none few going judges b (writes_on moves on for told) =
       let string = judges b moves for in
       let tree : TreeV = string.block.tree in
       let all = tells-then j.desc told string.told in
-      let text : List ℕ = text_of Second tree in
-      let shown = followed j.desc [] tt all going (ready front false) (ready (front ++ text) true) (nothing_shown before.openings front)
-      (block_writes j.desc (opening_in before.openings) are front false string.block.means string.block.walks) in (
+      let text : List ℕ = text_in before.openings.form tree in
+      let written = followed j.desc [] tt all going (ready front false) (ready (front ++ text) true) (nothing_shown before.openings front)
+      (block_writes joined before.openings.form j.desc (opening_in before.openings) are_bits are front false string.block.means string.block.walks) in (
         text,
-        all_written after (front ++ text) true shown,
+        all_written after (front ++ text) true written,
         record {
           tree = tree;
           means = string.block.means;
           only = λ other there. one b other tree there string.block.means;
-          spelled = record {
-            fits = tree_fits j.desc is b tree string.block.means;
-            parts = node_parts j.desc are.labels are_bits string.block.means (few_bits none few for);
-            spelled = refl;
-          };
+          spelled = shown before.openings.form tree (tree_fits j.desc is b tree string.block.means)
+              (node_parts j.desc are.labels are_bits string.block.means (few_bits none few for));
         },
       )
 
 -- ---- a block that comes at once
 
 pub whole_text : (old new : BlockV) (more : List ℕ) (fed : Fed) (out : List ℕ) → WritesFor old [] → Continues old new more fed → (fed ≡ NoMemory → ⊥) → Ends new (Ok out)
-    → AddsText new.desc more new.before out
+    → AddsText new.form new.desc more new.before out
 whole_text old new more Going out none fed there ends = ends more (fed [] none).writes
 whole_text old new more (Refused place) out none fed there ends = ends more (fed [] none).writes
 whole_text old new more NoMemory out none fed there ends = absurd (there refl)

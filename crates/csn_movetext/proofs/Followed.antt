@@ -8,7 +8,8 @@ use Rattle.csn_desc.specs.declared.node.Node.{Node}
 use Rattle.csn_desc.specs.Nodes.{DescV}
 use Rattle.csn_judge.specs.Told.{Tells, tells_none, tells_enter, tells_bit, tells_leave}
 use Rattle.csn_movetext.specs.WithNodes.{with_nodes, inside, with_node}
-use Rattle.csn_movetext.specs.Openings.{opening_in}
+use Rattle.csn_movetext.specs.declared.form.TreeForm.{TreeForm}
+use Rattle.csn_movetext.specs.Openings.{OpeningsV, opening_in}
 use Rattle.csn_movetext.specs.Writing.{WritingV, ready, behind, written_by}
 use Rattle.csn_movetext.specs.Kept.{begun, IsFront, Extends}
 use Rattle.csn_movetext.specs.Track.{TrackV, Shown, Writes}
@@ -58,15 +59,15 @@ module _ (d : DescV) where
   -- the text goes on by one move, and then by the others
   abbrev GoesOn : TrackV → TrackV → List Node → List Move → Type 0
   GoesOn old new nodes moves =
-      (w u : WritingV) → Shown old w → written_by (opening_in old.openings) w (with_nodes d nodes moves) ≡ Some u → Shown new u
+      (w u : WritingV) → Shown old w → written_by old.openings.form (opening_in old.openings) w (with_nodes d nodes moves) ≡ Some u → Shown new u
 
   one_move :
       (old next new : TrackV) (move : Move) (node : Node) (nodes : List Node) (moves : List Move) → Writes old move node next → next.refused ≡ false → GoesOn next new nodes moves
-      → (w u : WritingV) → Shown old w → option_and_then (λ x. written_by (opening_in old.openings) x (with_nodes d nodes moves)) (behind (opening_in old.openings) move node w) ≡ Some u → Shown new u
+      → (w u : WritingV) → Shown old w → option_and_then (λ x. written_by old.openings.form (opening_in old.openings) x (with_nodes d nodes moves)) (behind old.openings.form (opening_in old.openings) move node w) ≡ Some u → Shown new u
   one_move old next new move node nodes moves writes going later w u shown e =
-      let g = goes_on (behind (opening_in old.openings) move node w) (λ x. written_by (opening_in old.openings) x (with_nodes d nodes moves)) u e in
+      let g = goes_on (behind old.openings.form (opening_in old.openings) move node w) (λ x. written_by old.openings.form (opening_in old.openings) x (with_nodes d nodes moves)) u e in
       later g.next u (writes.goes_on going w g.next shown g.first)
-      (ap (λ l. written_by (opening_in l) g.next (with_nodes d nodes moves)) writes.same_openings ∙ g.later)
+      (ap (λ l. written_by l.form (opening_in l) g.next (with_nodes d nodes moves)) writes.same_openings ∙ g.later)
 
   pub followed :
       {around others : List ℕ} {moves : List Move} {old new : TrackV} (nodes : List Node) → AreNodes around nodes → Tells d Writes around moves others old new → new.refused ≡ false
@@ -75,8 +76,8 @@ module _ (d : DescV) where
       let same : w ≡ u = cc in
       subst (λ t. Shown t u) (sym new_is) (subst (λ x. Shown old x) same shown)
   followed {old = old} {new = new} nodes are (tells_enter {i = i} {moves = moves} node next at writes tells) going w u shown e =
-      let with_it : written_by (opening_in old.openings) w (with_node (Enter i) (Some node) (with_nodes d (node ∷ nodes) moves)) ≡ Some u =
-      sym (ap (λ o. written_by (opening_in old.openings) w (with_node (Enter i) o (with_nodes d (inside o nodes) moves))) at) ∙ e in
+      let with_it : written_by old.openings.form (opening_in old.openings) w (with_node (Enter i) (Some node) (with_nodes d (node ∷ nodes) moves)) ≡ Some u =
+      sym (ap (λ o. written_by old.openings.form (opening_in old.openings) w (with_node (Enter i) o (with_nodes d (inside o nodes) moves))) at) ∙ e in
       one_move old next new (Enter i) node (node ∷ nodes) moves writes (going_before tells going) (followed (node ∷ nodes) (at, are) tells going) w u shown with_it
   followed [] are (tells_bit node next at writes tells) going w u shown e = absurd are
   followed {old = old} {new = new} (n ∷ nodes) are (tells_bit {bit = bit} {moves = moves} node next at writes tells) going w u shown e =
@@ -103,7 +104,7 @@ module _ (d : DescV) where
 
 -- ---- at both ends
 
-pub nothing_shown : (openings : List (List ℕ)) (before : List ℕ) → Shown (nothing openings before) (ready before false)
+pub nothing_shown : (openings : OpeningsV) (before : List ℕ) → Shown (nothing openings before) (ready before false)
 nothing_shown openings before =
     record {
       before = ready before false;
@@ -127,9 +128,9 @@ first_none : (a b : List ℕ) → [] ≡ a ++ b → a ≡ []
 first_none [] b e = refl
 first_none (x ∷ a) b e = absurd (cc)
 
-nothing_ahead : (long : Bool) (front back : List ℕ) → front ≡ [] → back ≡ [] → IsFront long front back → begun long front ≡ []
-nothing_ahead false front back none none_held is = refl
-nothing_ahead true front back none none_held is = absurd (omega (arith, is, ap length none, ap length none_held))
+nothing_ahead : (form : TreeForm) (long : Bool) (front back : List ℕ) → front ≡ [] → back ≡ [] → IsFront long front back → begun form long front ≡ []
+nothing_ahead form false front back none none_held is = refl
+nothing_ahead form true front back none none_held is = absurd (omega (arith, is, ap length none, ap length none_held))
 
 second_none : (a b : List ℕ) → [] ≡ a ++ b → b ≡ []
 second_none [] b e = sym e
@@ -143,6 +144,6 @@ all_written t text left s =
     let same : text ≡ s.before.text = ap (λ (w : WritingV). w.text) s.with_pending in
     let cut : [] ≡ s.shows.front ++ s.shows.back = sym none ∙ s.shows.cut in
     s.shows.written
-    ∙ ap (λ l. s.before.text ++ l) (nothing_ahead t.kept.long s.shows.front s.shows.back (first_none s.shows.front s.shows.back cut) (second_none s.shows.front s.shows.back cut) s.shows.written_ahead)
+    ∙ ap (λ l. s.before.text ++ l) (nothing_ahead t.openings.form t.kept.long s.shows.front s.shows.back (first_none s.shows.front s.shows.back cut) (second_none s.shows.front s.shows.back cut) s.shows.written_ahead)
     ∙ append-nil s.before.text
     ∙ sym same

@@ -14,7 +14,8 @@ use Rattle.csn_desc.proofs.Numbering.{span_inside, span_parts, part_from}
 use Rattle.csn_movetext.specs.declared.openings.Place.{Place}
 use Rattle.csn_movetext.specs.Pool.{bytes_at, IsWithin}
 use Rattle.csn_movetext.specs.Numbers.{AreNumbers}
-use Rattle.csn_movetext.specs.Openings.{opening_of, opening_in, number_at, HasLabel, AreOpenings}
+use Rattle.csn_movetext.specs.declared.form.TreeForm.{TreeForm}
+use Rattle.csn_movetext.specs.Openings.{OpeningsV, opening_of, number_at, HasLabel, HasOpenings}
 use Rattle.csn_movetext.proofs.NumberFacts.{parts_within}
 
 -- ---- the pool
@@ -78,15 +79,15 @@ pushed_within pool more new places place are same first last i p at =
 -- ---- the openings of nodes
 
 -- the first nodes have their openings, and their labels are labels
-pub record AreBegun (d : DescV) (numbers : List (Option ℕ)) (upto : ℕ) (openings : List (List ℕ)) : Type 0 where
+pub record AreBegun (form : TreeForm) (d : DescV) (numbers : List (Option ℕ)) (upto : ℕ) (openings : List (List ℕ)) : Type 0 where
   pub many : length openings ≡ upto
   pub opened :
       (i : ℕ) (number : Option ℕ) (n : Node) → i < upto → slice_get numbers i ≡ Some number → slice_get d.nodes i ≡ Some n
-      → slice_get openings i ≡ Some (opening_of number n)
+      → slice_get openings i ≡ Some (opening_of form number n)
   pub labelled : (i : ℕ) (n : Node) → i < upto → slice_get d.nodes i ≡ Some n → HasLabel n
 
-pub begun_none : (d : DescV) (numbers : List (Option ℕ)) → AreBegun d numbers 0 []
-begun_none d numbers =
+pub begun_none : (form : TreeForm) (d : DescV) (numbers : List (Option ℕ)) → AreBegun form d numbers 0 []
+begun_none form d numbers =
     record {
       many = refl;
       opened = λ i number n small. absurd (omega (arith, small));
@@ -103,15 +104,15 @@ slice_get-last [] x = refl
 slice_get-last (y ∷ xs) x = slice_get-last xs x
 
 pub begun_next :
-    (d : DescV) (numbers : List (Option ℕ)) (k : ℕ) (number : Option ℕ) (n : Node) (old new : List (List ℕ)) → slice_get numbers k ≡ Some number → slice_get d.nodes k ≡ Some n
-    → HasLabel n → new ≡ old ++ opening_of number n ∷ [] → AreBegun d numbers k old → AreBegun d numbers (k + 1) new
-begun_next d numbers k number n old new given at label same are =
-    let P : List (List ℕ) → Type 0 = λ l. AreBegun d numbers (k + 1) l in
+    (form : TreeForm) (d : DescV) (numbers : List (Option ℕ)) (k : ℕ) (number : Option ℕ) (n : Node) (old new : List (List ℕ)) → slice_get numbers k ≡ Some number → slice_get d.nodes k ≡ Some n
+    → HasLabel n → new ≡ old ++ opening_of form number n ∷ [] → AreBegun form d numbers k old → AreBegun form d numbers (k + 1) new
+begun_next form d numbers k number n old new given at label same are =
+    let P : List (List ℕ) → Type 0 = λ l. AreBegun form d numbers (k + 1) l in
     subst P (sym same)
     (record {
-      many = length-append old (opening_of number n ∷ []) ∙ omega (arith, are.many);
+      many = length-append old (opening_of form number n ∷ []) ∙ omega (arith, are.many);
       opened = λ i other m small here there. elim (cases_lt i k) [
-        | inl low ↦ slice_get-before old (opening_of number n) i (omega (arith, low, are.many)) ∙ are.opened i other m low here there
+        | inl low ↦ slice_get-before old (opening_of form number n) i (omega (arith, low, are.many)) ∙ are.opened i other m low here there
         | inr high ↦
             let last : i ≡ k = omega (arith, small, high) in
             let place : i ≡ length old = omega (arith, last, are.many) in
@@ -119,10 +120,10 @@ begun_next d numbers k number n old new given at label same are =
             let one_node : Some n ≡ Some m = sym at ∙ ap (λ x. slice_get d.nodes x) (sym last) ∙ there in
             let number_same : number ≡ other = cc in
             let node_same : n ≡ m = cc in
-            ap (λ x. slice_get (old ++ opening_of number n ∷ []) x) place
-            ∙ slice_get-last old (opening_of number n)
-            ∙ ap (λ x. Some (opening_of x n)) number_same
-            ∙ ap (λ x. Some (opening_of other x)) node_same
+            ap (λ x. slice_get (old ++ opening_of form number n ∷ []) x) place
+            ∙ slice_get-last old (opening_of form number n)
+            ∙ ap (λ x. Some (opening_of form x n)) number_same
+            ∙ ap (λ x. Some (opening_of form other x)) node_same
       ];
       labelled = λ i m small there. elim (cases_lt i k) [
         | inl low ↦ are.labelled i m low there
@@ -195,7 +196,7 @@ module _ (d : DescV) (is : IsDescription d) (numbers : List (Option ℕ)) (are :
       let low = part_from d.nodes k 0 (span_parts d.nodes a.there s.span) a.part in
       absurd (omega (arith, low))
 
-  pub are_openings : (openings : List (List ℕ)) → AreBegun d numbers (length d.nodes) openings → AreOpenings d (opening_in openings)
+  pub are_openings : (openings : OpeningsV) → AreBegun openings.form d numbers (length d.nodes) openings.texts → HasOpenings d openings
   are_openings openings begun =
       record {
         parts = λ c j i n m at get here.

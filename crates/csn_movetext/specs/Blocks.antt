@@ -12,18 +12,20 @@ use Rattle.csn_judge.specs.Judging.{JudgeV, JudgesFor, opened}
 use Rattle.csn_judge.specs.Told.{Tells}
 use Rattle.csn_judge.specs.declared.verdict.Verdict.{Verdict}
 use Rattle.csn_judge.specs.declared.verdict.Verdict.TheVariants as verdict
-use Rattle.csn_treetext.specs.Place.{TreeText}
 use Rattle.csn_movetext.specs.declared.block.BlockText.TheInside.{Inside}
+use Rattle.csn_movetext.specs.declared.form.TreeForm.{TreeForm}
 use Rattle.csn_movetext.specs.declared.fault.Fed.{Fed}
 use Rattle.csn_movetext.specs.declared.fault.Fed.TheVariants.{Going, Refused, NoMemory}
 use Rattle.csn_movetext.specs.declared.fault.BlockFault.{BlockFault}
 use Rattle.csn_movetext.specs.declared.fault.BlockFault.TheVariants as fault
-use Rattle.csn_movetext.specs.Openings.{opening_in, AreOpenings}
+use Rattle.csn_movetext.specs.Forms.{IsShown}
+use Rattle.csn_movetext.specs.Openings.{OpeningsV, HasOpenings}
 use Rattle.csn_movetext.specs.Track.{TrackV, Writes}
 
--- the description, how many bits have come, the last answer, the bytes before the text of the block, the judge, and
--- the track
+-- the form, the description, how many bits have come, the last answer, the bytes before the text of the block, the
+-- judge, and the track
 pub record BlockV : Type 0 where
+  pub form : TreeForm
   pub desc : DescV
   pub seen : ℕ
   pub answer : Fed
@@ -33,7 +35,15 @@ pub record BlockV : Type 0 where
 
 abbrev pub stands : JudgeV → TrackV → Fed → List ℕ → BlockV
 stands j track answer before =
-    record { desc = j.desc; seen = j.seen; answer = answer; before = before; judge = j; track = track }
+    record {
+      form = track.openings.form;
+      desc = j.desc;
+      seen = j.seen;
+      answer = answer;
+      before = before;
+      judge = j;
+      track = track;
+    }
 
 abbrev pub block_of : Inside → BlockV
 block_of b = stands b.judge b.track b.answer (take b.start b.track.kept.text)
@@ -67,7 +77,7 @@ pub record IsBlockText (b : Inside) : Type 0 where
   pub answer_is : IsAnswer b.answer b.judge
   pub judges : JudgesSome b.answer b.judge
   pub few : b.judge.seen ≤ 524288
-  pub openings : AreOpenings b.judge.desc (opening_in b.track.openings)
+  pub openings : HasOpenings b.judge.desc b.track.openings
   pub started : b.start ≤ length b.track.kept.text
 
 -- the steps that are paid for by the bits so far and not taken yet: the judge's
@@ -75,7 +85,7 @@ abbrev pub credit : BlockV → ℕ
 credit b = judge.credit b.judge
 
 -- nothing of a tree is written behind these bytes
-abbrev pub nothing : List (List ℕ) → List ℕ → TrackV
+abbrev pub nothing : OpeningsV → List ℕ → TrackV
 nothing openings before =
     record {
       openings = openings;
@@ -115,12 +125,12 @@ Continues old new more Going = (b : List ℕ) → WritesFor old b → IsFollowed
 Continues old new more (Refused place) = (b : List ℕ) → WritesFor old b → IsRefused old new b more place
 Continues old new more NoMemory = (b : List ℕ) → WritesFor old b → NFollow old.desc 0 0 [] (b ++ more)
 
--- bits that are a string: these bytes are the text of their tree, and they have no other
-pub record IsTextOfBlock (d : DescV) (b text : List ℕ) : Type 0 where
+-- bits that are a string: these bytes are the text of their tree in a form, and they have no other tree
+pub record IsTextOfBlock (form : TreeForm) (d : DescV) (b text : List ℕ) : Type 0 where
   pub tree : TreeV
   pub means : NMeans d 0 0 [] b tree
   pub only : (other : TreeV) → NMeans d 0 0 [] b other → other ≡ tree
-  pub spelled : TreeText tree text
+  pub spelled : IsShown form tree text
 
 -- bits that have no tree: the place is theirs
 pub record IsNoString (d : DescV) (b : List ℕ) (place : ℕ) : Type 0 where
@@ -128,8 +138,8 @@ pub record IsNoString (d : DescV) (b : List ℕ) (place : ℕ) : Type 0 where
   pub no_tree : (tree : TreeV) → ¬ NMeans d 0 0 [] b tree
 
 -- behind these bytes stands the text of the tree
-abbrev pub AddsText : DescV → List ℕ → List ℕ → List ℕ → Type 0
-AddsText d b before new = (text : List ℕ) × (new ≡ before ++ text) × IsTextOfBlock d b text
+abbrev pub AddsText : TreeForm → DescV → List ℕ → List ℕ → List ℕ → Type 0
+AddsText form d b before new = (text : List ℕ) × (new ≡ before ++ text) × IsTextOfBlock form d b text
 
 -- why bits have no text. Where memory was wanting, they can be followed
 abbrev pub IsFaultOf : DescV → List ℕ → BlockFault → Type 0
@@ -138,5 +148,5 @@ IsFaultOf d b fault.NoMemory = NFollow d 0 0 [] b
 
 -- at the end of a block, for all bits that it stood for: their text stands behind the bytes before
 abbrev pub Ends : BlockV → Result (List ℕ) BlockFault → Type 0
-Ends w (Ok bytes) = (b : List ℕ) → WritesFor w b → AddsText w.desc b w.before bytes
+Ends w (Ok bytes) = (b : List ℕ) → WritesFor w b → AddsText w.form w.desc b w.before bytes
 Ends w (Err why) = (b : List ℕ) → WritesFor w b → IsFaultOf w.desc b why

@@ -1,16 +1,18 @@
 -- How a text that is being written is kept: what is written, and the last bits of the leaf that is open as a number.
 -- (This project's own choice.)
-use Rattle.std.specs.Prelude.{◌≡◌, ℕ, ◌+◌, ◌%◌, ◌<◌, Bool, true, false, List, [], ◌∷◌, ◌++◌, length}
+use Rattle.std.specs.Prelude.{◌≡◌, ℕ, ◌+◌, ◌%◌, ◌<◌, Bool, true, false, List, [], ◌++◌, length}
 use Rattle.hex.specs.Hex.{encode_upper}
 use Rattle.csn_bits.specs.Octets.{IsBits, octets_of}
 use Rattle.csn_bits.specs.Numbers.{number_of}
+use Rattle.csn_movetext.specs.declared.form.TreeForm.{TreeForm}
 use Rattle.csn_movetext.specs.declared.writing.Writing.{Writing}
+use Rattle.csn_movetext.specs.Forms.{octets_sign}
 use Rattle.csn_movetext.specs.Writing.{WritingV}
 
 -- what is written ahead of a leaf that has more than 64 bits, where these are its first ones
-abbrev pub begun : Bool → List ℕ → List ℕ
-begun false front = []
-begun true front = 120 ∷ encode_upper (octets_of front)
+abbrev pub begun : TreeForm → Bool → List ℕ → List ℕ
+begun form false front = []
+begun form true front = octets_sign form ++ encode_upper (octets_of front)
 
 -- bits are written ahead only where there are more than 64
 abbrev pub IsFront : Bool → List ℕ → List ℕ → Type 0
@@ -30,13 +32,13 @@ abbrev pub kept_of : Writing → KeptV
 kept_of s = record { text = s.out.items; left = s.left; long = s.long; held = s.held; bits = s.bits }
 
 -- the bits of the open leaf are those that are written ahead, whole octets, and the held ones behind them
-pub record Shows (s : KeptV) (w : WritingV) : Type 0 where
+pub record Shows (form : TreeForm) (s : KeptV) (w : WritingV) : Type 0 where
   pub front : List ℕ
   pub back : List ℕ
   pub cut : w.gathered ≡ front ++ back
   pub octets : length front % 8 ≡ 0
   pub written_ahead : IsFront s.long front back
-  pub written : s.text ≡ w.text ++ begun s.long front
+  pub written : s.text ≡ w.text ++ begun form s.long front
   pub count : s.held ≡ length back
   pub number : s.bits ≡ number_of back
   pub front_bits : IsBits front
@@ -55,10 +57,10 @@ pub record Flushed (before text b : List ℕ) (held bits : ℕ) : Type 0 where
   pub front_bits : IsBits front
   pub back_bits : IsBits back
 
--- `x` stands before the first octets of a leaf
-abbrev pub sign : Bool → List ℕ
-sign true = []
-sign false = 120 ∷ []
+-- what is written before octets of a leaf, where others are written ahead or not
+abbrev pub sign : TreeForm → Bool → List ℕ
+sign form true = []
+sign form false = octets_sign form
 
 -- some bytes more stand behind a text
 abbrev pub Extends : List ℕ → List ℕ → Type 0

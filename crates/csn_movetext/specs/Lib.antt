@@ -1,3 +1,4 @@
+pub mod Forms
 pub mod WithNodes
 pub mod Openings
 pub mod Numbers

@@ -1,18 +1,21 @@
--- What each node of a description writes of the text of its tree where it begins. (This project's own choice, as the
--- text is.)
+-- What each node of a description writes of its tree where it begins, in each form. (This project's own choice, as the
+-- forms are.)
 use Rattle.std.specs.Prelude.{◌≡◌, refl, ℕ, ◌*◌, nat_le, ◌&&◌, if◌then◌else◌, List, [], ◌∷◌, ◌++◌, slice_get, codes, Option, Some, None, unwrap_or}
-use Rattle.std.specs.Fmt.{decimal, digits}
+use Rattle.std.specs.Fmt.{digits}
 use Rattle.csn_desc.specs.declared.node.Count.TheVariants.{Fixed}
 use Rattle.csn_desc.specs.declared.node.Node.{Node}
-use Rattle.csn_desc.specs.declared.node.Node.TheVariants.{Lits, Spare, Null, Field, Seq, Choice, Times, Many, Trunc, Named}
+use Rattle.csn_desc.specs.declared.node.Node.TheVariants.{Lits, Spare, Pad, Null, Field, Rest, Seq, Choice, Times, Many, Trunc, Named}
 use Rattle.csn_desc.specs.Label.{IsLabel}
 use Rattle.csn_desc.specs.Nodes.{DescV, parts_of}
 use Rattle.csn_treetext.specs.declared.bounds.TheConstants.{MOST_SHORT}
+use Rattle.csn_movetext.specs.declared.form.TreeForm.{TreeForm}
+use Rattle.csn_movetext.specs.declared.form.TreeForm.TheVariants.{Text, Json}
+use Rattle.csn_movetext.specs.Forms.{leaf_opening, label_text, mark_text, nothing_text}
 
--- `#k:` before the alternative with the number k
-abbrev pub number_text : Option ℕ → List ℕ
-number_text None = []
-number_text (Some k) = 35 ∷ (decimal k ++ 58 ∷ [])
+-- the number of an alternative, which stands before what it writes
+abbrev pub number_text : TreeForm → Option ℕ → List ℕ
+number_text form None = []
+number_text form (Some k) = mark_text form k
 
 -- a width of 1 to 64 bits can be written before the bits are there
 abbrev pub told_width : ℕ → Option ℕ
@@ -24,67 +27,77 @@ leaf_width (Spare symbol) = told_width 1
 leaf_width (Field unit (Fixed n)) = told_width (unit * n)
 leaf_width _ = None
 
--- `w'` before the bits of a leaf of that width
-abbrev pub width_text : Option ℕ → List ℕ
-width_text None = []
-width_text (Some width) = decimal width ++ 39 ∷ []
-
--- what a node writes where it begins: a literal and no bits all of it, a row its `[`, a label and its `=`, and a leaf
--- of constant width the width
-abbrev pub node_opening : Node → List ℕ
-node_opening (Lits run) = 46 ∷ []
-node_opening Null = 46 ∷ []
-node_opening (Seq parts) = 91 ∷ []
-node_opening (Times count part) = 91 ∷ []
-node_opening (Many part) = 91 ∷ []
-node_opening (Trunc parts) = 91 ∷ []
-node_opening (Named label part) = 60 ∷ (label ++ 62 ∷ 61 ∷ [])
-node_opening (Spare symbol) = width_text (leaf_width (Spare symbol))
-node_opening (Field unit count) = width_text (leaf_width (Field unit count))
-node_opening _ = []
+-- what a node writes where it begins: a literal and no bits all of it, a row its `[`, a label, and a leaf what stands
+-- before its bits
+abbrev pub node_opening : TreeForm → Node → List ℕ
+node_opening form (Lits run) = nothing_text form
+node_opening form Null = nothing_text form
+node_opening form (Seq parts) = 91 ∷ []
+node_opening form (Times count part) = 91 ∷ []
+node_opening form (Many part) = 91 ∷ []
+node_opening form (Trunc parts) = 91 ∷ []
+node_opening form (Named label part) = label_text form label
+node_opening form (Spare symbol) = leaf_opening form (leaf_width (Spare symbol))
+node_opening form Pad = leaf_opening form None
+node_opening form (Field unit count) = leaf_opening form (leaf_width (Field unit count))
+node_opening form Rest = leaf_opening form None
+node_opening form _ = []
 
 -- with its number before it, where it is an alternative
-abbrev pub opening_of : Option ℕ → Node → List ℕ
-opening_of number n = number_text number ++ node_opening n
+abbrev pub opening_of : TreeForm → Option ℕ → Node → List ℕ
+opening_of form number n = number_text form number ++ node_opening form n
 
 -- the number that the part j of a node has among its alternatives
 abbrev pub number_at : Node → ℕ → Option ℕ
 number_at (Choice parts) j = Some j
 number_at _ j = None
 
--- what a list of openings has for node i
-abbrev pub opening_in : List (List ℕ) → ℕ → List ℕ
-opening_in openings i = unwrap_or (slice_get openings i) []
+-- what the nodes write in a form
+pub record OpeningsV : Type 0 where
+  pub form : TreeForm
+  pub texts : List (List ℕ)
+
+abbrev pub opening_in : OpeningsV → ℕ → List ℕ
+opening_in openings i = unwrap_or (slice_get openings.texts i) []
 
 -- the label of a node, where it has one, is a label
 abbrev pub HasLabel : Node → Type 0
 HasLabel (Named label part) = IsLabel label
 HasLabel _ = Unit {0}
 
--- the openings of the nodes of a description, whose labels are labels: `#k:` stands before what an alternative writes
-pub record AreOpenings (d : DescV) (openings : ℕ → List ℕ) : Type 0 where
+-- the openings of the nodes of a description, whose labels are labels: its number stands before what an alternative
+-- writes
+pub record AreOpenings (form : TreeForm) (d : DescV) (openings : ℕ → List ℕ) : Type 0 where
   pub parts :
       (c j i : ℕ) (n m : Node) → slice_get d.nodes c ≡ Some n → slice_get (parts_of n) j ≡ Some i → slice_get d.nodes i ≡ Some m
-      → openings i ≡ opening_of (number_at n j) m
-  pub root : (m : Node) → slice_get d.nodes 0 ≡ Some m → openings 0 ≡ opening_of None m
+      → openings i ≡ opening_of form (number_at n j) m
+  pub root : (m : Node) → slice_get d.nodes 0 ≡ Some m → openings 0 ≡ opening_of form None m
   pub labels : (i part : ℕ) (label : List ℕ) → slice_get d.nodes i ≡ Some (Named label part) → IsLabel label
+
+-- what the nodes write are their openings in the form
+abbrev pub HasOpenings : DescV → OpeningsV → Type 0
+HasOpenings d openings = AreOpenings openings.form d (opening_in openings)
 
 -- ---- examples
 
--- the second alternative of a choice, a labelled part
-pub labelled_alternative : opening_of (Some 1) (Named (codes "RB Id") 7) ≡ codes "#1:<RB Id>="
+-- the second alternative of a choice, a labelled part, in both forms
+pub labelled_alternative : opening_of Text (Some 1) (Named (codes "RB Id") 7) ≡ codes "#1:<RB Id>="
 unfolding digits
 labelled_alternative = refl
 
+pub labelled_in_json : opening_of Json (Some 1) (Named (codes "RB Id") 7) ≡ codes "{\"alt\":1,\"tree\":{\"label\":\"RB Id\",\"tree\":"
+unfolding digits
+labelled_in_json = refl
+
 -- a field of ten bits, and one of two octets
-pub field_of_ten : opening_of None (Field 1 (Fixed 10)) ≡ codes "10'"
+pub field_of_ten : opening_of Text None (Field 1 (Fixed 10)) ≡ codes "10'"
 unfolding digits
 field_of_ten = refl
 
-pub field_of_octets : opening_of None (Field 8 (Fixed 2)) ≡ codes "16'"
+pub field_of_octets : opening_of Text None (Field 8 (Fixed 2)) ≡ codes "16'"
 unfolding digits
 field_of_octets = refl
 
 -- of 65 bits nothing is written ahead
-pub long_field : opening_of None (Field 1 (Fixed 65)) ≡ []
+pub long_field : opening_of Text None (Field 1 (Fixed 65)) ≡ []
 long_field = refl

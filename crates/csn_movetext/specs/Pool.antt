@@ -2,13 +2,14 @@
 use Rattle.std.specs.Prelude.{◌≡◌, ℕ, ◌-◌, ◌≤◌, List, length, take, drop, map, slice_get, Some}
 use Rattle.csn_movetext.specs.declared.openings.Place.{Place}
 use Rattle.csn_movetext.specs.declared.openings.Openings.TheInside.{Inside}
+use Rattle.csn_movetext.specs.Openings.{OpeningsV}
 
 -- the bytes at a place
 abbrev pub bytes_at : List ℕ → Place → List ℕ
 bytes_at pool place = take (place.end - place.start) (drop place.start pool)
 
-abbrev pub openings_of : Inside → List (List ℕ)
-openings_of o = map (bytes_at o.pool.items) o.places.items
+abbrev pub openings_of : Inside → OpeningsV
+openings_of o = record { form = o.form; texts = map (bytes_at o.pool.items) o.places.items }
 
 -- each place lies in the bytes
 abbrev pub IsWithin : List ℕ → Place → Type 0

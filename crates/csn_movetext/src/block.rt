@@ -1,6 +1,6 @@
 ghost use Rattle.std.specs.Prelude.{◌≡◌, ℕ, ◌+◌, ◌*◌, ◌≤◌, List, [], length, take, Ok, Err, IfOk, IfErr, IsErrAnd};
 ghost use Rattle.csn_bits.specs.Octets.{bits_of_octets};
-ghost use Rattle.csn_movetext.specs.Openings.{AreOpenings, opening_in};
+ghost use Rattle.csn_movetext.specs.Openings.{HasOpenings};
 ghost use Rattle.csn_movetext.specs.Blocks.{WritesFor, credit, Continues, Ends};
 
 use crate::fault::{BlockFault, Fed, Unwritten};
@@ -11,8 +11,8 @@ use csn_judge::{Judge, Judged};
 use std::marker::Model;
 use std::sync::ledger::Ledger;
 
-/// Writes the text of the tree that a block has by a certified description, behind some bytes, while the block comes in
-/// pieces.
+/// Writes the tree that a block has by a certified description, in the form of the openings and behind some bytes, while
+/// the block comes in pieces.
 #[derive(Drop)]
 pub struct BlockText<'a> {
     judge: Judge<'a>,
@@ -36,8 +36,9 @@ impl<'a> Model for BlockText<'a> {
 impl<'a> BlockText<'a> {
     /// No bits so far, behind these bytes.
     pub fn new(plan: &'a Plan, openings: &'a Openings, out: Vec<u8>) -> BlockText<'a>
-        requires { AreOpenings plan.now (opening_in openings.now) }
+        requires { HasOpenings plan.now openings.now }
         ensures writes { WritesFor result [] }
+        ensures form { result.form ≡ openings.now.form }
         ensures desc { result.desc ≡ plan.now }
         ensures before { result.before ≡ out.items }
         ensures seen { result.seen ≡ 0 }
@@ -70,6 +71,7 @@ impl<'a> BlockText<'a> {
         requires few { self.old.seen + bits ≤ 524288 }
         ensures writes { Continues self.old self.new (take bits (bits_of_octets piece.now)) result }
         ensures answer { self.new.answer ≡ result }
+        ensures form { self.new.form ≡ self.old.form }
         ensures desc { self.new.desc ≡ self.old.desc }
         ensures before { self.new.before ≡ self.old.before }
         ensures seen { self.old.answer ≡ Fed.Going → self.new.seen ≡ self.old.seen + bits }
@@ -99,6 +101,7 @@ impl<'a> BlockText<'a> {
     {
         csn_desc::laws::strings_are_followed();
         csn_desc::laws::meanings_are_bits();
+        csn_json::laws::texts_are_joined();
         let BlockText {
             judge,
             mut track,

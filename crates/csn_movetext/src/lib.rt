@@ -1,11 +1,12 @@
-//! The text of a tree, written as the moves of its block come: no tree is made, and no memory is taken but for the
-//! text.
+//! A tree as text or as JSON, written as the moves of its block come: no tree is made, and no memory is taken but for
+//! what is written.
 #![tactic(auto)]
 
 mod alternatives;
 mod block;
 mod digits;
 mod fault;
+mod form;
 pub mod laws;
 mod openings;
 mod track;
@@ -14,5 +15,6 @@ mod writing;
 
 pub use block::BlockText;
 pub use fault::{BlockFault, Fed, Unwritten};
+pub use form::TreeForm;
 pub use openings::Openings;
 pub use write::write_block;

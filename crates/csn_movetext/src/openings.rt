@@ -1,19 +1,24 @@
 ghost use Rattle.std.specs.Prelude.{◌≡◌, ◌<◌, ◌++◌, ◌∷◌, [], length, slice_get, Some, OnOk, IfOk};
-ghost use Rattle.csn_movetext.specs.Openings.{AreOpenings, HasLabel, leaf_width, node_opening, opening_in, opening_of};
+ghost use Rattle.csn_desc.specs.Label.{IsLabel};
+ghost use Rattle.csn_movetext.specs.Forms.{label_text, leaf_opening, mark_text, nothing_text};
+ghost use Rattle.csn_movetext.specs.Openings.{HasLabel, HasOpenings, node_opening, opening_in, opening_of};
 
 use crate::alternatives::alternatives;
 use crate::digits::push_number;
+use crate::form::TreeForm;
 use crate::writing::leaf_width;
 use csn_bits::NoMemory;
 use csn_certify::{Plan, Steps};
-use csn_desc::{Count, Node};
+use csn_desc::{Label, Node};
 use std::alloc::Global;
 use std::marker::{Brand, Model};
 use std::sync::ledger::{Blank, Ledger};
 
-/// What each node of a plan writes of the text of its tree where it begins. A contract sees the list of these texts.
+/// What each node of a plan writes of its tree in a form where it begins. A contract sees the form, and the list of these
+/// texts.
 #[derive(Drop)]
 pub struct Openings {
+    form: TreeForm,
     pool: Vec<u8>,
     places: Vec<Place>,
 }
@@ -26,10 +31,10 @@ struct Place {
 }
 
 impl Model for Openings {
-    ghost use Rattle.std.specs.Prelude.{List, ℕ};
+    ghost use Rattle.csn_movetext.specs.Openings.{OpeningsV};
     ghost use Rattle.csn_movetext.specs.Pool.{openings_of, ArePlaces};
 
-    ghost Value = { List (List ℕ) };
+    ghost Value = { OpeningsV };
 
     ghost view = { openings_of };
 
@@ -37,11 +42,19 @@ impl Model for Openings {
 }
 
 impl Openings {
-    /// The openings of the nodes of a plan, which are made once with it.
-    pub fn new(alloc: Global, plan: &Plan) -> Result<Openings, NoMemory>
-        ensures { IfOk result (λ openings. AreOpenings plan.now (opening_in openings)) }
+    /// The openings of the nodes of a plan in a form, which are made once with it.
+    pub fn new(alloc: Global, plan: &Plan, form: TreeForm) -> Result<Openings, NoMemory>
+        ensures openings { IfOk result (HasOpenings plan.now) }
+        ensures form { IfOk result (λ openings. openings.form ≡ form) }
     {
-        openings_of_plan::<Brand>(alloc, plan, Blank::new(1))
+        openings_of_plan::<Brand>(alloc, plan, form, Blank::new(1))
+    }
+
+    /// The form.
+    pub(crate) fn form(&self) -> TreeForm
+        ensures { result ≡ self.now.form }
+    {
+        self.form
     }
 
     /// What node `i` writes; nothing where there is no such node.
@@ -58,7 +71,7 @@ impl Openings {
 
     /// One more behind the others.
     fn push(&mut self, opening: &[u8]) -> Result<(), NoMemory>
-        ensures { OnOk result (self.new ≡ self.old ++ opening.now ∷ []) }
+        ensures { OnOk result (self.new ≡ record { form = self.old.form; texts = self.old.texts ++ opening.now ∷ [] }) }
     {
         let start = self.pool.len();
         self.pool.extend_from_slice(opening)?;
@@ -71,16 +84,19 @@ impl Openings {
 fn openings_of_plan<L: Ledger>(
     alloc: Global,
     plan: &Plan,
+    form: TreeForm,
     blank: Blank,
 ) -> Result<Openings, NoMemory>
     requires name { blank.name ≡ L.name }
     requires parts { blank.parts ≡ L.parts }
     requires some { 0 < blank.parts }
-    ensures { IfOk result (λ openings. AreOpenings plan.now (opening_in openings)) }
+    ensures openings { IfOk result (HasOpenings plan.now) }
+    ensures form { IfOk result (λ openings. openings.form ≡ form) }
 {
     let mut steps = Steps::<L>::new(blank);
     let numbers = alternatives(alloc, plan, &mut steps)?;
     let mut openings = Openings {
+        form,
         pool: Vec::new(alloc),
         places: Vec::new(alloc),
     };
@@ -88,45 +104,106 @@ fn openings_of_plan<L: Ledger>(
     for i in 0..plan.len() {
         opening.clear();
         let node = plan.node(i, &mut steps);
-        push_opening(&mut opening, numbers[usize::from(i)], node)?;
+        push_opening(&mut opening, form, numbers[usize::from(i)], node)?;
         openings.push(opening.as_slice())?;
     }
     Ok(openings)
 }
 
 /// Adds what a node writes where it begins, with its number where it is an alternative.
-fn push_opening(out: &mut Vec<u8>, number: Option<u16>, node: &Node) -> Result<(), NoMemory>
-    ensures text { OnOk result (out.new.items ≡ out.old.items ++ opening_of number node.now) }
+fn push_opening(
+    out: &mut Vec<u8>,
+    form: TreeForm,
+    number: Option<u16>,
+    node: &Node,
+) -> Result<(), NoMemory>
+    ensures text { OnOk result (out.new.items ≡ out.old.items ++ opening_of form number node.now) }
     ensures label { OnOk result (HasLabel node.now) }
 {
     if let Some(number) = number {
-        out.push(b'#')?;
-        push_number(out, u64::from(number))?;
-        out.push(b':')?;
+        push_mark(out, form, number)?;
     }
-    push_node(out, node)
+    push_node(out, form, node)
+}
+
+/// Adds the number of an alternative.
+fn push_mark(out: &mut Vec<u8>, form: TreeForm, number: u16) -> Result<(), NoMemory>
+    ensures { OnOk result (out.new.items ≡ out.old.items ++ mark_text form number) }
+{
+    match form {
+        TreeForm::Text => {
+            out.push(b'#')?;
+            push_number(out, u64::from(number))?;
+            out.push(b':')?;
+        }
+        TreeForm::Json => {
+            out.extend_from_slice(b"{\"alt\":")?;
+            push_number(out, u64::from(number))?;
+            out.extend_from_slice(b",\"tree\":")?;
+        }
+    }
+    Ok(())
 }
 
 /// Adds what a node writes where it begins.
-fn push_node(out: &mut Vec<u8>, node: &Node) -> Result<(), NoMemory>
-    ensures text { OnOk result (out.new.items ≡ out.old.items ++ node_opening node.now) }
+fn push_node(out: &mut Vec<u8>, form: TreeForm, node: &Node) -> Result<(), NoMemory>
+    ensures text { OnOk result (out.new.items ≡ out.old.items ++ node_opening form node.now) }
     ensures label { OnOk result (HasLabel node.now) }
 {
     match node {
-        Node::Lits(_) | Node::Null => out.push(b'.')?,
+        Node::Lits(_) | Node::Null => push_nothing(out, form)?,
         Node::Seq(_) | Node::Times { .. } | Node::Many(_) | Node::Trunc(_) => out.push(b'[')?,
-        Node::Named { label, .. } => {
+        Node::Named { label, .. } => push_label(out, form, label)?,
+        Node::Spare(_) | Node::Field { .. } => push_leaf(out, form, leaf_width(node))?,
+        Node::Pad | Node::Rest => push_leaf(out, form, None)?,
+        Node::Choice(_) | Node::Window { .. } => {}
+    }
+    Ok(())
+}
+
+/// Adds all of a literal, or of no bits.
+fn push_nothing(out: &mut Vec<u8>, form: TreeForm) -> Result<(), NoMemory>
+    ensures { OnOk result (out.new.items ≡ out.old.items ++ nothing_text form) }
+{
+    match form {
+        TreeForm::Text => out.push(b'.')?,
+        TreeForm::Json => out.extend_from_slice(b"null")?,
+    }
+    Ok(())
+}
+
+/// Adds a label.
+fn push_label(out: &mut Vec<u8>, form: TreeForm, label: &Label) -> Result<(), NoMemory>
+    ensures text { OnOk result (out.new.items ≡ out.old.items ++ label_text form label.now) }
+    ensures label { OnOk result (IsLabel label.now) }
+{
+    match form {
+        TreeForm::Text => {
             out.push(b'<')?;
             out.extend_from_slice(label.bytes())?;
             out.extend_from_slice(b">=")?;
         }
-        Node::Spare(_) | Node::Field { .. } => {
-            if let Some(width) = leaf_width(node) {
+        TreeForm::Json => {
+            out.extend_from_slice(b"{\"label\":\"")?;
+            out.extend_from_slice(label.bytes())?;
+            out.extend_from_slice(b"\",\"tree\":")?;
+        }
+    }
+    Ok(())
+}
+
+/// Adds what stands before the bits of a leaf, with its width where it is known.
+fn push_leaf(out: &mut Vec<u8>, form: TreeForm, width: Option<u64>) -> Result<(), NoMemory>
+    ensures { OnOk result (out.new.items ≡ out.old.items ++ leaf_opening form width) }
+{
+    match form {
+        TreeForm::Text => {
+            if let Some(width) = width {
                 push_number(out, width)?;
                 out.push(b'\'')?;
             }
         }
-        Node::Pad | Node::Rest | Node::Choice(_) | Node::Window { .. } => {}
+        TreeForm::Json => out.push(b'"')?,
     }
     Ok(())
 }

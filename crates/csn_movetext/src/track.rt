@@ -3,6 +3,7 @@ ghost use Rattle.csn_bits.specs.Numbers.{low_bits};
 ghost use Rattle.csn_movetext.specs.Kept.{Extends, kept_of};
 ghost use Rattle.csn_movetext.specs.Track.{Moves, TookAll};
 
+use crate::form::TreeForm;
 use crate::openings::Openings;
 use crate::writing::Writing;
 use csn_bits::NoMemory;
@@ -10,7 +11,7 @@ use csn_desc::{Move, Node};
 use csn_judge::Track;
 use std::marker::Model;
 
-/// Writes the text of a tree along the moves of its block, while there is memory.
+/// Writes a tree along the moves of its block, while there is memory.
 #[derive(Drop)]
 pub(crate) struct TextTrack<'a> {
     openings: &'a Openings,
@@ -78,7 +79,8 @@ impl<'a> Track for TextTrack<'a> {
             return;
         }
         if count > 0 {
-            self.refused = take_bits(&mut self.writing, number, count, node).is_err();
+            let form = self.openings.form();
+            self.refused = take_bits(&mut self.writing, form, number, count, node).is_err();
         }
     }
 }
@@ -93,22 +95,29 @@ fn write_move(
     ensures moves { OnOk result (Moves openings.now step node.now (kept_of writing.old) (kept_of writing.new)) }
     ensures extends { Extends writing.old.out.items writing.new.out.items }
 {
+    let form = openings.form();
     match step {
-        Move::Enter(number) => writing.enter(openings.get(number)),
+        Move::Enter(number) => writing.enter(form, openings.get(number)),
         Move::Bit(bit) if bit > 1 => Err(NoMemory),
-        Move::Bit(bit) => take_bits(writing, u64::from(bit), 1, node),
-        Move::Leave => writing.leave(node),
+        Move::Bit(bit) => take_bits(writing, form, u64::from(bit), 1, node),
+        Move::Leave => writing.leave(form, node),
     }
 }
 
 // The innermost node takes the last `count` bits of a number. Those of a literal are in no text.
-fn take_bits(writing: &mut Writing, number: u64, count: u32, node: &Node) -> Result<(), NoMemory>
+fn take_bits(
+    writing: &mut Writing,
+    form: TreeForm,
+    number: u64,
+    count: u32,
+    node: &Node,
+) -> Result<(), NoMemory>
     requires few { count ≤ 56 }
-    ensures took { OnOk result (TookAll node.now (low_bits count number) (kept_of writing.old) (kept_of writing.new)) }
+    ensures took { OnOk result (TookAll form node.now (low_bits count number) (kept_of writing.old) (kept_of writing.new)) }
     ensures extends { Extends writing.old.out.items writing.new.out.items }
 {
     match node {
         Node::Lits(_) => Ok(()),
-        _ => writing.take(number, count),
+        _ => writing.take(form, number, count),
     }
 }

@@ -1,15 +1,17 @@
 ghost use Rattle.std.specs.Prelude.{◌≡◌, ◌≤◌};
+ghost use Rattle.csn_movetext.specs.Forms.{gap};
 ghost use Rattle.csn_movetext.specs.Openings.{leaf_width};
 ghost use Rattle.csn_movetext.specs.Told.{IsTold};
 
 use crate::digits::{push_number, push_octet};
+use crate::form::TreeForm;
 use csn_bits::NoMemory;
 use csn_desc::{Count, Node};
 
 /// The most bits of a leaf that is written as one number.
 const MOST_HELD: u32 = 64;
 
-/// The text of a tree while the moves of its block come.
+/// What is written of a tree while the moves of its block come.
 #[derive(Drop)]
 pub(crate) struct Writing {
     pub out: Vec<u8>,
@@ -24,12 +26,12 @@ pub(crate) struct Writing {
 }
 
 impl Writing {
-    ghost use Rattle.std.specs.Prelude.{◌≡◌, ℕ, ◌+◌, ◌*◌, ◌<◌, ◌≤◌, ◌^◌, ◌++◌, List, Option, Some, true, false, length, OnOk};
+    ghost use Rattle.std.specs.Prelude.{◌≡◌, ℕ, ◌+◌, ◌*◌, ◌<◌, ◌≤◌, ◌^◌, ◌++◌, List, Option, Some, true, false, codes, length, OnOk};
     ghost use Rattle.csn_bits.specs.Octets.{IsBits};
     ghost use Rattle.csn_bits.specs.Numbers.{low_bits, number_of};
-    ghost use Rattle.csn_treetext.specs.Text.{leaf_text};
-    ghost use Rattle.csn_treetext.specs.declared.version.Version.TheVariants.{Second};
-    ghost use Rattle.csn_movetext.specs.Writing.{WritingV, entered, shut, passed, closed, left_node, gathering};
+    ghost use Rattle.csn_bits.specs.Line.{written};
+    ghost use Rattle.csn_movetext.specs.Forms.{octets_sign};
+    ghost use Rattle.csn_movetext.specs.Writing.{WritingV, bits_text, entered, has_width, shut, passed, part_left, closed, left_node, gathering};
     ghost use Rattle.csn_movetext.specs.Kept.{KeptV, kept_of, Shows, Flushed, sign, Extends};
 
     /// Nothing of a tree, behind these bytes.
@@ -46,13 +48,13 @@ impl Writing {
     }
 
     /// A node with this opening is entered.
-    pub fn enter(&mut self, opening: &[u8]) -> Result<(), NoMemory>
-        ensures entered { OnOk result ((w next : WritingV) → Shows (kept_of self.old) w → entered opening.now w ≡ Some next
-            → Shows (kept_of self.new) next) }
+    pub fn enter(&mut self, form: TreeForm, opening: &[u8]) -> Result<(), NoMemory>
+        ensures entered { OnOk result ((w next : WritingV) → Shows form (kept_of self.old) w
+            → entered form opening.now w ≡ Some next → Shows form (kept_of self.new) next) }
         ensures extends { Extends self.old.out.items self.new.out.items }
     {
         if self.left {
-            self.out.push(b' ')?;
+            self.out.push(gap(form))?;
             self.left = false;
         }
         self.out.extend_from_slice(opening)?;
@@ -60,15 +62,15 @@ impl Writing {
     }
 
     /// The open leaf takes the last `count` bits of a number.
-    pub fn take(&mut self, number: u64, count: u32) -> Result<(), NoMemory>
+    pub fn take(&mut self, form: TreeForm, number: u64, count: u32) -> Result<(), NoMemory>
         requires few { count ≤ 56 }
-        ensures took { OnOk result ((w : WritingV) → Shows (kept_of self.old) w
-            → Shows (kept_of self.new) (gathering w (low_bits count number))) }
+        ensures took { OnOk result ((w : WritingV) → Shows form (kept_of self.old) w
+            → Shows form (kept_of self.new) (gathering w (low_bits count number))) }
         ensures extends { Extends self.old.out.items self.new.out.items }
     {
         let value = number % (1 << count);
         if self.held + count > MOST_HELD {
-            self.octets()?;
+            self.octets(form)?;
             self.add(value, count);
             return Ok(());
         }
@@ -77,40 +79,51 @@ impl Writing {
     }
 
     /// A node is left.
-    pub fn leave(&mut self, node: &Node) -> Result<(), NoMemory>
-        ensures left_node { OnOk result ((w next : WritingV) → Shows (kept_of self.old) w → left_node node.now w ≡ Some next
-            → Shows (kept_of self.new) next) }
+    pub fn leave(&mut self, form: TreeForm, node: &Node) -> Result<(), NoMemory>
+        ensures left_node { OnOk result ((w next : WritingV) → Shows form (kept_of self.old) w
+            → left_node form node.now w ≡ Some next → Shows form (kept_of self.new) next) }
         ensures extends { Extends self.old.out.items self.new.out.items }
     {
         match node {
-            Node::Seq(_) | Node::Times { .. } | Node::Many(_) | Node::Trunc(_) => self.shut()?,
-            Node::Spare(_) => self.close(true)?,
-            Node::Field { .. } => self.close(is_told(node))?,
-            Node::Pad => self.close(false)?,
-            Node::Rest => self.close(false)?,
-            Node::Lits(_)
-            | Node::Null
-            | Node::Choice(_)
-            | Node::Window { .. }
-            | Node::Named { .. } => self.pass(),
+            Node::Seq(_) | Node::Times { .. } | Node::Many(_) | Node::Trunc(_) => self.shut(b']')?,
+            Node::Spare(_) => self.close(form, true)?,
+            Node::Field { .. } => self.close(form, is_told(node))?,
+            Node::Pad => self.close(form, false)?,
+            Node::Rest => self.close(form, false)?,
+            Node::Choice(_) | Node::Named { .. } => self.leave_part(form)?,
+            Node::Lits(_) | Node::Null | Node::Window { .. } => self.pass(),
         }
         Ok(())
     }
 
-    // A row is left.
-    fn shut(&mut self) -> Result<(), NoMemory>
-        ensures shut { OnOk result ((w next : WritingV) → Shows (kept_of self.old) w → shut w ≡ Some next
-            → Shows (kept_of self.new) next) }
+    // A node is left that writes one byte then.
+    fn shut(&mut self, byte: u8) -> Result<(), NoMemory>
+        ensures shut { OnOk result ((form : TreeForm) (w next : WritingV) → Shows form (kept_of self.old) w
+            → shut byte w ≡ Some next → Shows form (kept_of self.new) next) }
         ensures extends { Extends self.old.out.items self.new.out.items }
     {
-        self.out.push(b']')?;
+        self.out.push(byte)?;
         self.left = true;
+        Ok(())
+    }
+
+    // A node is left whose part has a number or a label.
+    fn leave_part(&mut self, form: TreeForm) -> Result<(), NoMemory>
+        ensures part_left { OnOk result ((w next : WritingV) → Shows form (kept_of self.old) w → part_left form w ≡ Some next
+            → Shows form (kept_of self.new) next) }
+        ensures extends { Extends self.old.out.items self.new.out.items }
+    {
+        match form {
+            TreeForm::Text => self.pass(),
+            TreeForm::Json => self.shut(b'}')?,
+        }
         Ok(())
     }
 
     // A node that writes nothing where it is left.
     fn pass(&mut self)
-        ensures passed { (w next : WritingV) → Shows (kept_of self.old) w → passed w ≡ Some next → Shows (kept_of self.new) next }
+        ensures passed { (form : TreeForm) (w next : WritingV) → Shows form (kept_of self.old) w → passed w ≡ Some next
+            → Shows form (kept_of self.new) next }
         ensures extends { Extends self.old.out.items self.new.out.items }
     {
         self.left = true;
@@ -131,9 +144,9 @@ impl Writing {
         self.held += count;
     }
 
-    // Writes the sign of a leaf of more than 64 bits, where it is not there.
-    fn begin_long(&mut self) -> Result<(), NoMemory>
-        ensures out { OnOk result (self.new.out.items ≡ self.old.out.items ++ sign self.old.long) }
+    // Writes the sign before the octets of a leaf, where they are not begun.
+    fn begin_long(&mut self, form: TreeForm) -> Result<(), NoMemory>
+        ensures out { OnOk result (self.new.out.items ≡ self.old.out.items ++ sign form self.old.long) }
         ensures long { OnOk result (self.new.long ≡ true) }
         ensures held { self.new.held ≡ self.old.held }
         ensures bits { self.new.bits ≡ self.old.bits }
@@ -141,22 +154,25 @@ impl Writing {
         ensures extends { Extends self.old.out.items self.new.out.items }
     {
         if !self.long {
-            self.out.push(b'x')?;
+            match form {
+                TreeForm::Text => self.out.push(b'x')?,
+                TreeForm::Json => {}
+            }
             self.long = true;
         }
         Ok(())
     }
 
     // Writes the whole octets of the held bits.
-    fn octets(&mut self) -> Result<(), NoMemory>
+    fn octets(&mut self, form: TreeForm) -> Result<(), NoMemory>
         ensures flushed { OnOk result ((b : List ℕ) → IsBits b → length b ≡ self.old.held → number_of b ≡ self.old.bits
-            → Flushed (self.old.out.items ++ sign self.old.long) self.new.out.items b self.new.held self.new.bits) }
+            → Flushed (self.old.out.items ++ sign form self.old.long) self.new.out.items b self.new.held self.new.bits) }
         ensures few { OnOk result (self.new.held < 8) }
         ensures long { OnOk result (self.new.long ≡ true) }
         ensures left { self.new.left ≡ self.old.left }
         ensures extends { Extends self.old.out.items self.new.out.items }
     {
-        self.begin_long()?;
+        self.begin_long(form)?;
         while self.held >= 8 {
             self.held -= 8;
             push_octet(&mut self.out, ((self.bits >> self.held) % 256) as u8)?;
@@ -165,14 +181,31 @@ impl Writing {
         Ok(())
     }
 
-    // The open leaf is left. `told` says whether its width is written.
-    fn close(&mut self, told: bool) -> Result<(), NoMemory>
-        ensures closed { OnOk result ((w next : WritingV) (width : Option ℕ) → IsTold width told → Shows (kept_of self.old) w
-            → closed width w ≡ Some next → Shows (kept_of self.new) next) }
+    // The open leaf is left. `told` says whether its width is known.
+    fn close(&mut self, form: TreeForm, told: bool) -> Result<(), NoMemory>
+        ensures closed { OnOk result ((w next : WritingV) (width : Option ℕ) → IsTold width told → Shows form (kept_of self.old) w
+            → closed form width w ≡ Some next → Shows form (kept_of self.new) next) }
+        ensures extends { Extends self.old.out.items self.new.out.items }
+    {
+        match form {
+            TreeForm::Text => self.end_text(told)?,
+            TreeForm::Json => self.end_string()?,
+        }
+        self.left = true;
+        self.long = false;
+        self.held = 0;
+        self.bits = 0;
+        Ok(())
+    }
+
+    // Writes the rest of the text of a leaf.
+    fn end_text(&mut self, told: bool) -> Result<(), NoMemory>
+        ensures text { OnOk result ((w : WritingV) (width : Option ℕ) → IsTold width told → Shows TreeForm.Text (kept_of self.old) w
+            → has_width width w.gathered ≡ true → self.new.out.items ≡ w.text ++ bits_text width w.gathered) }
         ensures extends { Extends self.old.out.items self.new.out.items }
     {
         if self.long {
-            self.close_long()?;
+            self.end_line(TreeForm::Text)?;
         } else if told {
             push_number(&mut self.out, self.bits)?;
         } else if self.held == 0 {
@@ -182,26 +215,47 @@ impl Writing {
             self.out.push(b'\'')?;
             push_number(&mut self.out, self.bits)?;
         }
-        self.left = true;
-        self.long = false;
-        self.held = 0;
-        self.bits = 0;
         Ok(())
     }
 
-    // Writes the rest of a leaf of more than 64 bits.
-    fn close_long(&mut self) -> Result<(), NoMemory>
-        ensures whole { OnOk result ((w : WritingV) → self.old.long ≡ true → Shows (kept_of self.old) w
-            → self.new.out.items ≡ w.text ++ leaf_text Second w.gathered) }
+    // Writes the rest of a leaf's block line, and the quote behind it.
+    fn end_string(&mut self) -> Result<(), NoMemory>
+        ensures string { OnOk result ((w : WritingV) → Shows TreeForm.Json (kept_of self.old) w
+            → self.new.out.items ≡ w.text ++ (written w.gathered ++ codes "\"")) }
         ensures extends { Extends self.old.out.items self.new.out.items }
     {
-        self.octets()?;
+        if self.long || self.held > 0 {
+            self.end_line(TreeForm::Json)?;
+        } else {
+            self.out.push(b'.')?;
+        }
+        self.out.push(b'"')?;
+        Ok(())
+    }
+
+    // Writes the rest of the block line of a leaf, which has bits.
+    fn end_line(&mut self, form: TreeForm) -> Result<(), NoMemory>
+        ensures line { OnOk result ((w : WritingV) → 1 ≤ length w.gathered → Shows form (kept_of self.old) w
+            → self.new.out.items ≡ w.text ++ (octets_sign form ++ written w.gathered)) }
+        ensures extends { Extends self.old.out.items self.new.out.items }
+    {
+        self.octets(form)?;
         if self.held > 0 {
             push_octet(&mut self.out, ((self.bits << (8 - self.held)) % 256) as u8)?;
             self.out.push(b'/')?;
             self.out.push(b'0' + self.held as u8)?;
         }
         Ok(())
+    }
+}
+
+// What stands between nodes.
+fn gap(form: TreeForm) -> u8
+    ensures { result ≡ gap form }
+{
+    match form {
+        TreeForm::Text => b' ',
+        TreeForm::Json => b',',
     }
 }
 

@@ -4,21 +4,20 @@ use Rattle.std.specs.Fmt.{decimal}
 use Rattle.csn_desc.specs.TreeV.{TreeV}
 use Rattle.csn_desc.specs.TreeParts.{HasTreeParts}
 use Rattle.csn_treetext.specs.declared.version.Version.TheVariants.{Second}
-use Rattle.csn_treetext.specs.Text.{text_of}
 use Rattle.csn_treetext.specs.Fits.{Fits}
 use Rattle.csn_json.specs.declared.fault.JsonFault.TheVariants.{NotJson, NotTree}
-use Rattle.csn_json.specs.JsonText.{json_text}
-use Rattle.csn_run.specs.declared.command.TreeForm.{TreeForm}
-use Rattle.csn_run.specs.declared.command.TreeForm.TheVariants.{Text, Json}
+use Rattle.csn_movetext.specs.Forms.{IsShown, text_in}
+use Rattle.csn_movetext.specs.declared.form.TreeForm.{TreeForm}
+use Rattle.csn_movetext.specs.declared.form.TreeForm.TheVariants.{Text, Json}
 use Rattle.csn_run.specs.Known.{Known}
 use Rattle.csn_run.specs.Lines.{is_refusal}
-use Rattle.csn_run.specs.OutLine.{IsShown, IsRead, IsUnread}
+use Rattle.csn_run.specs.OutLine.{IsRead, IsUnread}
 
 -- ---- trees that are shown
 
 pub shown_text : (form : TreeForm) (t : TreeV) → Fits t → HasTreeParts t → (text : List ℕ) × IsShown form t text
-shown_text Text t fits parts = (text_of Second t, record { fits = fits; parts = parts; spelled = refl })
-shown_text Json t fits parts = (json_text t, record { fits = fits; parts = parts; spelled = refl })
+shown_text Text t fits parts = (text_in Text t, record { fits = fits; parts = parts; spelled = refl })
+shown_text Json t fits parts = (text_in Json t, record { fits = fits; parts = parts; spelled = refl })
 
 pub shown_fits : (form : TreeForm) (t : TreeV) (text : List ℕ) → IsShown form t text → Fits t
 shown_fits Text t text is = is.fits
@@ -29,8 +28,8 @@ shown_parts Text t text is = is.parts
 shown_parts Json t text is = is.parts
 
 pub one_shown_text : (form : TreeForm) (t u : TreeV) (text other : List ℕ) → t ≡ u → IsShown form t text → IsShown form u other → text ≡ other
-one_shown_text Text t u text other same is has = is.spelled ∙ ap (text_of Second) same ∙ sym has.spelled
-one_shown_text Json t u text other same is has = is.spelled ∙ ap json_text same ∙ sym has.spelled
+one_shown_text Text t u text other same is has = is.spelled ∙ ap (text_in Text) same ∙ sym has.spelled
+one_shown_text Json t u text other same is has = is.spelled ∙ ap (text_in Json) same ∙ sym has.spelled
 
 -- ---- lines that are read
 

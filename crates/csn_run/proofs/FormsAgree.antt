@@ -8,11 +8,12 @@ use Rattle.csn_desc.specs.declared.reading.Reading.{Reading}
 use Rattle.csn_desc.specs.TreeV.{TreeV}
 use Rattle.csn_grammar.specs.RulesV.{RulesV}
 use Rattle.csn_grammar.specs.Strings.{Strings}
-use Rattle.csn_run.specs.declared.command.TreeForm.{TreeForm}
-use Rattle.csn_run.specs.declared.command.TreeForm.TheVariants.{Text, Json}
+use Rattle.csn_movetext.specs.Forms.{IsShown}
+use Rattle.csn_movetext.specs.declared.form.TreeForm.{TreeForm}
+use Rattle.csn_movetext.specs.declared.form.TreeForm.TheVariants.{Text, Json}
 use Rattle.csn_run.specs.Known.{Known}
 use Rattle.csn_run.specs.Laws.{Tells, FormsAreShownTogether, FormsShowOneTree}
-use Rattle.csn_run.specs.OutLine.{IsShown, shows_block, shows_tree, shows_place, shows_fault, fault_text}
+use Rattle.csn_run.specs.OutLine.{shows_block, shows_tree, shows_place, shows_fault, fault_text}
 use Rattle.csn_run.proofs.FormLemmas.{shown_text, shown_fits, shown_parts}
 use Rattle.csn_run.proofs.ShownLines.{one_tree}
 

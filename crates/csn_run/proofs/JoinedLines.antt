@@ -16,7 +16,7 @@ use Rattle.csn_segment.specs.declared.joined.Joined.{Joined}
 use Rattle.csn_segment.specs.declared.joined.Joined.TheVariants.{Whole, Waiting, Refused}
 use Rattle.csn_segment.specs.Joining.{answer_to}
 use Rattle.csn_segment.specs.Laws.{IsShort}
-use Rattle.csn_run.specs.declared.command.TreeForm.TheVariants.{Text}
+use Rattle.csn_movetext.specs.declared.form.TreeForm.TheVariants.{Text}
 use Rattle.csn_run.specs.Known.{Known}
 use Rattle.csn_run.specs.Compiled.{IsCompiled}
 use Rattle.csn_run.specs.LineState.{LineState}

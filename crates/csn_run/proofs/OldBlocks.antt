@@ -7,7 +7,7 @@ use Rattle.csn_grammar.specs.RulesV.{RulesV}
 use Rattle.csn_grammar.specs.Strings.{Strings}
 use Rattle.csn_compat.specs.Takes.{Takes}
 use Rattle.csn_replay.specs.Watched.{Watched}
-use Rattle.csn_run.specs.declared.command.TreeForm.TheVariants.{Text}
+use Rattle.csn_movetext.specs.declared.form.TreeForm.TheVariants.{Text}
 use Rattle.csn_run.specs.declared.ended.Ended.{Ended}
 use Rattle.csn_run.specs.declared.ended.Ended.TheVariants.{Done}
 use Rattle.csn_run.specs.declared.fault.Fault.{Fault}

@@ -19,7 +19,7 @@ use Rattle.csn_replay.specs.declared.told.Told.{Told}
 use Rattle.csn_replay.specs.declared.told.Told.TheVariants.{Ok}
 use Rattle.csn_replay.specs.Watched.{reports}
 use Rattle.csn_replay.specs.declared.seen.Seen.{Seen}
-use Rattle.csn_run.specs.declared.command.TreeForm.TheVariants.{Text}
+use Rattle.csn_movetext.specs.declared.form.TreeForm.TheVariants.{Text}
 use Rattle.csn_run.specs.Known.{Known}
 use Rattle.csn_run.specs.Compiled.{AreCompiled, IsCompiled}
 use Rattle.csn_run.specs.LineState.{LineState}

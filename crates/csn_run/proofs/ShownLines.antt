@@ -15,9 +15,10 @@ use Rattle.csn_grammar.specs.Shaped.{AreShaped}
 use Rattle.csn_grammar.specs.Strings.{Strings, IsPlace}
 use Rattle.csn_look.specs.declared.word.TheConstants.{MOST_WORD}
 use Rattle.csn_run.specs.Known.{Known}
-use Rattle.csn_run.specs.declared.command.TreeForm.{TreeForm}
+use Rattle.csn_movetext.specs.Forms.{IsShown}
+use Rattle.csn_movetext.specs.declared.form.TreeForm.{TreeForm}
 use Rattle.csn_run.specs.Compiled.{IsCompiled}
-use Rattle.csn_run.specs.OutLine.{IsShown, ShowsBlock, ShowsLine, shows_block, shows_tree, shows_place, shows_fault, fault_text, refusal_text}
+use Rattle.csn_run.specs.OutLine.{ShowsBlock, ShowsLine, shows_block, shows_tree, shows_place, shows_fault, fault_text, refusal_text}
 use Rattle.csn_run.proofs.FormLemmas.{shown_text, one_shown_text}
 use Rattle.csn_run.proofs.MeantParts.{string_parts}
 

@@ -12,7 +12,7 @@ use Rattle.csn_encode.specs.declared.misfit.MisfitWhy.{MisfitWhy}
 use Rattle.csn_encode.specs.Misfits.{IsMisfit}
 use Rattle.csn_encode.specs.Encoding.{HasNoBlock}
 use Rattle.csn_run.specs.Known.{Known}
-use Rattle.csn_run.specs.declared.command.TreeForm.{TreeForm}
+use Rattle.csn_movetext.specs.declared.form.TreeForm.{TreeForm}
 use Rattle.csn_run.specs.Compiled.{IsCompiled}
 use Rattle.csn_run.specs.OutLine.{IsRead, WritesLine, writes_block, writes_misfit, writes_bad, misfit_text}
 use Rattle.csn_run.proofs.FormLemmas.{read_parts, read_or_not, one_read, not_unread, one_unread}

@@ -8,7 +8,7 @@ use Rattle.csn_desc.specs.declared.reading.Reading.{Reading}
 use Rattle.csn_desc.specs.declared.reading.Reading.TheVariants.{Received, Sent}
 use Rattle.csn_soak.specs.declared.soaking.TheConstants.{MOST_BLOCKS}
 use Rattle.csn_run.specs.declared.command.RuleWords.{RuleWords}
-use Rattle.csn_run.specs.declared.command.TreeForm.TheVariants.{Text, Json}
+use Rattle.csn_movetext.specs.declared.form.TreeForm.TheVariants.{Text, Json}
 use Rattle.csn_run.specs.declared.command.RuleCommand.{RuleCommand}
 use Rattle.csn_run.specs.declared.command.RuleCommand.TheVariants.{Show, Write}
 use Rattle.csn_run.specs.declared.command.RuleReport.{RuleReport}

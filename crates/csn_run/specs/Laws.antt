@@ -14,8 +14,8 @@ use Rattle.csn_certmake.specs.Claimed.{IsCertificateText}
 use Rattle.csn_compat.specs.Takes.{Takes}
 use Rattle.csn_treetext.specs.Place.{TreeText}
 use Rattle.csn_json.specs.JsonText.{JsonText}
-use Rattle.csn_run.specs.declared.command.TreeForm.{TreeForm}
-use Rattle.csn_run.specs.declared.command.TreeForm.TheVariants.{Text, Json}
+use Rattle.csn_movetext.specs.declared.form.TreeForm.{TreeForm}
+use Rattle.csn_movetext.specs.declared.form.TreeForm.TheVariants.{Text, Json}
 use Rattle.csn_run.specs.declared.command.RuleReport.TheVariants.{Certificate}
 use Rattle.csn_run.specs.declared.ended.Ended.{Ended}
 use Rattle.csn_run.specs.LineState.{LineState}

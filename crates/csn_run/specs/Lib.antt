@@ -12,3 +12,4 @@ pub mod Job
 pub mod Planned
 pub mod Known
 pub mod Laws
+pub mod TextPlans

@@ -13,10 +13,6 @@ use Rattle.csn_catalogue.specs.Entries.{all_entries, entry_root}
 use Rattle.csn_desc.specs.declared.reading.Reading.{Reading}
 use Rattle.csn_desc.specs.Nodes.{DescV}
 use Rattle.csn_desc.specs.TreeV.{TreeV}
-use Rattle.csn_desc.specs.Means.{NMeans}
-use Rattle.csn_desc.specs.Follows as desc
-use Rattle.csn_decode.specs.declared.verdict.DecodeFault.{DecodeFault}
-use Rattle.csn_decode.specs.declared.verdict.DecodeFault.TheVariants.{Refused, NoMemory as no_memory}
 use Rattle.csn_encode.specs.declared.misfit.MisfitWhy.{MisfitWhy}
 use Rattle.csn_encode.specs.declared.misfit.MisfitWhy.TheVariants.{WrongKind, WrongLabel, WrongCount, WrongWidth, WrongSpare, NoSuchAlternative, WindowLength, TooManyBits as past_the_limit}
 use Rattle.csn_encode.specs.Misfits.{IsMisfit}
@@ -35,9 +31,10 @@ use Rattle.csn_treetext.specs.declared.version.Version.TheVariants.{First, Secon
 use Rattle.csn_treetext.specs.Place.{TreeText, OldText, IsFaultPlace}
 use Rattle.csn_json.specs.declared.fault.JsonFault.{JsonFault}
 use Rattle.csn_json.specs.declared.fault.JsonFault.TheVariants.{NotJson, NotTree, NoMemory as no_memory_for_json}
-use Rattle.csn_json.specs.JsonText.{JsonText, WrittenJson, IsFaultOf as IsJsonFault}
-use Rattle.csn_run.specs.declared.command.TreeForm.{TreeForm}
-use Rattle.csn_run.specs.declared.command.TreeForm.TheVariants.{Text, Json}
+use Rattle.csn_json.specs.JsonText.{JsonText, IsFaultOf as IsJsonFault}
+use Rattle.csn_movetext.specs.declared.form.TreeForm.{TreeForm}
+use Rattle.csn_movetext.specs.declared.form.TreeForm.TheVariants.{Text, Json}
+use Rattle.csn_movetext.specs.Forms.{IsShown}
 use Rattle.csn_run.specs.declared.command.RuleCommand.{RuleCommand}
 use Rattle.csn_run.specs.declared.lines.TheConstants.{LINE_FEED}
 use Rattle.csn_run.specs.declared.command.RuleCommand.TheVariants.{Show, Write}
@@ -58,11 +55,6 @@ abbrev pub refusal_text : ℕ → List ℕ → List ℕ
 refusal_text place block =
     codes "no " ++ (decimal place ++ (if nat_lt place (length block) then codes " bit" else codes " ended"))
 
--- the text that is written for a tree in a form
-abbrev pub IsShown : TreeForm → TreeV → List ℕ → Type 0
-IsShown Text = TreeText
-IsShown Json = WrittenJson
-
 -- a block is answered by its tree in a form, or by the place up to which its bits can be followed
 pub data ShowsBlock (form : TreeForm) (rules : RulesV) (name : List ℕ) (reading : Reading) (block answer : List ℕ) : Type 0 where
   shows_tree : (t : TreeV) (text : List ℕ) → Strings rules name reading block t → IsShown form t text
@@ -77,11 +69,6 @@ pub data ShowsLine (form : TreeForm) (rules : RulesV) (name : List ℕ) (reading
       → ShowsLine form rules name reading line answer
   shows_fault : (fault : BitsFault) → IsLineFault line fault → answer ≡ fault_text fault
       → ShowsLine form rules name reading line answer
-
--- why a block has no tree by a description: it has none, and this place; for want of memory nothing is known
-abbrev pub IsRefusalOf : DescV → List ℕ → DecodeFault → Type 0
-IsRefusalOf d block (Refused place) = desc.IsPlace d block place × ((t : TreeV) → ¬ NMeans d 0 0 [] block t)
-IsRefusalOf d block no_memory = Unit {0}
 
 -- steps down a tree: `/` and a number for each
 abbrev pub steps_text : List ℕ → List ℕ

@@ -31,7 +31,7 @@ use Rattle.csn_run.specs.Command.{IsReport, IsAnswer, IsMigrate, IsSegments, IsS
 use Rattle.csn_run.specs.Compiled.{RuleOf, rule_of_entry, IsCompiled, HasNoPlan, certified_line, soaked_line, AreCompiled, Compares, Verifies}
 use Rattle.csn_run.specs.Lines.{between_feeds}
 use Rattle.csn_run.specs.LineState.{LineState, nothing_yet, closing, AnswersAlone}
-use Rattle.csn_run.specs.declared.command.TreeForm.TheVariants.{Text}
+use Rattle.csn_movetext.specs.declared.form.TreeForm.TheVariants.{Text}
 use Rattle.csn_run.specs.OutLine.{AnswersByRule, MigratesLine, Replays, Segments, ShowsLine}
 use Rattle.csn_run.specs.Progress.{Answers, EndsIn, KeepsUp, StopsAfter}
 

@@ -7,6 +7,7 @@ ghost use Rattle.csn_run.specs.Command.{AreRuleWords, IsArgument, IsCommand, IsC
 
 use csn_catalogue::{Entry, entry_of};
 use csn_desc::Reading;
+use csn_movetext::TreeForm;
 use csn_soak::MOST_BLOCKS;
 use itoa::Buffer;
 use std::convert::AsStr;
@@ -31,13 +32,6 @@ pub struct PairWords<'a> {
     /// The name of the rule in both.
     pub name: &'a str,
     pub reading: Reading,
-}
-
-/// The form in which trees stand in lines.
-#[derive(Clone, Copy)]
-pub enum TreeForm {
-    Text,
-    Json,
 }
 
 /// What a command tells of a rule without the input.

@@ -6,11 +6,12 @@ ghost use Rattle.csn_run.specs.Lines.{is_refusal, is_refused};
 ghost use Rattle.csn_run.specs.OutLine.{CaptureLineBy, entry_place, replaying_by};
 
 use crate::lines::{Answered, LINE_FEED, LineCommand};
-use crate::show::{answer_fault, show_text};
+use crate::show::{answer_fault, show_block};
 use crate::text_plan::TextPlan;
 use csn_bits::Bits;
 use csn_catalogue::Entry;
 use csn_io::MemSink;
+use csn_movetext::TreeForm;
 use csn_replay::{Seen, Told, Watcher, close, read_capture, tell};
 use std::alloc::{AllocError, Global};
 use std::mem;
@@ -70,7 +71,7 @@ fn capture_line(
         }
     };
     let plan = &plans[place_of(capture.entry)];
-    let answered = show_text(plan, &bits, out)?;
+    let answered = show_block(plan, TreeForm::Text, &bits, out)?;
     let seen = Seen {
         entry: capture.entry,
         bits: bits.len(),

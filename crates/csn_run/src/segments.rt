@@ -7,9 +7,10 @@ ghost use Rattle.csn_run.specs.OutLine.{AnswersJoinedBy, JoinsLine, joining, seg
 
 use crate::answers::push_number;
 use crate::lines::{Answered, LINE_FEED, LineCommand};
-use crate::show::{answer_fault, show_text};
+use crate::show::{answer_fault, show_block};
 use crate::text_plan::TextPlan;
 use csn_bits::Bits;
+use csn_movetext::TreeForm;
 use csn_segment::{Joined, Joiner, SegmentWhy};
 use std::alloc::{AllocError, Global};
 
@@ -53,7 +54,7 @@ fn answer_joined(
             let Ok(bits) = Bits::from_octets(alloc, octets, OCTET * octets.len() as u32) else {
                 return Err(AllocError);
             };
-            show_text(plan, &bits, out)
+            show_block(plan, TreeForm::Text, &bits, out)
         }
         Joined::Waiting { rti } => {
             out.extend_from_slice(b"wait ")?;

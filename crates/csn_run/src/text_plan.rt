@@ -1,40 +1,44 @@
-//! A plan by which blocks are shown as texts.
+//! A plan by which blocks are shown as trees, in either form.
 
 ghost use Rattle.std.specs.Prelude.{◌≡◌, ◌<◌, IfOk, IfErr, OnOk, OnErr};
 ghost use Rattle.csn_movetext.specs.Blocks.{AddsText, IsFaultOf};
+ghost use Rattle.csn_movetext.specs.Openings.{HasOpenings};
 
 use csn_bits::{Bits, NoMemory};
 use csn_certify::{Plan, Steps};
-use csn_movetext::{BlockFault, Openings, write_block};
+use csn_movetext::{BlockFault, Openings, TreeForm, write_block};
 use std::alloc::Global;
 use std::marker::{Brand, Model};
 use std::sync::ledger::{Blank, Ledger};
 
-/// The plan of a rule, with what each of its nodes writes of a text where it begins. A contract sees the description.
+/// The plan of a rule, with what each of its nodes writes of a tree in each form where it begins. A contract sees the
+/// description.
 #[derive(Drop)]
 pub struct TextPlan {
     plan: Plan,
-    openings: Openings,
+    text: Openings,
+    json: Openings,
 }
 
 impl Model for TextPlan {
     ghost use Rattle.csn_desc.specs.Nodes.{DescV};
-    ghost use Rattle.csn_movetext.specs.Openings.{AreOpenings, opening_in};
+    ghost use Rattle.csn_run.specs.TextPlans.{AreInForms};
 
     ghost Value = { DescV };
 
     ghost view = { λ p. p.plan };
 
-    ghost invariant = { λ p. AreOpenings p.plan (opening_in p.openings) };
+    ghost invariant = { λ p. AreInForms p.plan p.text p.json };
 }
 
 impl TextPlan {
-    /// Makes the openings of the nodes of a plan.
+    /// Makes the openings of the nodes of a plan in both forms.
     pub fn new(alloc: Global, plan: Plan) -> Result<TextPlan, NoMemory>
         ensures { IfOk result (λ made. made ≡ plan) }
     {
-        let openings = Openings::new(alloc, &plan)?;
-        Ok(TextPlan { plan, openings })
+        let text = Openings::new(alloc, &plan, TreeForm::Text)?;
+        let json = Openings::new(alloc, &plan, TreeForm::Json)?;
+        Ok(TextPlan { plan, text, json })
     }
 
     /// The plan alone.
@@ -48,22 +52,38 @@ impl TextPlan {
     pub fn into_plan(self) -> Plan
         ensures { result ≡ self }
     {
-        let TextPlan { plan, openings: _ } = self;
+        let TextPlan {
+            plan,
+            text: _,
+            json: _,
+        } = self;
         plan
     }
 
-    /// Adds the text of the tree that a block has. Where there is none, nothing is added.
-    pub fn write(&self, bits: &Bits, out: &mut Vec<u8>) -> Result<(), BlockFault>
-        ensures text { OnOk result (AddsText self.now bits.now out.old.items out.new.items) }
+    /// What the nodes write in a form.
+    fn openings(&self, form: TreeForm) -> &Openings
+        ensures openings { HasOpenings self.now result.now }
+        ensures form { result.now.form ≡ form }
+    {
+        match form {
+            TreeForm::Text => &self.text,
+            TreeForm::Json => &self.json,
+        }
+    }
+
+    /// Adds the tree that a block has, in a form. Where there is none, nothing is added.
+    pub fn write(&self, form: TreeForm, bits: &Bits, out: &mut Vec<u8>) -> Result<(), BlockFault>
+        ensures text { OnOk result (AddsText form self.now bits.now out.old.items out.new.items) }
         ensures why { IfErr result (IsFaultOf self.now bits.now) }
         ensures same { OnErr result (out.new.items ≡ out.old.items) }
     {
-        self.write_counted::<Brand>(bits, out, Blank::new(1))
+        self.write_counted::<Brand>(form, bits, out, Blank::new(1))
     }
 
     // The same with a counter of steps.
     fn write_counted<L: Ledger>(
         &self,
+        form: TreeForm,
         bits: &Bits,
         out: &mut Vec<u8>,
         blank: Blank,
@@ -71,14 +91,14 @@ impl TextPlan {
         requires name { blank.name ≡ L.name }
         requires parts { blank.parts ≡ L.parts }
         requires some { 0 < blank.parts }
-        ensures text { OnOk result (AddsText self.now bits.now out.old.items out.new.items) }
+        ensures text { OnOk result (AddsText form self.now bits.now out.old.items out.new.items) }
         ensures why { IfErr result (IsFaultOf self.now bits.now) }
         ensures same { OnErr result (out.new.items ≡ out.old.items) }
     {
         let mut steps = Steps::<L>::new(blank);
         write_block(
             &self.plan,
-            &self.openings,
+            self.openings(form),
             bits.octets(),
             bits.len(),
             out,

@@ -11,7 +11,6 @@ ghost use Rattle.csn_run.specs.Lines.{is_refusal, is_refused};
 ghost use Rattle.csn_run.specs.OutLine.{AnswersBy, Reads, TellsJsonFault, misfit_text, path_text, why_text};
 
 use crate::answers::{answer_text_fault, push_number, push_numbers};
-use crate::command::TreeForm;
 use crate::laws::known;
 use crate::lines::Answered;
 use csn_bits::Bits;
@@ -19,6 +18,7 @@ use csn_certify::{Plan, Steps};
 use csn_desc::Tree;
 use csn_encode::{EncodeFault, Misfit, MisfitWhy, Path, encode};
 use csn_json::{JsonFault, read_json};
+use csn_movetext::TreeForm;
 use csn_treetext::read_tree;
 use std::alloc::{AllocError, Global};
 use std::marker::Brand;

@@ -4,7 +4,7 @@ use Rattle.csn_catalogue.specs.Entries.{all_entries}
 use Rattle.csn_desc.specs.declared.reading.Reading.TheVariants.{Sent}
 use Rattle.csn_run.specs.declared.command.RuleCommand.TheVariants.{Show, Write}
 use Rattle.csn_run.specs.declared.command.RuleReport.TheVariants.{Check, Certificate}
-use Rattle.csn_run.specs.declared.command.TreeForm.TheVariants.{Text, Json}
+use Rattle.csn_movetext.specs.declared.form.TreeForm.TheVariants.{Text, Json}
 use Rattle.csn_run.specs.Command.{rule_row, entries_row, compat_row, verify_row, over_downlink, over_all, over_soaked}
 use Rattle.csn_run.proofs.command.command_of.Goals as goal
 

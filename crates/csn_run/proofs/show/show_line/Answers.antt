@@ -17,10 +17,6 @@ returns-in-Err-clause-ok c =
       fault_refuses c.args.line.now c.in-Err.fault is_fault,
     )
 
-pub returns-in-Text-clause-ok : goal.returns-in-Text-clause-ok
-returns-in-Text-clause-ok c =
-    rw c.in-Text.is (IfOk-weaker c.show_text.result _ _ (λ answered h. (h.0, h.1, (λ text rules name reading is. shows_block c.in-Ok.bits c.in-Ok.ensures.ok (h.2 text rules name reading is)), h.3)) c.show_text.ensures.ok)
-
 pub returns-clause-ok : goal.returns-clause-ok
 returns-clause-ok c =
-    rw c.in-Json.is (IfOk-weaker c.show_json.result _ _ (λ answered h. (h.0, h.1, (λ text rules name reading is. shows_block c.in-Ok.bits c.in-Ok.ensures.ok (h.2 text rules name reading is)), h.3)) (rw c.plan.ensures at c.show_json.ensures.ok))
+    IfOk-weaker c.show_block.result _ _ (λ answered h. (h.0, h.1, (λ text rules name reading is. shows_block c.in-Ok.bits c.in-Ok.ensures.ok (h.2 text rules name reading is)), h.3)) c.show_block.ensures.ok

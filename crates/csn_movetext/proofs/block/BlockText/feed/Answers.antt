@@ -6,7 +6,7 @@ use Rattle.csn_certify.specs.Plans.{HasOneTree}
 use Rattle.csn_judge.specs.Judging.{JudgeV}
 use Rattle.csn_movetext.specs.declared.fault.Fed.{Fed}
 use Rattle.csn_movetext.specs.declared.fault.Fed.TheVariants.{Going}
-use Rattle.csn_movetext.specs.Openings.{AreOpenings, opening_in}
+use Rattle.csn_movetext.specs.Openings.{OpeningsV, HasOpenings}
 use Rattle.csn_movetext.specs.Track.{TrackV}
 use Rattle.csn_movetext.specs.Blocks.{BlockV, stands, IsAnswer, JudgesSome, Continues}
 use Rattle.csn_movetext.proofs.BlockFacts.{Stays, feed_stays, feed_judges, same_front, longer, feeds, feeds_still, answer_is, going_is, going_no_more}
@@ -35,8 +35,8 @@ invariant_of-self g c =
     let seen_is : old.seen ≡ c.args.self.now.seen = ap (λ (b : BlockV). b.seen) c.self.view_is in
     let D : DescV → Type 0 = λ d. IsDescription d in
     let H : DescV → Type 0 = λ d. HasOneTree d in
-    let O : DescV → Type 0 = λ d. AreOpenings d (opening_in after.openings) in
-    let T : List (List ℕ) → Type 0 = λ l. AreOpenings old.desc (opening_in l) in
+    let O : DescV → Type 0 = λ d. HasOpenings d after.openings in
+    let T : OpeningsV → Type 0 = λ l. HasOpenings old.desc l in
     let N : Fed → Type 0 = λ a. IsAnswer a new in
     let M : Fed → Type 0 = λ a. JudgesSome a new in
     record {
@@ -87,3 +87,18 @@ returns-clause-before g c =
     let stays : Stays before after = feed_stays old new before after more c.feed_to-verdict.result none some c.feed_to-verdict.ensures.judges in
     let same : take c.self.inside.start after.kept.text ≡ take c.self.inside.start before.kept.text = same_front c.self.inside.start before.kept.text after.kept.text c.self.invariant.started stays.more in
     same ∙ ap (λ (b : BlockV). b.before) c.self.view_is
+
+pub returns-clause-form : goal.returns-clause-form
+returns-clause-form g c =
+    let old : JudgeV = c.self.inside.judge in
+    let new : JudgeV = c.feed_to-verdict.new.self in
+    let before : TrackV = c.self.inside.track in
+    let after : TrackV = c.feed_to-verdict.new.track in
+    let more : List ℕ = take c.args.bits (bits_of_octets c.args.piece.now) in
+    let going : c.self.inside.answer ≡ Going = going_is c.self.inside.answer c.is_going.result c.is_going.ensures c.if-not-is_going.false in
+    let A : Fed → Type 0 = λ a. IsAnswer a old in
+    let J : Fed → Type 0 = λ a. JudgesSome a old in
+    let none : old.refused ≡ None = subst A going c.self.invariant.answer_is in
+    let some : JudgesSome Going old = subst J going c.self.invariant.judges in
+    let stays : Stays before after = feed_stays old new before after more c.feed_to-verdict.result none some c.feed_to-verdict.ensures.judges in
+    ap (λ (t : OpeningsV). t.form) stays.same ∙ ap (λ (b : BlockV). b.form) c.self.view_is

@@ -91,5 +91,5 @@ returns-in-Ok-2-clause-text g c =
     let P : BlockV → Type 0 = λ b. Ends b (Ok after.kept.text) in
     subst T (sym c.finish.ensures)
     (subst P entry
-    (ends_text j before after front c.meanings_are_bits.ensures.meant c.self.invariant.description c.self.invariant.one_tree c.self.invariant.openings none c.self.invariant.few
+    (ends_text j before after front c.texts_are_joined.ensures c.meanings_are_bits.ensures.meant c.self.invariant.description c.self.invariant.one_tree c.self.invariant.openings none c.self.invariant.few
     (sym c.is_refused.ensures ∙ c.if-is_refused.false) c.in-Ok-2.ensures.ends))

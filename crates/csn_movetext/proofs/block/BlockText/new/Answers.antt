@@ -4,7 +4,7 @@ use Rattle.csn_desc.specs.Nodes.{DescV}
 use Rattle.csn_desc.specs.Formed.{IsDescription}
 use Rattle.csn_certify.specs.Plans.{HasOneTree}
 use Rattle.csn_movetext.specs.declared.fault.Fed.TheVariants.{Going}
-use Rattle.csn_movetext.specs.Openings.{AreOpenings, opening_in}
+use Rattle.csn_movetext.specs.Openings.{HasOpenings}
 use Rattle.csn_movetext.specs.Track.{TrackV}
 use Rattle.csn_movetext.specs.Blocks.{stands, nothing, WritesFor}
 use Rattle.csn_movetext.proofs.BlockFacts.{writes_none}
@@ -14,8 +14,8 @@ pub invariant_of-result : goal.invariant_of-result
 invariant_of-result c =
     let D : DescV → Type 0 = λ d. IsDescription d in
     let H : DescV → Type 0 = λ d. HasOneTree d in
-    let O : DescV → Type 0 = λ d. AreOpenings d (opening_in c.new-2.result.openings) in
-    let T : TrackV → Type 0 = λ t. AreOpenings c.args.plan.now (opening_in t.openings) in
+    let O : DescV → Type 0 = λ d. HasOpenings d c.new-2.result.openings in
+    let T : TrackV → Type 0 = λ t. HasOpenings c.args.plan.now t.openings in
     let S : TrackV → Type 0 = λ t. c.len-start.result ≤ length t.kept.text in
     record {
       description = subst D (sym c.new.ensures.desc) c.len-count.ensures.description;

@@ -6,7 +6,7 @@ use Rattle.csn_movetext.proofs.writing.Writing.octets.Given as goal
 -- what is written so far are the first octets of the bits that were held, and the others are held
 abbrev pub invariant-loop-self : goal.invariant-loop-self
 invariant-loop-self l =
-    (l.self.held ≤ 64) × (l.self.long ≡ true) × (l.self.left ≡ l.fn.self.left) × Flushes (kept_of l.fn.self) (kept_of l.self)
+    (l.self.held ≤ 64) × (l.self.long ≡ true) × (l.self.left ≡ l.fn.self.left) × Flushes l.fn.form (kept_of l.fn.self) (kept_of l.self)
     × Extends l.fn.self.out.items l.self.out.items
 
 abbrev pub decreases-loop-self : goal.decreases-loop-self

@@ -4,7 +4,7 @@ use Rattle.csn_movetext.specs.Blocks.{IsFaultOf}
 use Rattle.csn_run.specs.OutLine.{refusal_text, shows_tree, shows_place}
 use Rattle.csn_run.proofs.AnswerLemmas.{cut_back}
 use Rattle.csn_run.proofs.ShownLines.{string_of, meant_by, place_of}
-use Rattle.csn_run.proofs.show.show_text.Goals as goal
+use Rattle.csn_run.proofs.show.show_block.Goals as goal
 
 pub returns-in-Ok-clause-ok : goal.returns-in-Ok-clause-ok
 returns-in-Ok-clause-ok c =
@@ -15,9 +15,9 @@ returns-in-Ok-clause-ok c =
       refl,
     )
 
-pub returns-in_ok-answer_no_text-in-Err-clause-ok : goal.returns-in_ok-answer_no_text-in-Err-clause-ok
-returns-in_ok-answer_no_text-in-Err-clause-ok c =
-    let told = c.in_ok-answer_no_text-in-Err.ensures.ok in
+pub returns-in_ok-answer_no_tree-in-Err-clause-ok : goal.returns-in_ok-answer_no_tree-in-Err-clause-ok
+returns-in_ok-answer_no_tree-in-Err-clause-ok c =
+    let told = c.in_ok-answer_no_tree-in-Err.ensures.ok in
     let start : c.len-start.result ≡ length c.args.out.now.items = omega (arith, c.len-start.ensures, c.args.out.now.ok) in
     let same : c.truncate.new.self.items ≡ c.args.out.now.items =
     cut_back _ _ _ (codes "ok ") _ (c.in-Err.ensures.same ∙ c.in_ok-extend_from_slice.ensures.items) c.truncate.ensures.items start in

@@ -1,5 +1,0 @@
-use Rattle.csn_run.proofs.show.show_json.Given as goal
-
--- the steps are counted on a ledger of their own
-abbrev pub ghosts-decode : goal.ghosts-decode
-ghosts-decode a = record { name = a.blank.name; parts = a.blank.parts }
