@@ -39,11 +39,17 @@ none_waits [] even = refl
 none_waits (a ∷ []) even = absurd (omega arith)
 none_waits (a ∷ b ∷ rest) even = none_waits rest (omega arith)
 
+-- what it decodes is half as long
+pub halved : (line octets : List ℕ) → decode_of line ≡ Ok octets → length line ≡ 2 * length octets
+halved line octets decoded = let (even, all, twice, bytes) = decode_of-ok line octets decoded in twice
+
 -- what the crate decodes of a line, where it is of a block and not empty, are the octets of the bits that it spells
-pub whole_line : (line octets : List ℕ) → decode_of line ≡ Ok octets → 1 ≤ length octets → length octets ≤ 65536
+pub whole_line : (line octets : List ℕ) → decode_of line ≡ Ok octets → 1 ≤ length line → length line ≤ 131072
     → Packs octets (8 * length octets) (bits_of_octets octets) × BlockLine line (bits_of_octets octets)
 whole_line line octets decoded some few =
     let (even, all, twice, bytes) = decode_of-ok line octets decoded in
+    let some_octets : 1 ≤ length octets = omega (arith, twice, some) in
+    let few_octets : length octets ≤ 65536 = omega (arith, twice, few) in
     let digits = are_digits line all in
     let waits = none_waits line even in
     let is : octets ≡ octets_of_digits line =

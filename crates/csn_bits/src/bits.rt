@@ -126,8 +126,11 @@ impl Bits {
         ensures ok { IfOk result (λ read. ForSome read (λ b. BlockLine line.now b)) }
         ensures refused { IfErr result (λ e. e ≡ BitsFault.NoMemory) }
     {
+        if line.is_empty() || line.len() > 2 * MOST_OCTETS as usize {
+            return Ok(None);
+        }
         match hex::decode(alloc, line) {
-            Ok(octets) if !octets.is_empty() && octets.len() <= MOST_OCTETS as usize => {
+            Ok(octets) => {
                 let len = 8 * octets.len() as u32;
                 Ok(Some(Bits { octets, len }))
             }
