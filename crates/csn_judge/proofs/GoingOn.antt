@@ -42,14 +42,14 @@ module _ (d : DescV) {S : Type 0} (takes : S → Move → Node → S → Type 0)
   -- one more
   pub going_more : {first now : StateV} {s t : S} {steps steps_now : ℕ} {here : DescV} (next : StateV) (u : S) (steps_next : ℕ) → here ≡ d → Going first now s t steps steps_now
       → Turns here takes now next t u Moved
-      → Pays (credit_of (length here.nodes) now.frames now.pace (length now.coming.bits)) (credit_of (length here.nodes) next.frames next.pace (length next.coming.bits)) steps_now steps_next Moved
+      → steps_next + credit_of (length here.nodes) next.frames next.pace (length next.coming.bits) ≤ steps_now + credit_of (length here.nodes) now.frames now.pace (length now.coming.bits)
       → Going first next s u steps steps_next
   going_more {now = now} {t = t} {steps_now = steps_now} next u steps_next same going turns pays =
       let turned = subst (λ (e : DescV). Turns e takes now next t u Moved) same turns in
-      let less = subst (λ (e : DescV). Pays (credit_of (length e.nodes) now.frames now.pace (length now.coming.bits)) (credit_of (length e.nodes) next.frames next.pace (length next.coming.bits)) steps_now steps_next Moved) same pays in
+      let less = subst (λ (e : DescV). steps_next + credit_of (length e.nodes) next.frames next.pace (length next.coming.bits) ≤ steps_now + credit_of (length e.nodes) now.frames now.pace (length now.coming.bits)) same pays in
       record {
         on = λ stack done stands. let on = going.on stack done stands in on_then d takes on (turned on.now (done ++ on.taken) on.stands);
-        paid = omega (arith, going.paid, less.0);
+        paid = omega (arith, going.paid, less);
       }
 
   -- the last

@@ -171,3 +171,15 @@ pays_then before middle after steps steps_middle steps_after (Refused place) fir
 -- and a turn behind a step that has made the stack lighter
 pub entered_pays : (credit lighter after steps middle steps_after : ℕ) (turn : Turn) → lighter + 1 ≤ credit → middle ≡ steps + 1 → Pays lighter after middle steps_after turn → Pays credit after steps steps_after turn
 entered_pays credit lighter after steps middle steps_after turn less one paid = pays_then credit lighter after steps middle steps_after turn (omega (arith, less, one), omega (arith, less)) paid
+
+-- a turn is paid for by more, too
+pub more_pays : (before more after steps steps_after : ℕ) (turn : Turn) → before ≤ more → Pays before after steps steps_after turn → Pays more after steps steps_after turn
+more_pays before more after steps steps_after Moved most paid = (omega (arith, most, paid.0), omega (arith, most, paid.1))
+more_pays before more after steps steps_after Waits most paid = (omega (arith, most, paid.0), omega (arith, most, paid.1), omega (arith, most, paid.2))
+more_pays before more after steps steps_after (Refused place) most paid = omega (arith, most, paid)
+
+-- so is a turn by which an alternative begins, with the look at the choice, the one ahead and the one at the alternative
+pub chosen_pays : (before begun after steps steps_after : ℕ) (turn : Turn) → begun + 3 ≤ before → Pays (begun + 1) after (steps + 1) steps_after turn → Pays before after steps (steps_after + 1) turn
+chosen_pays before begun after steps steps_after Moved less paid = (omega (arith, less, paid.0), omega (arith, less, paid.1))
+chosen_pays before begun after steps steps_after Waits less paid = (omega (arith, less, paid.0), omega (arith, less, paid.1), omega (arith, less, paid.2))
+chosen_pays before begun after steps steps_after (Refused place) less paid = omega (arith, less, paid)

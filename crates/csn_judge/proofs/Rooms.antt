@@ -1,5 +1,5 @@
 -- Where no bit is ready, and what is known of what look-ahead answers.
-use Rattle.std.proofs.Common.{◌≡◌, ℕ, zero, suc, ◌-◌, ◌++◌, take, ap, ◌<◌, ◌≤◌, ◌⊎◌, inl, inr, Bool, true, false, List, [], ◌∷◌, length, min, refl, ◌∙◌, arith, Option, subst}
+use Rattle.std.proofs.Common.{◌≡◌, ℕ, zero, suc, ◌-◌, ◌++◌, take, ap, ◌<◌, ◌≤◌, ◌⊎◌, inl, inr, Bool, true, false, List, [], ◌∷◌, length, min, refl, ◌∙◌, arith, Option, Some, None, subst}
 use Rattle.std.proofs.lemmas.Bool.Decides.{leb_tells}
 use Rattle.csn_desc.specs.Nodes.{DescV}
 use Rattle.csn_judge.specs.declared.frame.Frame.{Frame}
@@ -12,8 +12,13 @@ use Rattle.csn_judge.specs.Shown.{Shows, shows_begin}
 use Rattle.csn_judge.proofs.Turning.{room, round_length, begun_within, turns_stand, turn_stack}
 use Rattle.csn_judge.specs.Coming.{Coming, IsGood}
 use Rattle.std.proofs.lemmas.List.{nil_from_length}
-use Rattle.csn_judge.specs.Turns.{fresh_at}
+use Rattle.csn_judge.specs.Turns.{fresh_at, over}
 use Rattle.csn_judge.specs.declared.pace.Pace.{Pace}
+
+-- with a frame on them there are no fewer frames
+pub no_fewer : (behind : Option Frame) (frames : List Frame) → length frames ≤ length (over behind frames)
+no_fewer (Some frame) frames = omega arith
+no_fewer None frames = omega arith
 
 -- no bit is ready, though one might be taken: none comes
 pub no_bits_ready : (coming : Coming) (most : ℕ) → 0 < most → min most (min (length coming.bits) (coming.limit - coming.place)) ≡ 0 → IsGood coming

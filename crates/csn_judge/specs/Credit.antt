@@ -1,10 +1,12 @@
 -- The credit of steps. (This project's own choice.)
-use Rattle.std.specs.Prelude.{ℕ, ◌+◌, ◌-◌, ◌*◌, ◌<◌, ◌≤◌, if◌then◌else◌, List, [], ◌∷◌, length}
+use Rattle.std.specs.Prelude.{ℕ, ◌+◌, ◌-◌, ◌*◌, ◌<◌, ◌≤◌, if◌then◌else◌, List, [], ◌∷◌, length, Option, Some, None}
 use Rattle.csn_judge.specs.declared.frame.Frame.{Frame}
 use Rattle.csn_judge.specs.declared.frame.Frame.TheVariants as frame
 use Rattle.csn_judge.specs.declared.pace.Pace.{Pace}
 use Rattle.csn_judge.specs.declared.turn.Turn.{Turn}
 use Rattle.csn_judge.specs.declared.turn.Turn.TheVariants.{Moved, Waits, Refused}
+use Rattle.csn_judge.specs.declared.turn.Next.{Next}
+use Rattle.csn_judge.specs.declared.turn.Next.TheVariants as next
 use Rattle.csn_judge.specs.declared.verdict.Verdict.{Verdict}
 use Rattle.csn_judge.specs.declared.verdict.Verdict.TheVariants.{Going}
 use Rattle.csn_judge.specs.declared.verdict.Verdict.TheVariants as verdict
@@ -14,7 +16,7 @@ use Rattle.csn_judge.specs.Turns.{StateV}
 -- the steps that a frame is still to take, beside those of the nodes that it lets begin
 abbrev pub weight_of : Frame → ℕ
 weight_of (frame.Begin i) = 3
-weight_of (frame.Open i) = 2
+weight_of (frame.Open i) = 3
 weight_of (frame.Many i part) = 2
 weight_of _ = 1
 
@@ -35,6 +37,20 @@ abbrev pub Pays : (before after : ℕ) → (steps steps_after : ℕ) → Turn �
 Pays before after steps steps_after Moved = (steps_after + after ≤ steps + before) × (after < before)
 Pays before after steps steps_after Waits = (steps_after + after ≤ 2 + (steps + before)) × (after ≤ before) × (steps_after ≤ 1 + (steps + before))
 Pays before after steps steps_after (Refused place) = steps_after ≤ steps + before
+
+-- the same of a turn behind which a node may begin, that stood ready to begin or not
+abbrev pub NextPays : (before after : ℕ) → (steps steps_after : ℕ) → Next → Type 0
+NextPays before after steps steps_after (next.Begin node) = (steps_after + after ≤ steps + before) × (after ≤ before)
+NextPays before after steps steps_after (next.Turn turn) = Pays before after steps steps_after turn
+
+-- turns come to an end: the credit falls, or a node that stood ready to begin does
+abbrev pub turns_left_at : Option ℕ → ℕ → ℕ
+turns_left_at (Some node) credit = 2 * credit
+turns_left_at None credit = 2 * credit + 1
+
+abbrev pub turns_left_then : Next → ℕ → ℕ
+turns_left_then (next.Begin node) credit = 2 * credit
+turns_left_then (next.Turn turn) credit = 2 * credit + 1
 
 -- the credit of a state
 abbrev pub credit_in : DescV → StateV → ℕ

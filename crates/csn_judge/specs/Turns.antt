@@ -11,6 +11,10 @@ use Rattle.csn_judge.specs.declared.machine.Machine.{Machine}
 use Rattle.csn_judge.specs.declared.pace.Pace.{Pace}
 use Rattle.csn_judge.specs.declared.turn.Turn.{Turn}
 use Rattle.csn_judge.specs.declared.turn.Turn.TheVariants.{Moved, Waits, Refused}
+use Rattle.csn_judge.specs.declared.turn.PartTurn.{PartTurn}
+use Rattle.csn_judge.specs.declared.turn.PartTurn.TheVariants as part
+use Rattle.csn_judge.specs.declared.turn.Next.{Next}
+use Rattle.csn_judge.specs.declared.turn.Next.TheVariants as next
 use Rattle.csn_judge.specs.declared.verdict.Verdict.{Verdict}
 use Rattle.csn_judge.specs.declared.verdict.Verdict.TheVariants.{Going}
 use Rattle.csn_judge.specs.declared.verdict.Verdict.TheVariants as verdict
@@ -73,6 +77,47 @@ state_of machine coming =
 abbrev pub state_with : Frame → Machine → Coming → StateV
 state_with top machine coming =
     record { frames = top ∷ reverse machine.frames.items; values = machine.values.items; pace = machine.pace; coming = coming }
+
+-- a frame on others, if there is one
+abbrev pub over : Option Frame → List Frame → List Frame
+over (Some frame) frames = frame ∷ frames
+over None frames = frames
+
+-- the state where one more frame was on top, and perhaps another one behind it
+abbrev pub state_upon : Frame → Option Frame → Machine → Coming → StateV
+state_upon top behind machine coming =
+    record { frames = top ∷ over behind (reverse machine.frames.items); values = machine.values.items; pace = machine.pace; coming = coming }
+
+-- the state behind a part that was read at once: where it has ended, the frame that stood behind it is on top
+abbrev pub state_behind : PartTurn → Option Frame → Machine → Coming → StateV
+state_behind part.Ended behind machine coming =
+    record { frames = over behind (reverse machine.frames.items); values = machine.values.items; pace = machine.pace; coming = coming }
+state_behind (part.Turn turn) behind machine coming = state_of machine coming
+
+-- what came of it
+abbrev pub turn_of_part : PartTurn → Turn
+turn_of_part part.Ended = Moved
+turn_of_part (part.Turn turn) = turn
+
+-- the state where a part begins, and this frame goes on behind it
+abbrev pub state_begun : ℕ → Frame → Machine → Coming → StateV
+state_begun part behind machine coming =
+    record { frames = frame.Begin part ∷ behind ∷ reverse machine.frames.items; values = machine.values.items; pace = begun_by part machine.pace; coming = coming }
+
+-- the state where this node begins next, or none does
+abbrev pub state_at : Option ℕ → Machine → Coming → StateV
+state_at (Some node) machine coming = state_with (frame.Begin node) machine coming
+state_at None machine coming = state_of machine coming
+
+-- the state behind a turn: the node that begins next is innermost
+abbrev pub state_then : Next → Machine → Coming → StateV
+state_then (next.Begin node) machine coming = state_with (frame.Begin node) machine coming
+state_then (next.Turn turn) machine coming = state_of machine coming
+
+-- what came of a turn: where a node begins next, the machine has gone on
+abbrev pub turn_in : Next → Turn
+turn_in (next.Begin node) = Moved
+turn_in (next.Turn turn) = turn
 
 -- where the machine stops: it waits for a further bit, or refuses one
 abbrev pub turn_of : Verdict → Turn

@@ -7,14 +7,14 @@ ghost use Rattle.csn_desc.specs.Formed.{is_counted};
 ghost use Rattle.csn_desc.specs.Values.{Values, count_of};
 ghost use Rattle.csn_judge.specs.Credit.{TurnPays};
 ghost use Rattle.csn_judge.specs.Shown.{KeepsCount, kept_of};
-ghost use Rattle.csn_judge.specs.Turns.{begun_by, state_of, state_with, Entered, StandsSomewhere, Turns};
+ghost use Rattle.csn_judge.specs.Turns.{begun_by, state_then, state_with, turn_in, Entered, StandsSomewhere, Turns};
 
 use crate::frame::{Counted, Frame};
 use crate::leaf::Leaf;
 use crate::machine::Machine;
 use crate::source::Source;
 use crate::track::Track;
-use crate::turn::Turn;
+use crate::turn::{Next, PartTurn, Turn};
 use crate::values::value_of;
 use csn_certify::Steps;
 use csn_desc::{Count, Move, Node};
@@ -22,18 +22,19 @@ use std::sync::ledger::Ledger;
 
 impl Machine<'_> {
     /// A node is entered, and goes on as far as it can in one turn.
+    #[inline(always)]
     pub fn enter<T: Track, L: Ledger>(
         &mut self,
         i: u16,
         source: &mut Source<'_>,
         track: &mut T,
         steps: &mut Steps<L>,
-    ) -> Turn
+    ) -> Next
         requires { StandsSomewhere self.old.plan.now (state_with (frame.Begin i) self.old source.old) }
         ensures turns { Turns self.old.plan.now T.takes (state_with (frame.Begin i) self.old source.old)
-            (state_of self.new source.new) track.old track.new result }
-        ensures pays { TurnPays self.old.plan.now (state_with (frame.Begin i) self.old source.old) (state_of self.new source.new)
-            steps.old steps.new result }
+            (state_then result self.new source.new) track.old track.new (turn_in result) }
+        ensures pays { TurnPays self.old.plan.now (state_with (frame.Begin i) self.old source.old) (state_then result self.new source.new)
+            steps.old steps.new (turn_in result) }
         ensures plan { self.new.plan ≡ self.old.plan }
     {
         source.none_behind_end();
@@ -41,28 +42,29 @@ impl Machine<'_> {
         track.step(Move::Enter(i), node);
         let values = self.values.len() as u8;
         match node {
-            Node::Lits(_) => self.read(i, Leaf::Lits { at: 0 }, node, source, track),
-            Node::Spare(_) => self.read(i, Leaf::Spare, node, source, track),
-            Node::Pad => self.read(i, Leaf::Pad { begun: false }, node, source, track),
+            Node::Lits(_) => Next::Turn(self.read(i, Leaf::Lits { at: 0 }, node, source, track)),
+            Node::Spare(_) => Next::Turn(self.read(i, Leaf::Spare, node, source, track)),
+            Node::Pad => Next::Turn(self.read(i, Leaf::Pad { begun: false }, node, source, track)),
             Node::Null => {
                 track.step(Move::Leave, node);
-                Turn::Moved
+                Next::Turn(Turn::Moved)
             }
             Node::Field { unit, count } => {
                 let left = *unit as u32 * self.number_of(count);
-                self.read(i, Leaf::Field { left }, node, source, track)
+                Next::Turn(self.read(i, Leaf::Field { left }, node, source, track))
             }
-            Node::Rest => self.read(i, Leaf::Rest, node, source, track),
+            Node::Rest => Next::Turn(self.read(i, Leaf::Rest, node, source, track)),
             Node::Seq(parts) => {
                 let behind = Frame::Seq {
                     node: i,
                     at: 1,
                     values,
                 };
-                self.begin(parts.get(0), behind);
-                Turn::Moved
+                let part = parts.get(0);
+                self.begin(part, behind);
+                Next::Begin { node: part }
             }
-            Node::Choice(_) => self.choose(i, node, source, steps),
+            Node::Choice(_) => self.choose(i, node, source, track, steps),
             Node::Times { count, part } => {
                 let left = self.number_of(count);
                 self.times(i, *part, left, source, track, steps)
@@ -72,18 +74,19 @@ impl Machine<'_> {
             Node::Window { unit, count, part } => {
                 let bits = *unit as u32 * self.number_of(count);
                 self.enter_window(i, bits, *part, source);
-                Turn::Moved
+                Next::Begin { node: *part }
             }
-            Node::Named { part, .. } => self.enter_named(i, *part, source, track, steps),
+            Node::Named { part, .. } => self.enter_named(i, *part, node, source, track, steps),
         }
     }
 
     /// A window of so many bits was entered: its part begins.
+    #[inline(always)]
     fn enter_window(&mut self, i: u16, bits: u32, part: u16, source: &mut Source<'_>)
         requires few { part < 65535 }
         requires room { length self.old.frames.items < 63 }
         ensures frames { reverse self.new.frames.items
-            ≡ frame.Begin part ∷ frame.Window i source.old.place bits source.old.limit ∷ reverse self.old.frames.items }
+            ≡ frame.Window i source.old.place bits source.old.limit ∷ reverse self.old.frames.items }
         ensures values { self.new.values ≡ self.old.values }
         ensures pace { self.new.pace ≡ begun_by part self.old.pace }
         ensures plan { self.new.plan ≡ self.old.plan }
@@ -107,24 +110,27 @@ impl Machine<'_> {
 
     /// A label was entered. Where counts stand on it, its part is a field of constant width, which is entered with
     /// it.
+    #[inline(always)]
     fn enter_named<T: Track, L: Ledger>(
         &mut self,
         i: u16,
         part: u16,
+        node: &Node,
         source: &mut Source<'_>,
         track: &mut T,
         steps: &mut Steps<L>,
-    ) -> Turn
+    ) -> Next
         requires part { (label : List ℕ) × (slice_get self.old.plan.now.nodes i ≡ Some (Named label part)) }
+        requires node { slice_get self.old.plan.now.nodes i ≡ Some node.now }
         requires stands { StandsSomewhere self.old.plan.now (state_with (frame.Begin i) self.old source.old) }
         ensures turns { Entered self.old.plan.now T.takes i (state_with (frame.Begin i) self.old source.old)
-            (state_of self.new source.new) track.old track.new result }
-        ensures pays { TurnPays self.old.plan.now (state_with (frame.Begin i) self.old source.old) (state_of self.new source.new)
-            steps.old (steps.new + 1) result }
+            (state_then result self.new source.new) track.old track.new (turn_in result) }
+        ensures pays { TurnPays self.old.plan.now (state_with (frame.Begin i) self.old source.old) (state_then result self.new source.new)
+            steps.old (steps.new + 1) (turn_in result) }
         ensures plan { self.new.plan ≡ self.old.plan }
     {
         if !self.plan.counts(i) {
-            return self.enter_plain(i, part, source, track, steps);
+            return self.enter_plain(i, part, node, source, track, steps);
         }
         let field = self.plan.node(part, steps);
         let Node::Field { unit, count } = field else {
@@ -142,41 +148,51 @@ impl Machine<'_> {
             left: *unit as u32 * *width,
             number: 0,
         };
-        self.read_counted(counted, field, source, track, steps)
+        Next::Turn(self.read_counted(counted, field, source, track, steps))
     }
 
-    /// A label that no counts stand on was entered: its part begins. A field is entered with it.
+    /// A label that no counts stand on was entered: its part begins. A field is read at once.
+    #[inline(always)]
     fn enter_plain<T: Track, L: Ledger>(
         &mut self,
         i: u16,
         part: u16,
+        node: &Node,
         source: &mut Source<'_>,
         track: &mut T,
         steps: &mut Steps<L>,
-    ) -> Turn
+    ) -> Next
         requires part { (label : List ℕ) × (slice_get self.old.plan.now.nodes i ≡ Some (Named label part)) }
+        requires node { slice_get self.old.plan.now.nodes i ≡ Some node.now }
         requires plain { is_counted self.old.plan.now.nodes i ≡ false }
         requires stands { StandsSomewhere self.old.plan.now (state_with (frame.Begin i) self.old source.old) }
         ensures turns { Entered self.old.plan.now T.takes i (state_with (frame.Begin i) self.old source.old)
-            (state_of self.new source.new) track.old track.new result }
-        ensures pays { TurnPays self.old.plan.now (state_with (frame.Begin i) self.old source.old) (state_of self.new source.new)
-            steps.old (steps.new + 1) result }
+            (state_then result self.new source.new) track.old track.new (turn_in result) }
+        ensures pays { TurnPays self.old.plan.now (state_with (frame.Begin i) self.old source.old) (state_then result self.new source.new)
+            steps.old (steps.new + 1) (turn_in result) }
         ensures plan { self.new.plan ≡ self.old.plan }
     {
         let field = self.plan.node(part, steps);
         let Node::Field { unit, count } = field else {
             self.begin(part, Frame::Named { node: i });
-            return Turn::Moved;
+            return Next::Begin { node: part };
         };
         source.none_behind_end();
         let left = *unit as u32 * self.number_of(count);
+        let behind = Some(Frame::Named { node: i });
         self.pace.begin(part);
-        self.frames.push(Frame::Named { node: i });
         track.step(Move::Enter(part), field);
-        self.read(part, Leaf::Field { left }, field, source, track)
+        match self.read_part(part, Leaf::Field { left }, field, behind, source, track) {
+            PartTurn::Ended => {
+                track.step(Move::Leave, node);
+                Next::Turn(Turn::Moved)
+            }
+            PartTurn::Turn(turn) => Next::Turn(turn),
+        }
     }
 
     /// How many a count is.
+    #[inline(always)]
     fn number_of(&self, count: &Count) -> u32
         requires { KeepsCount self.now.plan.now self.now.values.items count.now }
         ensures count { (v : Values) → self.now.values.items ≡ kept_of self.now.plan.now v → count_of v count.now ≡ Some result }

@@ -1,14 +1,15 @@
 //! Turns, one after another.
 
-ghost use Rattle.std.specs.Prelude.{◌≡◌, [], length, reverse};
-ghost use Rattle.csn_judge.specs.Credit.{credit_of, PaysAll, TurnPays};
-ghost use Rattle.csn_judge.specs.Turns.{state_of, turn_of, StandsSomewhere, Turns};
+ghost use Rattle.std.specs.Prelude.{◌≡◌, ◌+◌, ◌*◌, ◌<◌, [], length, reverse};
+ghost use Rattle.csn_judge.specs.declared.turn.Turn.TheVariants as turn;
+ghost use Rattle.csn_judge.specs.Credit.{credit_in, credit_of, turns_left_at, turns_left_then, NextPays, PaysAll};
+ghost use Rattle.csn_judge.specs.Turns.{state_at, state_of, state_then, turn_in, turn_of, StandsSomewhere, Turns};
 
 use crate::frame::Frame;
 use crate::machine::Machine;
 use crate::source::Source;
 use crate::track::Track;
-use crate::turn::Turn;
+use crate::turn::{Next, Turn};
 use crate::verdict::Verdict;
 use csn_certify::Steps;
 use std::sync::ledger::Ledger;
@@ -31,42 +32,73 @@ impl Machine<'_> {
         ensures plan { self.new.plan ≡ self.old.plan }
     {
         source.none_behind_end();
+        let mut begins = None;
         loop {
-            match self.turn(source, track, steps) {
-                Turn::Moved => {}
-                Turn::Waits => return Verdict::Going,
-                Turn::Refused { place } => return Verdict::Refused { place },
+            match self.step(begins, source, track, steps) {
+                Next::Begin { node } => begins = Some(node),
+                Next::Turn(Turn::Moved) => begins = None,
+                Next::Turn(Turn::Waits) => return Verdict::Going,
+                Next::Turn(Turn::Refused { place }) => return Verdict::Refused { place },
             }
         }
     }
 
-    /// The turn of the innermost frame.
+    /// The node that begins next is entered, or where none does the innermost frame has its turn.
+    #[inline(always)]
+    fn step<T: Track, L: Ledger>(
+        &mut self,
+        begins: Option<u16>,
+        source: &mut Source<'_>,
+        track: &mut T,
+        steps: &mut Steps<L>,
+    ) -> Next
+        requires { StandsSomewhere self.old.plan.now (state_at begins self.old source.old) }
+        ensures turns { Turns self.old.plan.now T.takes (state_at begins self.old source.old) (state_then result self.new source.new)
+            track.old track.new (turn_in result) }
+        ensures pays { NextPays (credit_in self.old.plan.now (state_at begins self.old source.old))
+            (credit_in self.old.plan.now (state_then result self.new source.new)) steps.old steps.new result }
+        ensures fewer { turn_in result ≡ turn.Moved → turns_left_then result (credit_in self.old.plan.now (state_then result self.new source.new))
+            < turns_left_at begins (credit_in self.old.plan.now (state_at begins self.old source.old)) }
+        ensures plan { self.new.plan ≡ self.old.plan }
+    {
+        match begins {
+            Some(node) => self.enter(node, source, track, steps),
+            None => self.turn(source, track, steps),
+        }
+    }
+
+    /// The turn of the innermost frame. A node that stands ready to begin does so next.
+    #[inline(always)]
     fn turn<T: Track, L: Ledger>(
         &mut self,
         source: &mut Source<'_>,
         track: &mut T,
         steps: &mut Steps<L>,
-    ) -> Turn
+    ) -> Next
         requires { StandsSomewhere self.old.plan.now (state_of self.old source.old) }
-        ensures turns { Turns self.old.plan.now T.takes (state_of self.old source.old) (state_of self.new source.new)
-            track.old track.new result }
-        ensures pays { TurnPays self.old.plan.now (state_of self.old source.old) (state_of self.new source.new)
-            steps.old steps.new result }
+        ensures turns { Turns self.old.plan.now T.takes (state_of self.old source.old) (state_then result self.new source.new)
+            track.old track.new (turn_in result) }
+        ensures pays { NextPays (credit_in self.old.plan.now (state_of self.old source.old))
+            (credit_in self.old.plan.now (state_then result self.new source.new)) steps.old steps.new result }
+        ensures fewer { turn_in result ≡ turn.Moved → turns_left_then result (credit_in self.old.plan.now (state_then result self.new source.new))
+            < 2 * credit_in self.old.plan.now (state_of self.old source.old) + 1 }
         ensures plan { self.new.plan ≡ self.old.plan }
     {
         let Some(frame) = self.frames.pop() else {
-            return Turn::stopped(source);
+            return Next::Turn(Turn::stopped(source));
         };
         match frame {
-            Frame::Begin { node } => self.enter(node, source, track, steps),
-            Frame::Leaf { node, leaf } => self.read_on(node, leaf, source, track, steps),
-            Frame::Counted(counted) => self.count(counted, source, track, steps),
+            Frame::Begin { node } => Next::Begin { node },
+            Frame::Leaf { node, leaf } => {
+                Next::Turn(self.read_on(node, leaf, source, track, steps))
+            }
+            Frame::Counted(counted) => Next::Turn(self.count(counted, source, track, steps)),
             Frame::Seq { node, at, values } => self.seq(node, at, values, source, track, steps),
             Frame::Trunc { node, at, values } => {
                 self.trunc(node, at, values, source, track, steps)
             }
-            Frame::Open { node } => self.choose_on(node, source, steps),
-            Frame::Choice { node } => self.pass(node, source, track, steps),
+            Frame::Open { node } => self.choose_on(node, source, track, steps),
+            Frame::Choice { node } => Next::Turn(self.pass(node, source, track, steps)),
             Frame::Times { node, part, left } => self.times(node, part, left, source, track, steps),
             Frame::Many { node, part } => self.many(node, part, source, track, steps),
             Frame::Window {
@@ -74,8 +106,8 @@ impl Machine<'_> {
                 start,
                 bits,
                 outer,
-            } => self.window(node, start, bits, outer, source, track, steps),
-            Frame::Named { node } => self.pass(node, source, track, steps),
+            } => Next::Turn(self.window(node, start, bits, outer, source, track, steps)),
+            Frame::Named { node } => Next::Turn(self.pass(node, source, track, steps)),
         }
     }
 }

@@ -138,12 +138,59 @@ impl<'a> Judge<'a> {
         ensures stays { (place : ℕ) → self.entry.refused ≡ Some place → track.new ≡ track.old }
         ensures steps { steps.new ≤ steps.old + credit self.entry }
     {
+        self.end(track, steps)
+    }
+
+    /// The block has ended, and another begins: the judge stands for no bits again. It is for many blocks by one plan,
+    /// each of which takes less time so than with a judge of its own.
+    pub fn next_block<L: Ledger>(&mut self, steps: &mut Steps<L>) -> Judged
+        ensures ends { Ends (λ around made. ⊤) self.old result }
+        ensures judges { JudgesFor self.new [] [] }
+        ensures desc { self.new.desc ≡ self.old.desc }
+        ensures seen { self.new.seen ≡ 0 }
+        ensures refused { self.new.refused ≡ None }
+        ensures opened { opened self.new ≡ [] }
+        ensures credit { credit self.new ≡ 8 * length self.old.desc.nodes }
+        ensures steps { steps.new ≤ steps.old + credit self.old }
+    {
+        self.next_block_to(&mut NoTrack, steps)
+    }
+
+    /// The same, where each move is told.
+    pub fn next_block_to<T: Track, L: Ledger>(
+        &mut self,
+        track: &mut T,
+        steps: &mut Steps<L>,
+    ) -> Judged
+        ensures ends { Ends (λ around made. Tells self.old.desc T.takes (opened self.old) made around track.old track.new) self.old result }
+        ensures stays { (place : ℕ) → self.old.refused ≡ Some place → track.new ≡ track.old }
+        ensures judges { JudgesFor self.new [] [] }
+        ensures desc { self.new.desc ≡ self.old.desc }
+        ensures seen { self.new.seen ≡ 0 }
+        ensures refused { self.new.refused ≡ None }
+        ensures opened { opened self.new ≡ [] }
+        ensures credit { credit self.new ≡ 8 * length self.old.desc.nodes }
+        ensures steps { steps.new ≤ steps.old + credit self.old }
+    {
+        let judged = self.end(track, steps);
+        self.restart();
+        judged
+    }
+
+    // The block has ended. The judge refuses whatever comes behind it.
+    fn end<T: Track, L: Ledger>(&mut self, track: &mut T, steps: &mut Steps<L>) -> Judged
+        ensures ends { Ends (λ around made. Tells self.old.desc T.takes (opened self.old) made around track.old track.new) self.old result }
+        ensures stays { (place : ℕ) → self.old.refused ≡ Some place → track.new ≡ track.old }
+        ensures desc { self.new.desc ≡ self.old.desc }
+        ensures steps { steps.new ≤ steps.old + credit self.old }
+    {
         csn_desc::laws::strings_are_followed();
         csn_desc::laws::trees_have_moves();
         if let Some(place) = self.refused {
             return Judged::Refused { place };
         }
         let place = self.seen;
+        self.refused = Some(place);
         if self.held.count > 0 {
             return Judged::Refused { place };
         }
@@ -152,5 +199,27 @@ impl<'a> Judge<'a> {
             Verdict::Going if self.machine.frames.is_empty() => Judged::Ok,
             _ => Judged::Refused { place },
         }
+    }
+
+    // No bits so far, as in a new judge.
+    fn restart(&mut self)
+        ensures judges { JudgesFor self.new [] [] }
+        ensures desc { self.new.desc ≡ self.old.desc }
+        ensures seen { self.new.seen ≡ 0 }
+        ensures refused { self.new.refused ≡ None }
+        ensures opened { opened self.new ≡ [] }
+        ensures credit { credit self.new ≡ 8 * length self.old.desc.nodes }
+    {
+        laws::known(self.machine.plan);
+        csn_desc::laws::empty_bits_are_followed();
+        self.machine.restart();
+        self.held = Held {
+            number: 0,
+            count: 0,
+        };
+        self.place = 0;
+        self.limit = u32::MAX;
+        self.seen = 0;
+        self.refused = None;
     }
 }

@@ -44,6 +44,7 @@ pub(crate) enum Read {
 
 impl Leaf {
     /// Takes bits that are ready, where there are some: of a long leaf not all.
+    #[inline(always)]
     pub fn read<T: Track>(
         self,
         node: &Node,
@@ -65,6 +66,7 @@ impl Leaf {
 }
 
 /// Takes so many bits, which are ready.
+#[inline(always)]
 pub(crate) fn take<T: Track>(count: u32, node: &Node, source: &mut Source<'_>, track: &mut T) -> u64
     requires few { count ≤ MOST_RUN }
     requires held { count ≤ source.old.held }
@@ -81,6 +83,7 @@ pub(crate) fn take<T: Track>(count: u32, node: &Node, source: &mut Source<'_>, t
 }
 
 /// A literal, from the symbol `at` on.
+#[inline(always)]
 fn read_literal<T: Track>(at: u32, node: &Node, source: &mut Source<'_>, track: &mut T) -> Read
     requires may { MayBeLeft (leaf.Lits at) node.now }
     ensures { (d : DescV) → ReadsLeaf d T.takes (leaf.Lits at) node.now source.old source.new track.old track.new result }
@@ -108,6 +111,7 @@ fn read_literal<T: Track>(at: u32, node: &Node, source: &mut Source<'_>, track: 
 }
 
 /// A spare bit.
+#[inline(always)]
 fn read_spare<T: Track>(
     node: &Node,
     reading: Reading,
@@ -130,6 +134,7 @@ fn read_spare<T: Track>(
 }
 
 /// Padding.
+#[inline(always)]
 fn read_padding<T: Track>(
     begun: bool,
     node: &Node,
@@ -155,6 +160,7 @@ fn read_padding<T: Track>(
 
 /// Takes so many bits, which are ready and stand for the symbol where they are sent; or answers the place of
 /// the first that does not.
+#[inline(always)]
 fn take_spare<T: Track>(
     symbol: Symbol,
     count: u32,
@@ -182,6 +188,7 @@ fn take_spare<T: Track>(
 }
 
 /// So many bits.
+#[inline(always)]
 fn read_field<T: Track>(left: u32, node: &Node, source: &mut Source<'_>, track: &mut T) -> Read
     requires may { MayBeLeft (leaf.Field left) node.now }
     ensures { (d : DescV) → ReadsLeaf d T.takes (leaf.Field left) node.now source.old source.new track.old track.new result }
@@ -196,6 +203,7 @@ fn read_field<T: Track>(left: u32, node: &Node, source: &mut Source<'_>, track: 
 }
 
 /// Any bits.
+#[inline(always)]
 fn read_rest<T: Track>(node: &Node, source: &mut Source<'_>, track: &mut T) -> Read
     requires may { MayBeLeft leaf.Rest node.now }
     ensures { (d : DescV) → ReadsLeaf d T.takes leaf.Rest node.now source.old source.new track.old track.new result }

@@ -8,19 +8,20 @@ ghost use Rattle.csn_judge.specs.declared.turn.Turn.TheVariants as turn;
 ghost use Rattle.csn_judge.specs.declared.frame.Frame.{Frame as FrameV};
 ghost use Rattle.csn_judge.specs.Credit.{TurnPays};
 ghost use Rattle.csn_judge.specs.Known.{Known};
-ghost use Rattle.csn_judge.specs.Turns.{IsPassed, state_of, state_with, StandsSomewhere, Turns};
+ghost use Rattle.csn_judge.specs.Turns.{IsPassed, state_of, state_then, state_with, turn_in, StandsSomewhere, Turns};
 
 use crate::frame::Frame;
 use crate::machine::Machine;
 use crate::source::Source;
 use crate::track::Track;
-use crate::turn::Turn;
+use crate::turn::{Next, Turn};
 use csn_certify::Steps;
 use csn_desc::{Move, Node};
 use std::sync::ledger::Ledger;
 
 impl Machine<'_> {
     /// A node is left.
+    #[inline(always)]
     pub fn leave<T: Track, L: Ledger>(&self, i: u16, track: &mut T, steps: &mut Steps<L>)
         requires { i < length self.now.plan.now.nodes }
         ensures told { (node : NodeV) × (slice_get self.now.plan.now.nodes i ≡ Some node) × T.takes track.old Leave node track.new }
@@ -31,6 +32,7 @@ impl Machine<'_> {
     }
 
     /// A choice or a labelled part is left, behind the part of it.
+    #[inline(always)]
     pub fn pass<T: Track, L: Ledger>(
         &self,
         i: u16,
@@ -49,24 +51,24 @@ impl Machine<'_> {
         Turn::Moved
     }
 
-    /// The next part of a sequence is entered, or it is left behind its last, and what it has shown of values with it.
+    /// The next part of a sequence begins, or it is left behind its last, and what it has shown of values with it.
+    #[inline(always)]
     pub fn seq<T: Track, L: Ledger>(
         &mut self,
         i: u16,
         at: u16,
         values: u8,
-        source: &mut Source<'_>,
+        source: &Source<'_>,
         track: &mut T,
         steps: &mut Steps<L>,
-    ) -> Turn
-        requires { StandsSomewhere self.old.plan.now (state_with (frame.Seq i at values) self.old source.old) }
-        ensures turns { Turns self.old.plan.now T.takes (state_with (frame.Seq i at values) self.old source.old)
-            (state_of self.new source.new) track.old track.new result }
-        ensures pays { TurnPays self.old.plan.now (state_with (frame.Seq i at values) self.old source.old) (state_of self.new source.new)
-            steps.old steps.new result }
+    ) -> Next
+        requires { StandsSomewhere self.old.plan.now (state_with (frame.Seq i at values) self.old source.now) }
+        ensures turns { Turns self.old.plan.now T.takes (state_with (frame.Seq i at values) self.old source.now)
+            (state_then result self.new source.now) track.old track.new (turn_in result) }
+        ensures pays { TurnPays self.old.plan.now (state_with (frame.Seq i at values) self.old source.now) (state_then result self.new source.now)
+            steps.old steps.new (turn_in result) }
         ensures plan { self.new.plan ≡ self.old.plan }
     {
-        source.none_behind_end();
         let node = self.plan.node(i, steps);
         let Node::Seq(parts) = node else {
             unreachable!();
@@ -74,7 +76,7 @@ impl Machine<'_> {
         if at == parts.len() {
             self.values.truncate(values as usize);
             track.step(Move::Leave, node);
-            return Turn::Moved;
+            return Next::Turn(Turn::Moved);
         }
         let behind = Frame::Seq {
             node: i,
@@ -82,12 +84,12 @@ impl Machine<'_> {
             values,
         };
         let part = parts.get(at);
-        self.pace.begin(part);
-        self.frames.push(behind);
-        self.enter(part, source, track, steps)
+        self.begin(part, behind);
+        Next::Begin { node: part }
     }
 
     /// The part of a repetition begins again, or it is left.
+    #[inline(always)]
     pub fn times<T: Track, L: Ledger>(
         &mut self,
         i: u16,
@@ -96,18 +98,18 @@ impl Machine<'_> {
         source: &Source<'_>,
         track: &mut T,
         steps: &mut Steps<L>,
-    ) -> Turn
+    ) -> Next
         requires { StandsSomewhere self.old.plan.now (state_with (frame.Times i part left) self.old source.now) }
         ensures turns { Turns self.old.plan.now T.takes (state_with (frame.Times i part left) self.old source.now)
-            (state_of self.new source.now) track.old track.new result }
-        ensures pays { TurnPays self.old.plan.now (state_with (frame.Times i part left) self.old source.now) (state_of self.new source.now)
-            steps.old steps.new result }
-        ensures waits { result ≡ turn.Waits → steps.new ≤ steps.old + 1 }
+            (state_then result self.new source.now) track.old track.new (turn_in result) }
+        ensures pays { TurnPays self.old.plan.now (state_with (frame.Times i part left) self.old source.now) (state_then result self.new source.now)
+            steps.old steps.new (turn_in result) }
+        ensures waits { turn_in result ≡ turn.Waits → steps.new ≤ steps.old + 1 }
         ensures plan { self.new.plan ≡ self.old.plan }
     {
         if left == 0 {
             self.leave(i, track, steps);
-            return Turn::Moved;
+            return Next::Turn(Turn::Moved);
         }
         let behind = Frame::Times {
             node: i,
@@ -115,10 +117,11 @@ impl Machine<'_> {
             left: left - 1,
         };
         self.begin(part, behind);
-        Turn::Moved
+        Next::Begin { node: part }
     }
 
     /// A window is left, where its part has ended where it does.
+    #[inline(always)]
     pub fn window<T: Track, L: Ledger>(
         &mut self,
         i: u16,

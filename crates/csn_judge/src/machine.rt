@@ -1,6 +1,6 @@
 ghost use Rattle.std.specs.Prelude.{◌≡◌, ◌<◌, false, [], ◌∷◌, length, reverse};
 ghost use Rattle.csn_judge.specs.declared.frame.Frame.TheVariants as frame;
-ghost use Rattle.csn_judge.specs.Turns.{begun_by};
+ghost use Rattle.csn_judge.specs.Turns.{begun_by, over};
 
 use crate::frame::Frame;
 use crate::pace::Pace;
@@ -39,17 +39,42 @@ impl<'a> Machine<'a> {
         machine
     }
 
+    /// The root begins next, as in a new machine.
+    pub fn restart(&mut self)
+        ensures frames { self.new.frames.items ≡ frame.Begin 0 ∷ [] }
+        ensures values { self.new.values.items ≡ [] }
+        ensures pace { self.new.pace ≡ record { next = 1; again = false } }
+        ensures plan { self.new.plan ≡ self.old.plan }
+    {
+        self.frames.clear();
+        self.values.clear();
+        self.pace = Pace::new();
+        self.pace.begin(0);
+        self.frames.push(Frame::Begin { node: 0 });
+    }
+
     /// A part begins next, and behind it the node that it is in goes on as this frame says.
+    #[inline(always)]
     pub fn begin(&mut self, part: u16, behind: Frame)
         requires few { part < 65535 }
         requires room { length self.old.frames.items < 63 }
-        ensures frames { reverse self.new.frames.items ≡ frame.Begin part ∷ behind ∷ reverse self.old.frames.items }
+        ensures frames { reverse self.new.frames.items ≡ behind ∷ reverse self.old.frames.items }
         ensures values { self.new.values ≡ self.old.values }
         ensures pace { self.new.pace ≡ begun_by part self.old.pace }
         ensures plan { self.new.plan ≡ self.old.plan }
     {
         self.pace.begin(part);
         self.frames.push(behind);
-        self.frames.push(Frame::Begin { node: part });
+    }
+}
+
+/// A frame is put on others, if there is one.
+#[inline(always)]
+pub(crate) fn put(frames: &mut ArrayVec<Frame, MOST_DEPTH>, behind: Option<Frame>)
+    requires { length frames.old.items < 64 }
+    ensures { reverse frames.new.items ≡ over behind (reverse frames.old.items) }
+{
+    if let Some(frame) = behind {
+        frames.push(frame);
     }
 }

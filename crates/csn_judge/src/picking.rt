@@ -7,14 +7,15 @@ ghost use Rattle.csn_judge.specs.Picked.{IsNotRefused};
 ghost use Rattle.csn_certify.specs.Picks.{IsAsked, Picks};
 ghost use Rattle.csn_judge.specs.declared.frame.Frame.TheVariants as frame;
 ghost use Rattle.csn_judge.specs.declared.turn.Turn.TheVariants as turn;
-ghost use Rattle.csn_judge.specs.Credit.{TurnPays};
-ghost use Rattle.csn_judge.specs.Turns.{state_of, state_with, tells_nothing, StandsSomewhere, Turns};
+ghost use Rattle.csn_judge.specs.Credit.{credit_in, Pays, TurnPays};
+ghost use Rattle.csn_judge.specs.Turns.{state_begun, state_of, state_then, state_with, tells_nothing, turn_in, StandsSomewhere, Turns};
 
 use crate::frame::Frame;
+use crate::leaf::Leaf;
 use crate::machine::Machine;
 use crate::source::Source;
 use crate::track::Track;
-use crate::turn::Turn;
+use crate::turn::{Next, PartTurn, Turn};
 use csn_certify::{Pick, Steps};
 use csn_desc::{Move, Node};
 use csn_look::MOST_WORD;
@@ -22,68 +23,108 @@ use std::sync::ledger::Ledger;
 
 impl Machine<'_> {
     /// A choice that was waiting takes an alternative.
-    pub fn choose_on<L: Ledger>(
+    pub fn choose_on<T: Track, L: Ledger>(
         &mut self,
         i: u16,
         source: &mut Source<'_>,
+        track: &mut T,
         steps: &mut Steps<L>,
-    ) -> Turn
+    ) -> Next
         requires { StandsSomewhere self.old.plan.now (state_with (frame.Open i) self.old source.old) }
-        ensures turns { Turns self.old.plan.now tells_nothing (state_with (frame.Open i) self.old source.old)
-            (state_of self.new source.new) tt tt result }
-        ensures pays { TurnPays self.old.plan.now (state_with (frame.Open i) self.old source.old) (state_of self.new source.new)
-            steps.old steps.new result }
+        ensures turns { Turns self.old.plan.now T.takes (state_with (frame.Open i) self.old source.old)
+            (state_then result self.new source.new) track.old track.new (turn_in result) }
+        ensures pays { TurnPays self.old.plan.now (state_with (frame.Open i) self.old source.old) (state_then result self.new source.new)
+            steps.old steps.new (turn_in result) }
         ensures plan { self.new.plan ≡ self.old.plan }
     {
         let node = self.plan.node(i, steps);
-        self.choose(i, node, source, steps)
+        self.choose(i, node, source, track, steps)
     }
 
     /// A choice takes an alternative by the bits that are ready. Without a bit it waits, unless none can come.
-    pub fn choose<L: Ledger>(
+    #[inline(always)]
+    pub fn choose<T: Track, L: Ledger>(
         &mut self,
         i: u16,
         node: &Node,
         source: &mut Source<'_>,
+        track: &mut T,
         steps: &mut Steps<L>,
-    ) -> Turn
+    ) -> Next
         requires node { slice_get self.old.plan.now.nodes i ≡ Some node.now }
         requires stands { StandsSomewhere self.old.plan.now (state_with (frame.Open i) self.old source.old) }
-        ensures turns { Turns self.old.plan.now tells_nothing (state_with (frame.Open i) self.old source.old)
-            (state_of self.new source.new) tt tt result }
-        ensures pays { TurnPays self.old.plan.now (state_with (frame.Open i) self.old source.old) (state_of self.new source.new)
-            steps.old (steps.new + 1) result }
+        ensures turns { Turns self.old.plan.now T.takes (state_with (frame.Open i) self.old source.old)
+            (state_then result self.new source.new) track.old track.new (turn_in result) }
+        ensures pays { TurnPays self.old.plan.now (state_with (frame.Open i) self.old source.old) (state_then result self.new source.new)
+            steps.old (steps.new + 1) (turn_in result) }
         ensures plan { self.new.plan ≡ self.old.plan }
     {
+        source.none_behind_end();
         let Node::Choice(parts) = node else {
             unreachable!();
         };
         let ready = source.ready(MOST_WORD as u32);
         if ready == 0 && !source.is_closed() {
             self.frames.push(Frame::Open { node: i });
-            return Turn::Waits;
+            return Next::Turn(Turn::Waits);
         }
         match self.pick(i, ready, source, steps) {
-            Pick::Take(j) => {
-                self.begin(parts.get(j), Frame::Choice { node: i });
-                Turn::Moved
-            }
+            Pick::Take(j) => self.take_alternative(i, parts.get(j), node, source, track, steps),
             Pick::Wait => {
                 self.frames.push(Frame::Open { node: i });
                 if source.has_more(ready) {
-                    Turn::Refused {
+                    Next::Turn(Turn::Refused {
                         place: source.place() + ready,
-                    }
+                    })
                 } else {
-                    Turn::Waits
+                    Next::Turn(Turn::Waits)
                 }
             }
-            Pick::Refuse => self.refuse(i, ready, source, steps),
+            Pick::Refuse => Next::Turn(self.refuse(i, ready, source, steps)),
             Pick::Leave => unreachable!(),
         }
     }
 
+    /// An alternative of a choice begins. A literal is read at once.
+    #[inline(always)]
+    fn take_alternative<T: Track, L: Ledger>(
+        &mut self,
+        i: u16,
+        part: u16,
+        node: &Node,
+        source: &mut Source<'_>,
+        track: &mut T,
+        steps: &mut Steps<L>,
+    ) -> Next
+        requires node { slice_get self.old.plan.now.nodes i ≡ Some node.now }
+        requires stands { StandsSomewhere self.old.plan.now (state_begun part (frame.Choice i) self.old source.old) }
+        ensures turns { Turns self.old.plan.now T.takes (state_begun part (frame.Choice i) self.old source.old)
+            (state_then result self.new source.new) track.old track.new (turn_in result) }
+        ensures pays { Pays (credit_in self.old.plan.now (state_begun part (frame.Choice i) self.old source.old) + 1)
+            (credit_in self.old.plan.now (state_then result self.new source.new)) steps.old steps.new (turn_in result) }
+        ensures plan { self.new.plan ≡ self.old.plan }
+    {
+        let alternative = self.plan.node(part, steps);
+        let behind = Frame::Choice { node: i };
+        let Node::Lits(_) = alternative else {
+            self.begin(part, behind);
+            return Next::Begin { node: part };
+        };
+        source.none_behind_end();
+        self.pace.begin(part);
+        track.step(Move::Enter(part), alternative);
+        let literal = Leaf::Lits { at: 0 };
+        match self.read_part(part, literal, alternative, Some(behind), source, track) {
+            PartTurn::Ended => {
+                track.step(Move::Leave, node);
+                Next::Turn(Turn::Moved)
+            }
+            PartTurn::Turn(turn) => Next::Turn(turn),
+        }
+    }
+
     /// What look-ahead answers for so many of the next bits, or at the end where they are none.
+    #[inline(always)]
     fn pick<L: Ledger>(&self, i: u16, count: u32, source: &Source<'_>, steps: &mut Steps<L>) -> Pick
         requires node { i < length self.now.plan.now.nodes }
         requires few { count ≤ 12 }
@@ -183,6 +224,7 @@ impl Machine<'_> {
 
     /// A free repetition begins its part again or is left, by the bit that is ready. Without one it waits, unless
     /// none can come.
+    #[inline(always)]
     pub fn many<T: Track, L: Ledger>(
         &mut self,
         i: u16,
@@ -190,30 +232,31 @@ impl Machine<'_> {
         source: &mut Source<'_>,
         track: &mut T,
         steps: &mut Steps<L>,
-    ) -> Turn
+    ) -> Next
         requires { StandsSomewhere self.old.plan.now (state_with (frame.Many i part) self.old source.old) }
         ensures turns { Turns self.old.plan.now T.takes (state_with (frame.Many i part) self.old source.old)
-            (state_of self.new source.new) track.old track.new result }
-        ensures pays { TurnPays self.old.plan.now (state_with (frame.Many i part) self.old source.old) (state_of self.new source.new)
-            steps.old steps.new result }
-        ensures waits { result ≡ turn.Waits → steps.new ≤ steps.old + 1 }
+            (state_then result self.new source.new) track.old track.new (turn_in result) }
+        ensures pays { TurnPays self.old.plan.now (state_with (frame.Many i part) self.old source.old) (state_then result self.new source.new)
+            steps.old steps.new (turn_in result) }
+        ensures waits { turn_in result ≡ turn.Waits → steps.new ≤ steps.old + 1 }
         ensures plan { self.new.plan ≡ self.old.plan }
     {
         let ready = source.ready(1);
         if ready == 0 && !source.is_closed() {
             self.frames.push(Frame::Many { node: i, part });
-            return Turn::Waits;
+            return Next::Turn(Turn::Waits);
         }
         if let Pick::Take(_) = self.pick(i, ready, source, steps) {
             self.begin(part, Frame::Many { node: i, part });
-            return Turn::Moved;
+            return Next::Begin { node: part };
         }
         self.leave(i, track, steps);
-        Turn::Moved
+        Next::Turn(Turn::Moved)
     }
 
     /// The next part of a truncation begins where a bit is ready. It is left behind its last part, and where no
     /// bit can come, and what it has shown of values with it.
+    #[inline(always)]
     pub fn trunc<T: Track, L: Ledger>(
         &mut self,
         i: u16,
@@ -222,13 +265,13 @@ impl Machine<'_> {
         source: &mut Source<'_>,
         track: &mut T,
         steps: &mut Steps<L>,
-    ) -> Turn
+    ) -> Next
         requires { StandsSomewhere self.old.plan.now (state_with (frame.Trunc i at values) self.old source.old) }
         ensures turns { Turns self.old.plan.now T.takes (state_with (frame.Trunc i at values) self.old source.old)
-            (state_of self.new source.new) track.old track.new result }
-        ensures pays { TurnPays self.old.plan.now (state_with (frame.Trunc i at values) self.old source.old) (state_of self.new source.new)
-            steps.old steps.new result }
-        ensures waits { result ≡ turn.Waits → steps.new ≤ steps.old + 1 }
+            (state_then result self.new source.new) track.old track.new (turn_in result) }
+        ensures pays { TurnPays self.old.plan.now (state_with (frame.Trunc i at values) self.old source.old) (state_then result self.new source.new)
+            steps.old steps.new (turn_in result) }
+        ensures waits { turn_in result ≡ turn.Waits → steps.new ≤ steps.old + 1 }
         ensures plan { self.new.plan ≡ self.old.plan }
     {
         let node = self.plan.node(i, steps);
@@ -242,19 +285,20 @@ impl Machine<'_> {
                 at,
                 values,
             });
-            return Turn::Waits;
+            return Next::Turn(Turn::Waits);
         }
         if ready == 0 || at == parts.len() {
             self.values.truncate(values as usize);
             track.step(Move::Leave, node);
-            return Turn::Moved;
+            return Next::Turn(Turn::Moved);
         }
         let behind = Frame::Trunc {
             node: i,
             at: at + 1,
             values,
         };
-        self.begin(parts.get(at), behind);
-        Turn::Moved
+        let part = parts.get(at);
+        self.begin(part, behind);
+        Next::Begin { node: part }
     }
 }

@@ -3,14 +3,14 @@
 ghost use Rattle.std.specs.Prelude.{◌≡◌, ◌+◌, slice_get, Some};
 ghost use Rattle.csn_judge.specs.declared.frame.Frame.TheVariants as frame;
 ghost use Rattle.csn_judge.specs.Credit.{TurnPays};
-ghost use Rattle.csn_judge.specs.Turns.{state_of, state_with, StandsSomewhere, Turns};
+ghost use Rattle.csn_judge.specs.Turns.{state_behind, state_of, state_upon, state_with, turn_of_part, StandsSomewhere, Turns};
 
 use crate::frame::{Counted, Frame};
 use crate::leaf::{Leaf, Read, take};
-use crate::machine::Machine;
+use crate::machine::{Machine, put};
 use crate::source::Source;
 use crate::track::Track;
-use crate::turn::Turn;
+use crate::turn::{PartTurn, Turn};
 use crate::values::Value;
 use csn_certify::Steps;
 use csn_desc::{Move, Node};
@@ -18,6 +18,7 @@ use std::sync::ledger::Ledger;
 
 impl Machine<'_> {
     /// A leaf that was waiting takes bits.
+    #[inline(always)]
     pub fn read_on<T: Track, L: Ledger>(
         &mut self,
         i: u16,
@@ -37,7 +38,50 @@ impl Machine<'_> {
         self.read(i, leaf, node, source, track)
     }
 
+    /// A leaf takes bits, and is left where it has ended. Where it has not, the frame behind it is put on the others, and
+    /// what is left of it on that. One step is paid for with it.
+    #[inline(always)]
+    pub fn read_part<T: Track>(
+        &mut self,
+        i: u16,
+        leaf: Leaf,
+        node: &Node,
+        behind: Option<Frame>,
+        source: &mut Source<'_>,
+        track: &mut T,
+    ) -> PartTurn
+        requires stands { StandsSomewhere self.old.plan.now (state_upon (frame.Leaf i leaf) behind self.old source.old) }
+        requires node { slice_get self.old.plan.now.nodes i ≡ Some node.now }
+        ensures turns { Turns self.old.plan.now T.takes (state_upon (frame.Leaf i leaf) behind self.old source.old)
+            (state_behind result behind self.new source.new) track.old track.new (turn_of_part result) }
+        ensures plan { self.new.plan ≡ self.old.plan }
+        ensures pays { TurnPays self.old.plan.now (state_upon (frame.Leaf i leaf) behind self.old source.old)
+            (state_behind result behind self.new source.new) 0 1 (turn_of_part result) }
+    {
+        let before = source.place();
+        let read = leaf.read(node, self.plan.reading(), source, track);
+        let took = source.place() > before;
+        self.pace.bits(took);
+        match read {
+            Read::All => {
+                track.step(Move::Leave, node);
+                PartTurn::Ended
+            }
+            Read::Some(leaf) => {
+                put(&mut self.frames, behind);
+                self.frames.push(Frame::Leaf { node: i, leaf });
+                if took {
+                    PartTurn::Turn(Turn::Moved)
+                } else {
+                    PartTurn::Turn(Turn::stopped(source))
+                }
+            }
+            Read::Refused { place } => PartTurn::Turn(Turn::Refused { place }),
+        }
+    }
+
     /// A leaf takes bits, and is left where it has ended. One step is paid for with it.
+    #[inline(always)]
     pub fn read<T: Track>(
         &mut self,
         i: u16,
@@ -54,24 +98,9 @@ impl Machine<'_> {
         ensures pays { TurnPays self.old.plan.now (state_with (frame.Leaf i leaf) self.old source.old) (state_of self.new source.new)
             0 1 result }
     {
-        let before = source.place();
-        let read = leaf.read(node, self.plan.reading(), source, track);
-        let took = source.place() > before;
-        self.pace.bits(took);
-        match read {
-            Read::All => {
-                track.step(Move::Leave, node);
-                Turn::Moved
-            }
-            Read::Some(leaf) => {
-                self.frames.push(Frame::Leaf { node: i, leaf });
-                if took {
-                    Turn::Moved
-                } else {
-                    Turn::stopped(source)
-                }
-            }
-            Read::Refused { place } => Turn::Refused { place },
+        match self.read_part(i, leaf, node, None, source, track) {
+            PartTurn::Ended => Turn::Moved,
+            PartTurn::Turn(turn) => turn,
         }
     }
 

@@ -11,6 +11,24 @@ pub(crate) enum Turn {
     Refused { place: u32 },
 }
 
+/// What comes of a part that is read at once, where another frame may stand behind it.
+#[derive(Clone, Copy, Debug, PartialEq, Eq)]
+pub(crate) enum PartTurn {
+    /// It has ended, and what stands behind it goes on.
+    Ended,
+    /// It has not.
+    Turn(Turn),
+}
+
+/// What comes of one turn in which a node may begin.
+#[derive(Clone, Copy, Debug, PartialEq, Eq)]
+pub(crate) enum Next {
+    /// This node begins next.
+    Begin { node: u16 },
+    /// None does.
+    Turn(Turn),
+}
+
 impl Turn {
     ghost use Rattle.csn_judge.specs.Turns.{IsStopped};
 

@@ -1,11 +1,7 @@
-use Rattle.std.proofs.Common.{List, ◌∷◌, reverse, ap, ◌∙◌}
+use Rattle.std.proofs.Common.{List, reverse, ap, ◌∙◌}
 use Rattle.csn_judge.specs.declared.frame.Frame.{Frame}
-use Rattle.csn_judge.specs.declared.frame.Frame.TheVariants as frame
 use Rattle.csn_judge.proofs.Turning.{pushed}
 use Rattle.csn_judge.proofs.machine.Machine.begin.Goals as goal
 
 pub returns-clause-frames : goal.returns-clause-frames
-returns-clause-frames c =
-    ap (λ (l : List Frame). reverse l) c.push-2.ensures.items ∙ pushed c.push.new.self.items (frame.Begin c.args.part)
-    ∙ ap (λ (l : List Frame). frame.Begin c.args.part ∷ l)
-    (ap (λ (l : List Frame). reverse l) c.push.ensures.items ∙ pushed c.args.self.now.frames.items c.args.behind)
+returns-clause-frames c = ap (λ (l : List Frame). reverse l) c.push.ensures.items ∙ pushed c.args.self.now.frames.items c.args.behind

@@ -1,4 +1,4 @@
-use Rattle.std.proofs.Common.{inl, ℕ, ◌+◌, List, lit<, ◌%◌, ◌≡◌, ◌∷◌, ◌⊎◌, true, length, reverse, sym, ap, subst, ◌∙◌, arith, Some}
+use Rattle.std.proofs.Common.{inl, ℕ, ◌++◌, ◌+◌, List, lit<, ◌%◌, ◌≡◌, ◌∷◌, ◌⊎◌, true, length, reverse, sym, ap, subst, ◌∙◌, arith, Some}
 use Rattle.std.proofs.lemmas.List.{length-reverse}
 use Rattle.std.proofs.lemmas.Option.{slice_get_within}
 use Rattle.csn_desc.specs.Nodes.{DescV}
@@ -7,10 +7,13 @@ use Rattle.csn_judge.specs.declared.frame.Frame.{Frame}
 use Rattle.csn_judge.specs.declared.frame.Frame.TheVariants as frame
 use Rattle.csn_judge.specs.declared.turn.Turn.TheVariants.{Waits, Refused}
 use Rattle.csn_judge.specs.Coming.{Coming}
-use Rattle.csn_judge.specs.Turns.{tells_nothing}
-use Rattle.csn_judge.proofs.Paying.{begun_pays_on}
+use Rattle.csn_judge.specs.Credit.{credit_in, credit_of, Pays}
+use Rattle.csn_judge.specs.Turns.{begun_by, state_begun, state_then, turn_in}
+use Rattle.csn_judge.proofs.Paying.{begun_credit}
+use Rattle.csn_judge.proofs.PayingBits.{chosen_pays}
 use Rattle.csn_judge.proofs.PayingParts.{alternative_comes}
 use Rattle.csn_judge.proofs.Turning.{pushed, stays, GoesOn-along, frames_room}
+use Rattle.csn_judge.proofs.TurningOn.{turns_then, quietly}
 use Rattle.csn_judge.proofs.TurningSame.{turns_since, goes_since, stands_on, waits_unready}
 use Rattle.csn_judge.proofs.TurningChoices.{open_asked, taken_of, left_of, takes_open, waits_with_all, waits_with_more, alternative_room}
 use Rattle.csn_judge.proofs.machine.Machine.choose.Goals.{else-ready-eq0-via-then-ready-eq0+else-not-is_closed, else-ready-eq0-via-else-ready-eq0}
@@ -26,7 +29,7 @@ push-requires-in-Wait g c =
 
 pub returns-then-not-is_closed-clause-turns : goal.returns-then-not-is_closed-clause-turns
 returns-then-not-is_closed-clause-turns g c =
-    waits_unready c.args.self.now.plan.now tells_nothing tt c.args.self.now.values.items c.args.self.now.pace c.ready-ready.new.self 12 (omega arith) c.ready-ready.ensures.same (sym c.ready-ready.ensures.count ∙ c.if-ready-eq0.true) c.ready-ready.ensures.good c.ready-ready.ensures.within
+    waits_unready c.args.self.now.plan.now g.T.Track.takes c.args.track.now c.args.self.now.values.items c.args.self.now.pace c.ready-ready.new.self 12 (omega arith) c.ready-ready.ensures.same (sym c.ready-ready.ensures.count ∙ c.if-ready-eq0.true) c.ready-ready.ensures.good c.ready-ready.ensures.within
     (λ closed. let yes = c.is_closed.ensures.1 closed in let no = c.if-not-is_closed.true in absurd (cc)) c.requires.stands.known
     (ap (λ (l : List Frame). reverse l) c.push.ensures.items ∙ pushed c.args.self.now.frames.items (frame.Open c.args.i))
 
@@ -41,25 +44,33 @@ pick-requires-clause-asked g c =
 
 pub get-requires : goal.get-requires
 get-requires g c =
-    let found = taken_of c.args.self.now.plan.now tells_nothing tt c.args.self.now.values.items c.args.self.now.pace c.ready-ready.new.self c.ready-ready.result c.in-Choice.parts
+    let found = taken_of c.args.self.now.plan.now g.T.Track.takes c.args.track.now c.args.self.now.values.items c.args.self.now.pace c.ready-ready.new.self c.ready-ready.result c.in-Choice.parts
     (c.requires.node ∙ ap (λ n. Some n) c.in-Choice.is) c.in-Take.ensures.none c.in-Take.ensures.some
     in
     slice_get_within _ _ _ found.1
 
-pub begin-requires-clause-few : goal.begin-requires-clause-few
-begin-requires-clause-few g c =
-    let rooms = alternative_room c.args.self.now.plan.now c.args.self.now.pace c.in-Take.j c.in-Choice.parts c.requires.stands.known (c.requires.node ∙ ap (λ n. Some n) c.in-Choice.is) c.get.ensures c.requires.stands.stands.shows c.requires.stands.stands.stack_is in
-    omega (arith, rooms.0, c.requires.stands.known.description.few)
-
-pub begin-requires-clause-room : goal.begin-requires-clause-room
-begin-requires-clause-room g c =
-    let rooms = alternative_room c.args.self.now.plan.now c.args.self.now.pace c.in-Take.j c.in-Choice.parts c.requires.stands.known (c.requires.node ∙ ap (λ n. Some n) c.in-Choice.is) c.get.ensures c.requires.stands.stands.shows c.requires.stands.stands.stack_is in
-    omega (arith, rooms.1, length-reverse c.args.self.now.frames.items)
-
 pub unreachable-requires-in-Leave : goal.unreachable-requires-in-Leave
 unreachable-requires-in-Leave g c =
-    left_of c.args.self.now.plan.now tells_nothing tt c.args.self.now.values.items c.args.self.now.pace c.ready-ready.new.self c.ready-ready.result c.in-Choice.parts
+    left_of c.args.self.now.plan.now g.T.Track.takes c.args.track.now c.args.self.now.values.items c.args.self.now.pace c.ready-ready.new.self c.ready-ready.result c.in-Choice.parts
     (c.requires.node ∙ ap (λ n. Some n) c.in-Choice.is) c.in-Leave.ensures.none c.in-Leave.ensures.some
+
+pub take_alternative-requires-clause-stands : goal.take_alternative-requires-clause-stands
+take_alternative-requires-clause-stands g c =
+    let d : DescV = c.args.self.now.plan.now in
+    let next : Coming = c.ready-ready.new.self in
+    let frames : List Frame = frame.Open c.args.i ∷ reverse c.args.self.now.frames.items in
+    let closed : c.ready-ready.result ≡ 0 → (next.ended ≡ true) ⊎ (next.place ≡ next.limit) =
+    λ none.
+    elim c.else-ready-eq0.branch [
+      | else-ready-eq0-via-then-ready-eq0+else-not-is_closed w ↦ w.is_closed.ensures.0 w.if-not-is_closed.false
+      | else-ready-eq0-via-else-ready-eq0 w ↦ absurd (w.if-ready-eq0.false none)
+    ]
+    in
+    let on =
+    takes_open d g.T.Track.takes c.args.track.now c.args.self.now.values.items c.args.self.now.pace next c.ready-ready.result c.in-Choice.parts
+    (c.requires.node ∙ ap (λ n. Some n) c.in-Choice.is) c.get.ensures c.ready-ready.ensures.good c.ready-ready.ensures.count closed c.in-Take.ensures.none c.in-Take.ensures.some c.requires.stands.known
+    (stands_on d g.T.Track.takes c.args.track.now c.args.track.now frames c.args.self.now.values.items c.args.self.now.pace c.ready-ready.ensures.same c.requires.stands.stands) in
+    record { known = c.requires.stands.known; stack = on.now; done = c.requires.stands.done ++ on.taken; stands = on.stands }
 
 pub returns-in-Take-clause-turns : goal.returns-in-Take-clause-turns
 returns-in-Take-clause-turns g c =
@@ -73,20 +84,22 @@ returns-in-Take-clause-turns g c =
       | else-ready-eq0-via-else-ready-eq0 w ↦ absurd (w.if-ready-eq0.false none)
     ]
     in
-    λ stack done stands.
-    goes_since d tells_nothing tt tt frames c.args.self.now.values.items c.args.self.now.pace c.ready-ready.ensures.same _
-    (GoesOn-along d tells_nothing tt c.args.self.now.values.items c.args.self.now.pace next c.begin.ensures.frames (ap (λ v. v.items) c.begin.ensures.values) c.begin.ensures.pace
-    (takes_open d tells_nothing tt c.args.self.now.values.items c.args.self.now.pace next c.ready-ready.result c.in-Choice.parts
+    turns_then d g.T.Track.takes {middle = state_begun c.get.result (frame.Choice c.args.i) c.args.self.now next} (state_then c.take_alternative.result c.take_alternative.new.self c.take_alternative.new.source) c.take_alternative.new.track (turn_in c.take_alternative.result)
+    (λ ended. c.ready-ready.ensures.same.bits ∙ c.none_behind_end.ensures ended)
+    (λ stack done stands.
+    goes_since d g.T.Track.takes c.args.track.now c.args.track.now frames c.args.self.now.values.items c.args.self.now.pace c.ready-ready.ensures.same _
+    (takes_open d g.T.Track.takes c.args.track.now c.args.self.now.values.items c.args.self.now.pace next c.ready-ready.result c.in-Choice.parts
     (c.requires.node ∙ ap (λ n. Some n) c.in-Choice.is) c.get.ensures c.ready-ready.ensures.good c.ready-ready.ensures.count closed c.in-Take.ensures.none c.in-Take.ensures.some c.requires.stands.known
-    (stands_on d tells_nothing tt tt frames c.args.self.now.values.items c.args.self.now.pace c.ready-ready.ensures.same stands)))
+    (stands_on d g.T.Track.takes c.args.track.now c.args.track.now frames c.args.self.now.values.items c.args.self.now.pace c.ready-ready.ensures.same stands)))
+    c.take_alternative.ensures.turns
 
 pub returns-then-has_more-clause-turns : goal.returns-then-has_more-clause-turns
 returns-then-has_more-clause-turns g c =
     let d : DescV = c.args.self.now.plan.now in
     let next : Coming = c.ready-ready.new.self in
     let frames : List Frame = frame.Open c.args.i ∷ reverse c.args.self.now.frames.items in
-    turns_since d tells_nothing tt tt frames c.args.self.now.values.items c.args.self.now.pace c.ready-ready.ensures.same _ (Refused (c.place.result + c.ready-ready.result))
-    (waits_with_more d tells_nothing tt c.args.self.now.values.items c.args.self.now.pace next _ (c.place.result + c.ready-ready.result) c.ready-ready.result c.in-Choice.parts
+    turns_since d g.T.Track.takes c.args.track.now c.args.track.now frames c.args.self.now.values.items c.args.self.now.pace c.ready-ready.ensures.same _ (Refused (c.place.result + c.ready-ready.result))
+    (waits_with_more d g.T.Track.takes c.args.track.now c.args.self.now.values.items c.args.self.now.pace next _ (c.place.result + c.ready-ready.result) c.ready-ready.result c.in-Choice.parts
     (c.requires.node ∙ ap (λ n. Some n) c.in-Choice.is) c.ready-ready.ensures.good c.ready-ready.ensures.count (c.has_more.ensures.0 c.if-has_more.true) (ap (λ n. n + c.ready-ready.result) c.place.ensures.place)
     c.in-Wait.ensures.none c.in-Wait.ensures.some c.requires.stands.known)
 
@@ -95,10 +108,10 @@ returns-else-has_more-clause-turns g c =
     let d : DescV = c.args.self.now.plan.now in
     let next : Coming = c.ready-ready.new.self in
     let frames : List Frame = frame.Open c.args.i ∷ reverse c.args.self.now.frames.items in
-    turns_since d tells_nothing tt tt frames c.args.self.now.values.items c.args.self.now.pace c.ready-ready.ensures.same _ Waits
-    (stays d tells_nothing tt c.args.self.now.values.items c.args.self.now.pace next Waits _ tt
+    turns_since d g.T.Track.takes c.args.track.now c.args.track.now frames c.args.self.now.values.items c.args.self.now.pace c.ready-ready.ensures.same _ Waits
+    (stays d g.T.Track.takes c.args.track.now c.args.self.now.values.items c.args.self.now.pace next Waits _ c.args.track.now
     (ap (λ (l : List Frame). reverse l) c.push-in-Wait.ensures.items ∙ pushed c.args.self.now.frames.items (frame.Open c.args.i))
-    (waits_with_all d tells_nothing tt c.args.self.now.values.items c.args.self.now.pace next c.ready-ready.result c.in-Choice.parts
+    (waits_with_all d g.T.Track.takes c.args.track.now c.args.self.now.values.items c.args.self.now.pace next c.ready-ready.result c.in-Choice.parts
     (c.requires.node ∙ ap (λ n. Some n) c.in-Choice.is) c.ready-ready.ensures.good c.ready-ready.ensures.count c.ready-ready.ensures.held c.ready-ready.ensures.within
     (λ more. let yes = c.has_more.ensures.1 more in let no = c.if-has_more.false in absurd (cc))
     c.in-Wait.ensures.none c.in-Wait.ensures.some c.requires.stands.known))
@@ -106,13 +119,20 @@ returns-else-has_more-clause-turns g c =
 pub returns-in-Refuse-clause-turns : goal.returns-in-Refuse-clause-turns
 returns-in-Refuse-clause-turns g c =
     let d : DescV = c.args.self.now.plan.now in
-    let next : Coming = c.ready-ready.new.self in
     let frames : List Frame = frame.Open c.args.i ∷ reverse c.args.self.now.frames.items in
-    turns_since d tells_nothing tt tt frames c.args.self.now.values.items c.args.self.now.pace c.ready-ready.ensures.same _ c.refuse.result c.refuse.ensures.turns
+    turns_since d g.T.Track.takes c.args.track.now c.args.track.now frames c.args.self.now.values.items c.args.self.now.pace c.ready-ready.ensures.same _ c.refuse.result
+    (quietly d g.T.Track.takes c.args.track.now _ _ c.refuse.result c.refuse.ensures.turns)
 
 pub returns-in-Take-clause-pays : goal.returns-in-Take-clause-pays
 returns-in-Take-clause-pays g c =
     let d : DescV = c.args.self.now.plan.now in
+    let frames = reverse c.args.self.now.frames.items in
+    let bits = length c.args.source.now.bits in
     let rises = alternative_comes d c.args.self.now.pace c.in-Take.j c.in-Choice.parts (c.requires.node ∙ ap (λ n. Some n) c.in-Choice.is) c.get.ensures c.requires.stands.known c.requires.stands.stands.shows c.requires.stands.stands.stack_is in
-    begun_pays_on c.args.steps.now 2 (frame.Open c.args.i) _ (ap (λ (l : List ℕ). length l) c.ready-ready.ensures.same.bits) c.begin.ensures.frames c.begin.ensures.pace (omega (arith, c.pick.ensures.step))
-    rises.is_node (inl rises.rises) (omega arith) (omega arith)
+    let less = begun_credit (frame.Open c.args.i) (frame.Choice c.args.i) frames c.args.self.now.pace bits rises.is_node (inl rises.rises) in
+    let begun : ℕ = credit_of (length d.nodes) (frame.Begin c.get.result ∷ frame.Choice c.args.i ∷ frames) (begun_by c.get.result c.args.self.now.pace) bits in
+    let after : ℕ = credit_in d (state_then c.take_alternative.result c.take_alternative.new.self c.take_alternative.new.source) in
+    let same = ap (λ (l : List ℕ). length l) c.ready-ready.ensures.same.bits in
+    let P : ℕ → Type 0 = λ b. Pays (credit_of (length d.nodes) (frame.Begin c.get.result ∷ frame.Choice c.args.i ∷ frames) (begun_by c.get.result c.args.self.now.pace) b + 1) after c.pick.new.steps c.take_alternative.new.steps (turn_in c.take_alternative.result) in
+    chosen_pays (credit_of (length d.nodes) (frame.Open c.args.i ∷ frames) c.args.self.now.pace bits) begun after c.args.steps.now c.take_alternative.new.steps (turn_in c.take_alternative.result)
+    (omega (arith, less)) (subst (λ (k : ℕ). Pays (begun + 1) after k c.take_alternative.new.steps (turn_in c.take_alternative.result)) c.pick.ensures.step (subst P same c.take_alternative.ensures.pays))

@@ -4,12 +4,14 @@ use Rattle.csn_desc.specs.Nodes.{DescV}
 use Rattle.csn_desc.specs.declared.moves.Move.TheVariants.{Enter, Leave}
 use Rattle.csn_desc.specs.declared.node.Node.{Node}
 use Rattle.csn_desc.specs.declared.node.Node.TheVariants.{Seq, Window}
+use Rattle.csn_judge.specs.declared.frame.Frame.{Frame}
 use Rattle.csn_judge.specs.declared.frame.Frame.TheVariants as frame
 use Rattle.csn_judge.specs.Coming.{Coming}
+use Rattle.csn_judge.specs.Turns.{turn_in}
 use Rattle.csn_judge.proofs.Paying.{begun_pays, begun_pays_on}
 use Rattle.csn_judge.proofs.Rooms.{begin_room, begin_within}
 use Rattle.csn_judge.proofs.Turning.{GoesOn-along}
-use Rattle.csn_judge.proofs.TurningOn.{turns_then, quietly}
+use Rattle.csn_judge.proofs.TurningOn.{turns_then}
 use Rattle.csn_judge.proofs.TurningEntry.{at_begin, literal, spare, pad, rest, field, choice, turns, free, truncation, sequence, window, null, node_within, some_parts, field_fits, window_fits, keeps_field, keeps_turns, keeps_window, first_rises, stands_behind}
 use Rattle.csn_judge.proofs.machine.Machine.enter.Goals as goal
 
@@ -96,9 +98,9 @@ choose-requires-clause-stands g c =
 pub returns-in-Choice-clause-turns : goal.returns-in-Choice-clause-turns
 returns-in-Choice-clause-turns g c =
     let d : DescV = c.args.self.now.plan.now in
-    turns_then d g.T.Track.takes _ _ c.choose.result c.none_behind_end.ensures
+    turns_then d g.T.Track.takes _ _ (turn_in c.choose.result) c.none_behind_end.ensures
     (λ stack done stands. choice d g.T.Track.takes c.args.track.now c.args.self.now.values.items c.args.self.now.pace c.args.source.now c.requires.known stands c.in-Choice.field-0 (c.node-node.ensures.node ∙ ap (λ n. Some n) c.in-Choice.is) (subst (λ (n : Node). g.T.Track.takes c.args.track.now (Enter c.args.i) n c.step.new.self) c.in-Choice.is c.step.ensures))
-    (quietly d g.T.Track.takes c.step.new.self _ _ c.choose.result c.choose.ensures.turns)
+    c.choose.ensures.turns
 
 pub times-requires : goal.times-requires
 times-requires g c =
@@ -108,7 +110,7 @@ times-requires g c =
 pub returns-in-Times-clause-turns : goal.returns-in-Times-clause-turns
 returns-in-Times-clause-turns g c =
     let d : DescV = c.args.self.now.plan.now in
-    turns_then d g.T.Track.takes _ _ c.times.result c.none_behind_end.ensures
+    turns_then d g.T.Track.takes _ _ (turn_in c.times.result) c.none_behind_end.ensures
     (λ stack done stands. turns d g.T.Track.takes c.args.track.now c.args.self.now.values.items c.args.self.now.pace c.args.source.now c.requires.known stands c.number_of-left.result c.in-Times.part c.in-Times.count (c.node-node.ensures.node ∙ ap (λ n. Some n) c.in-Times.is) (subst (λ (n : Node). g.T.Track.takes c.args.track.now (Enter c.args.i) n c.step.new.self) c.in-Times.is c.step.ensures) (c.number_of-left.ensures.count (at_begin d g.T.Track.takes c.args.track.now c.args.self.now.values.items c.args.self.now.pace c.args.source.now stands).stands.v (at_begin d g.T.Track.takes c.args.track.now c.args.self.now.values.items c.args.self.now.pace c.args.source.now stands).stands.kept))
     c.times.ensures.turns
 
@@ -120,7 +122,7 @@ many-requires g c =
 pub returns-in-Many-clause-turns : goal.returns-in-Many-clause-turns
 returns-in-Many-clause-turns g c =
     let d : DescV = c.args.self.now.plan.now in
-    turns_then d g.T.Track.takes _ _ c.many.result c.none_behind_end.ensures
+    turns_then d g.T.Track.takes _ _ (turn_in c.many.result) c.none_behind_end.ensures
     (λ stack done stands. free d g.T.Track.takes c.args.track.now c.args.self.now.values.items c.args.self.now.pace c.args.source.now c.requires.known stands c.in-Many.part (c.node-node.ensures.node ∙ ap (λ n. Some n) c.in-Many.is) (subst (λ (n : Node). g.T.Track.takes c.args.track.now (Enter c.args.i) n c.step.new.self) c.in-Many.is c.step.ensures))
     c.many.ensures.turns
 
@@ -132,7 +134,7 @@ trunc-requires g c =
 pub returns-in-Trunc-clause-turns : goal.returns-in-Trunc-clause-turns
 returns-in-Trunc-clause-turns g c =
     let d : DescV = c.args.self.now.plan.now in
-    turns_then d g.T.Track.takes _ _ c.trunc.result c.none_behind_end.ensures
+    turns_then d g.T.Track.takes _ _ (turn_in c.trunc.result) c.none_behind_end.ensures
     (λ stack done stands. truncation d g.T.Track.takes c.args.track.now c.args.self.now.values.items c.args.self.now.pace c.args.source.now c.requires.known stands c.in-Trunc.field-0 _ (c.node-node.ensures.node ∙ ap (λ n. Some n) c.in-Trunc.is) (subst (λ (n : Node). g.T.Track.takes c.args.track.now (Enter c.args.i) n c.step.new.self) c.in-Trunc.is c.step.ensures) c.len-values.ensures.value)
     c.trunc.ensures.turns
 
@@ -143,22 +145,22 @@ returns-in-Null-clause-turns g c =
     null d g.T.Track.takes c.args.track.now c.args.self.now.values.items c.args.self.now.pace c.args.source.now c.requires.known stands c.step-in-Null.new.self (c.node-node.ensures.node ∙ ap (λ n. Some n) c.in-Null.is) (subst (λ (n : Node). g.T.Track.takes c.args.track.now (Enter c.args.i) n c.step.new.self) c.in-Null.is c.step.ensures)
     (subst (λ (n : Node). g.T.Track.takes c.step.new.self Leave n c.step-in-Null.new.self) c.in-Null.is c.step-in-Null.ensures)
 
-pub get-requires : goal.get-requires
-get-requires g c =
+pub get-part-requires : goal.get-part-requires
+get-part-requires g c =
     let d : DescV = c.args.self.now.plan.now in
     some_parts d g.T.Track.takes c.args.track.now c.args.self.now.values.items c.args.self.now.pace c.args.source.now c.requires.known c.requires.stands c.in-Seq.parts (c.node-node.ensures.node ∙ ap (λ n. Some n) c.in-Seq.is)
 
 pub begin-requires-clause-few : goal.begin-requires-clause-few
 begin-requires-clause-few g c =
     let d : DescV = c.args.self.now.plan.now in
-    let on = sequence d g.T.Track.takes c.args.track.now c.args.self.now.values.items c.args.self.now.pace c.args.source.now c.requires.known c.requires.stands c.in-Seq.parts c.get.result (length c.args.self.now.values.items) (c.node-node.ensures.node ∙ ap (λ n. Some n) c.in-Seq.is) c.get.ensures (subst (λ (n : Node). g.T.Track.takes c.args.track.now (Enter c.args.i) n c.step.new.self) c.in-Seq.is c.step.ensures) refl in
+    let on = sequence d g.T.Track.takes c.args.track.now c.args.self.now.values.items c.args.self.now.pace c.args.source.now c.requires.known c.requires.stands c.in-Seq.parts c.get-part.result (length c.args.self.now.values.items) (c.node-node.ensures.node ∙ ap (λ n. Some n) c.in-Seq.is) c.get-part.ensures (subst (λ (n : Node). g.T.Track.takes c.args.track.now (Enter c.args.i) n c.step.new.self) c.in-Seq.is c.step.ensures) refl in
     let begins = begin_room c.requires.known on.stands.shows on.stands.stack_is in
     omega (arith, begins.0)
 
 pub begin-requires-clause-room : goal.begin-requires-clause-room
 begin-requires-clause-room g c =
     let d : DescV = c.args.self.now.plan.now in
-    let on = sequence d g.T.Track.takes c.args.track.now c.args.self.now.values.items c.args.self.now.pace c.args.source.now c.requires.known c.requires.stands c.in-Seq.parts c.get.result (length c.args.self.now.values.items) (c.node-node.ensures.node ∙ ap (λ n. Some n) c.in-Seq.is) c.get.ensures (subst (λ (n : Node). g.T.Track.takes c.args.track.now (Enter c.args.i) n c.step.new.self) c.in-Seq.is c.step.ensures) refl in
+    let on = sequence d g.T.Track.takes c.args.track.now c.args.self.now.values.items c.args.self.now.pace c.args.source.now c.requires.known c.requires.stands c.in-Seq.parts c.get-part.result (length c.args.self.now.values.items) (c.node-node.ensures.node ∙ ap (λ n. Some n) c.in-Seq.is) c.get-part.ensures (subst (λ (n : Node). g.T.Track.takes c.args.track.now (Enter c.args.i) n c.step.new.self) c.in-Seq.is c.step.ensures) refl in
     let begins = begin_room c.requires.known on.stands.shows on.stands.stack_is in
     omega (arith, begins.1, length-reverse c.args.self.now.frames.items)
 
@@ -166,8 +168,8 @@ pub returns-in-Seq-clause-turns : goal.returns-in-Seq-clause-turns
 returns-in-Seq-clause-turns g c =
     let d : DescV = c.args.self.now.plan.now in
     λ stack done stands.
-    GoesOn-along d g.T.Track.takes c.args.track.now c.args.self.now.values.items c.args.self.now.pace c.args.source.now c.begin.ensures.frames (ap (λ v. v.items) c.begin.ensures.values) c.begin.ensures.pace
-    (sequence d g.T.Track.takes c.args.track.now c.args.self.now.values.items c.args.self.now.pace c.args.source.now c.requires.known stands c.in-Seq.parts c.get.result _ (c.node-node.ensures.node ∙ ap (λ n. Some n) c.in-Seq.is) c.get.ensures (subst (λ (n : Node). g.T.Track.takes c.args.track.now (Enter c.args.i) n c.step.new.self) c.in-Seq.is c.step.ensures) c.len-values.ensures.value)
+    GoesOn-along d g.T.Track.takes c.args.track.now c.args.self.now.values.items c.args.self.now.pace c.args.source.now (ap (λ (l : List Frame). frame.Begin c.get-part.result ∷ l) c.begin.ensures.frames) (ap (λ v. v.items) c.begin.ensures.values) c.begin.ensures.pace
+    (sequence d g.T.Track.takes c.args.track.now c.args.self.now.values.items c.args.self.now.pace c.args.source.now c.requires.known stands c.in-Seq.parts c.get-part.result _ (c.node-node.ensures.node ∙ ap (λ n. Some n) c.in-Seq.is) c.get-part.ensures (subst (λ (n : Node). g.T.Track.takes c.args.track.now (Enter c.args.i) n c.step.new.self) c.in-Seq.is c.step.ensures) c.len-values.ensures.value)
 
 pub enter_window-requires-clause-few : goal.enter_window-requires-clause-few
 enter_window-requires-clause-few g c =
@@ -191,7 +193,7 @@ pub returns-in-Window-clause-turns : goal.returns-in-Window-clause-turns
 returns-in-Window-clause-turns g c =
     let d : DescV = c.args.self.now.plan.now in
     λ stack done stands.
-    GoesOn-along d g.T.Track.takes c.args.track.now c.args.self.now.values.items c.args.self.now.pace c.enter_window.new.source c.enter_window.ensures.frames (ap (λ v. v.items) c.enter_window.ensures.values) c.enter_window.ensures.pace
+    GoesOn-along d g.T.Track.takes c.args.track.now c.args.self.now.values.items c.args.self.now.pace c.enter_window.new.source (ap (λ (l : List Frame). frame.Begin c.in-Window.part ∷ l) c.enter_window.ensures.frames) (ap (λ v. v.items) c.enter_window.ensures.values) c.enter_window.ensures.pace
     (window d g.T.Track.takes c.args.track.now c.args.self.now.values.items c.args.self.now.pace c.args.source.now c.requires.known stands c.in-Window.unit c.number_of-in-Window.result c.in-Window.part (c.in-Window.unit * c.number_of-in-Window.result) c.in-Window.count c.enter_window.new.source (c.node-node.ensures.node ∙ ap (λ n. Some n) c.in-Window.is) (subst (λ (n : Node). g.T.Track.takes c.args.track.now (Enter c.args.i) n c.step.new.self) c.in-Window.is c.step.ensures) (c.number_of-in-Window.ensures.count (at_begin d g.T.Track.takes c.args.track.now c.args.self.now.values.items c.args.self.now.pace c.args.source.now stands).stands.v (at_begin d g.T.Track.takes c.args.track.now c.args.self.now.values.items c.args.self.now.pace c.args.source.now stands).stands.kept) refl
     c.enter_window.ensures.bits c.enter_window.ensures.ended c.enter_window.ensures.place c.enter_window.ensures.limit)
 
@@ -213,10 +215,10 @@ number_of-requires-in-Window g c =
 pub returns-in-Seq-clause-pays : goal.returns-in-Seq-clause-pays
 returns-in-Seq-clause-pays g c =
     let d : DescV = c.args.self.now.plan.now in
-    let on = sequence d g.T.Track.takes c.args.track.now c.args.self.now.values.items c.args.self.now.pace c.args.source.now c.requires.known c.requires.stands c.in-Seq.parts c.get.result (length c.args.self.now.values.items) (c.node-node.ensures.node ∙ ap (λ n. Some n) c.in-Seq.is) c.get.ensures (subst (λ (n : Node). g.T.Track.takes c.args.track.now (Enter c.args.i) n c.step.new.self) c.in-Seq.is c.step.ensures) refl in
+    let on = sequence d g.T.Track.takes c.args.track.now c.args.self.now.values.items c.args.self.now.pace c.args.source.now c.requires.known c.requires.stands c.in-Seq.parts c.get-part.result (length c.args.self.now.values.items) (c.node-node.ensures.node ∙ ap (λ n. Some n) c.in-Seq.is) c.get-part.ensures (subst (λ (n : Node). g.T.Track.takes c.args.track.now (Enter c.args.i) n c.step.new.self) c.in-Seq.is c.step.ensures) refl in
     begun_pays c.args.steps.now (length c.args.source.now.bits) 1 (frame.Begin c.args.i) (frame.Seq c.args.i 1 c.len-values.result)
-    c.begin.ensures.frames c.begin.ensures.pace c.node-node.ensures.step (begin_within on.stands.shows on.stands.stack_is)
-    (inl (first_rises d g.T.Track.takes c.args.track.now c.args.self.now.values.items c.args.self.now.pace c.args.source.now c.requires.known c.requires.stands c.get.result c.in-Seq.parts (Seq c.in-Seq.parts) (c.node-node.ensures.node ∙ ap (λ n. Some n) c.in-Seq.is) refl c.get.ensures)) (omega arith) (omega arith)
+    (ap (λ (l : List Frame). frame.Begin c.get-part.result ∷ l) c.begin.ensures.frames) c.begin.ensures.pace c.node-node.ensures.step (begin_within on.stands.shows on.stands.stack_is)
+    (inl (first_rises d g.T.Track.takes c.args.track.now c.args.self.now.values.items c.args.self.now.pace c.args.source.now c.requires.known c.requires.stands c.get-part.result c.in-Seq.parts (Seq c.in-Seq.parts) (c.node-node.ensures.node ∙ ap (λ n. Some n) c.in-Seq.is) refl c.get-part.ensures)) (omega arith) (omega arith)
 
 pub returns-in-Window-clause-pays : goal.returns-in-Window-clause-pays
 returns-in-Window-clause-pays g c =
@@ -227,5 +229,5 @@ returns-in-Window-clause-pays g c =
     c.enter_window.ensures.bits c.enter_window.ensures.ended c.enter_window.ensures.place c.enter_window.ensures.limit
     in
     begun_pays_on c.args.steps.now 1 (frame.Begin c.args.i) (frame.Window c.args.i c.args.source.now.place bits c.args.source.now.limit)
-    (ap (λ (l : List ℕ). length l) c.enter_window.ensures.bits) c.enter_window.ensures.frames c.enter_window.ensures.pace c.node-node.ensures.step (begin_within on.stands.shows on.stands.stack_is)
+    (ap (λ (l : List ℕ). length l) c.enter_window.ensures.bits) (ap (λ (l : List Frame). frame.Begin c.in-Window.part ∷ l) c.enter_window.ensures.frames) c.enter_window.ensures.pace c.node-node.ensures.step (begin_within on.stands.shows on.stands.stack_is)
     (inl (first_rises d g.T.Track.takes c.args.track.now c.args.self.now.values.items c.args.self.now.pace c.args.source.now c.requires.known c.requires.stands c.in-Window.part (c.in-Window.part ∷ []) (Window c.in-Window.unit c.in-Window.count c.in-Window.part) (c.node-node.ensures.node ∙ ap (λ n. Some n) c.in-Window.is) refl refl)) (omega arith) (omega arith)

@@ -10,12 +10,12 @@ use Rattle.csn_judge.specs.declared.frame.Frame.TheVariants as frame
 use Rattle.csn_judge.specs.declared.leaf.Leaf.TheVariants as leaf
 use Rattle.csn_judge.specs.declared.pace.Pace.{Pace}
 use Rattle.csn_judge.specs.Credit.{credit_of}
-use Rattle.csn_judge.specs.Turns.{begun_by, StateV, state_of, state_with, Stands, GoesOn}
+use Rattle.csn_judge.specs.Turns.{begun_by, passed_label, StateV, state_of, state_with, Stands, GoesOn}
 use Rattle.csn_judge.proofs.Paying.{begun_pays}
 use Rattle.csn_judge.proofs.PayingBits.{labelled_credit, entered_pays, paid_with}
-use Rattle.csn_judge.proofs.Turning.{GoesOn-along, begun_again, pushed}
+use Rattle.csn_judge.proofs.Turning.{GoesOn-along, begun_again, passes_by}
 use Rattle.csn_judge.proofs.TurningEntry.{field_fits, keeps_field}
-use Rattle.csn_judge.proofs.TurningOn.{turns_then}
+use Rattle.csn_judge.proofs.TurningOn.{on_then, turns_then}
 use Rattle.csn_judge.proofs.TurningNamed.{label_goes_on, field_goes_on, label_begins}
 use Rattle.csn_judge.proofs.machine.Machine.enter_plain.Goals as goal
 
@@ -38,13 +38,13 @@ pub returns-in_default-clause-turns : goal.returns-in_default-clause-turns
 returns-in_default-clause-turns g c =
     let d : DescV = c.args.self.now.plan.now in
     λ first node look took stack done stands.
-    GoesOn-along d g.T.Track.takes first c.args.self.now.values.items c.args.self.now.pace c.args.source.now c.begin.ensures.frames (ap (λ v. v.items) c.begin.ensures.values) c.begin.ensures.pace
+    GoesOn-along d g.T.Track.takes first c.args.self.now.values.items c.args.self.now.pace c.args.source.now (ap (λ (l : List Frame). frame.Begin c.args.part ∷ l) c.begin.ensures.frames) (ap (λ v. v.items) c.begin.ensures.values) c.begin.ensures.pace
     (label_goes_on d g.T.Track.takes first c.args.self.now.values.items c.args.self.now.pace c.args.source.now c.args.i (reverse c.args.self.now.frames.items) c.requires.part.0 node c.requires.stands.known c.requires.plain c.requires.part.1 look took stands)
 
 pub returns-in_default-clause-pays : goal.returns-in_default-clause-pays
 returns-in_default-clause-pays g c =
     let t = label_begins c.args.self.now.plan.now c.args.self.now.pace c.requires.stands.known c.requires.part.1 c.requires.stands.stands.shows c.requires.stands.stands.stack_is in
-    begun_pays c.args.steps.now (length c.args.source.now.bits) 2 (frame.Begin c.args.i) (frame.Named c.args.i) c.begin.ensures.frames c.begin.ensures.pace (omega (arith, c.node-field.ensures.step))
+    begun_pays c.args.steps.now (length c.args.source.now.bits) 2 (frame.Begin c.args.i) (frame.Named c.args.i) (ap (λ (l : List Frame). frame.Begin c.args.part ∷ l) c.begin.ensures.frames) c.begin.ensures.pace (omega (arith, c.node-field.ensures.step))
     t.within (inl t.rises) (omega arith) (omega arith)
 
 pub number_of-requires : goal.number_of-requires
@@ -64,56 +64,75 @@ begin-requires-2 g c =
     let t = label_begins c.args.self.now.plan.now c.args.self.now.pace c.requires.stands.known c.requires.part.1 c.requires.stands.stands.shows c.requires.stands.stands.stack_is in
     omega (arith, t.within, c.requires.stands.known.description.few)
 
-pub push-requires : goal.push-requires
-push-requires g c =
-    let t = label_begins c.args.self.now.plan.now c.args.self.now.pace c.requires.stands.known c.requires.part.1 c.requires.stands.stands.shows c.requires.stands.stands.stack_is in
-    (lit< tt, omega (arith, t.room, length-reverse c.args.self.now.frames.items))
-
-pub read-requires-clause-stands : goal.read-requires-clause-stands
-read-requires-clause-stands g c =
+pub read_part-requires-clause-stands : goal.read_part-requires-clause-stands
+read_part-requires-clause-stands g c =
     let d : DescV = c.args.self.now.plan.now in
     let frames = reverse c.args.self.now.frames.items in
     let paced : c.begin-2.new.self ≡ begun_by c.args.part c.args.self.now.pace = begun_again d c.args.self.now.pace c.args.part c.begin-2.ensures in
-    let put : reverse c.push.new.self.items ≡ frame.Named c.args.i ∷ frames = ap (λ (l : List Frame). reverse l) c.push.ensures.items ∙ pushed c.args.self.now.frames.items (frame.Named c.args.i) in
     let on = field_goes_on d {S = ⊤} (λ _ _ _ _. ⊤) tt c.args.self.now.values.items c.args.self.now.pace c.args.source.now c.args.i (reverse c.args.self.now.frames.items) {middle = tt} {after = tt} c.requires.part.0 (Named c.requires.part.0 c.args.part)
     c.requires.stands.known c.requires.plain c.requires.part.1 c.requires.part.1 tt (c.node-field.ensures.node ∙ ap (λ n. Some n) c.in-Field.is) tt c.number_of.ensures.count refl c.requires.stands.stands in
     let top : Frame = frame.Leaf c.args.part (leaf.Field (c.in-Field.unit * c.number_of.result)) in
-    let P : List Frame → Type 0 = λ l. Stands d (record { frames = top ∷ l; values = c.args.self.now.values.items; pace = c.begin-2.new.self; coming = c.args.source.now }) on.now (c.requires.stands.done ++ on.taken) in
     let Q : Pace → Type 0 = λ p. Stands d (record { frames = top ∷ frame.Named c.args.i ∷ frames; values = c.args.self.now.values.items; pace = p; coming = c.args.source.now }) on.now (c.requires.stands.done ++ on.taken) in
-    record { known = c.requires.stands.known; stack = on.now; done = c.requires.stands.done ++ on.taken; stands = subst P (sym put) (subst Q (sym paced) on.stands) }
+    record { known = c.requires.stands.known; stack = on.now; done = c.requires.stands.done ++ on.taken; stands = subst Q (sym paced) on.stands }
 
-pub returns-clause-turns : goal.returns-clause-turns
-returns-clause-turns g c =
+pub returns-in-Ended-clause-turns : goal.returns-in-Ended-clause-turns
+returns-in-Ended-clause-turns g c =
     let d : DescV = c.args.self.now.plan.now in
     let frames = reverse c.args.self.now.frames.items in
     let paced : c.begin-2.new.self ≡ begun_by c.args.part c.args.self.now.pace = begun_again d c.args.self.now.pace c.args.part c.begin-2.ensures in
-    let put : reverse c.push.new.self.items ≡ frame.Named c.args.i ∷ frames = ap (λ (l : List Frame). reverse l) c.push.ensures.items ∙ pushed c.args.self.now.frames.items (frame.Named c.args.i) in
     let top : Frame = frame.Leaf c.args.part (leaf.Field (c.in-Field.unit * c.number_of.result)) in
-    λ first node look_node took.
-    let middle : StateV = record { frames = top ∷ reverse c.push.new.self.items; values = c.args.self.now.values.items; pace = c.begin-2.new.self; coming = c.args.source.now } in
-    turns_then d g.T.Track.takes {middle = middle} (state_of c.read.new.self c.read.new.source) c.read.new.track c.read.result c.none_behind_end.ensures
-    (λ stack done stands.
-    let P : List Frame → Type 0 = λ l. GoesOn d g.T.Track.takes (state_with (frame.Begin c.args.i) c.args.self.now c.args.source.now) (record { frames = top ∷ l; values = c.args.self.now.values.items; pace = c.begin-2.new.self; coming = c.args.source.now }) first c.step.new.self stack done in
+    λ first node look_node took stack done stands.
     let Q : Pace → Type 0 = λ p. GoesOn d g.T.Track.takes (state_with (frame.Begin c.args.i) c.args.self.now c.args.source.now) (record { frames = top ∷ frame.Named c.args.i ∷ frames; values = c.args.self.now.values.items; pace = p; coming = c.args.source.now }) first c.step.new.self stack done in
-    subst P (sym put) (subst Q (sym paced)
+    let begun = subst Q (sym paced)
     (field_goes_on d g.T.Track.takes first c.args.self.now.values.items c.args.self.now.pace c.args.source.now c.args.i (reverse c.args.self.now.frames.items) c.requires.part.0 node
     c.requires.stands.known c.requires.plain c.requires.part.1 look_node took (c.node-field.ensures.node ∙ ap (λ n. Some n) c.in-Field.is) (subst (λ (n : Node). g.T.Track.takes c.args.track.now (Enter c.args.part) n c.step.new.self) c.in-Field.is c.step.ensures)
-    c.number_of.ensures.count refl stands)))
-    c.read.ensures.turns
+    c.number_of.ensures.count refl stands) in
+    let read = on_then d g.T.Track.takes begun (c.in-Ended.ensures.turns begun.now (done ++ begun.taken) begun.stands) in
+    on_then d g.T.Track.takes read
+    (passes_by d g.T.Track.takes c.read_part.new.track c.read_part.new.self.values.items c.read_part.new.self.pace c.read_part.new.source c.args.node.now (passed_label refl) c.requires.stands.known read.stands c.requires.node c.step-in-Ended.ensures)
 
-pub returns-clause-pays : goal.returns-clause-pays
-returns-clause-pays g c =
+pub returns-in-Turn-clause-turns : goal.returns-in-Turn-clause-turns
+returns-in-Turn-clause-turns g c =
     let d : DescV = c.args.self.now.plan.now in
+    let frames = reverse c.args.self.now.frames.items in
+    let paced : c.begin-2.new.self ≡ begun_by c.args.part c.args.self.now.pace = begun_again d c.args.self.now.pace c.args.part c.begin-2.ensures in
+    let top : Frame = frame.Leaf c.args.part (leaf.Field (c.in-Field.unit * c.number_of.result)) in
+    λ first node look_node took.
+    let middle : StateV = record { frames = top ∷ frame.Named c.args.i ∷ frames; values = c.args.self.now.values.items; pace = c.begin-2.new.self; coming = c.args.source.now } in
+    turns_then d g.T.Track.takes {middle = middle} (state_of c.read_part.new.self c.read_part.new.source) c.read_part.new.track c.in-Turn.turn c.none_behind_end.ensures
+    (λ stack done stands.
+    let Q : Pace → Type 0 = λ p. GoesOn d g.T.Track.takes (state_with (frame.Begin c.args.i) c.args.self.now c.args.source.now) (record { frames = top ∷ frame.Named c.args.i ∷ frames; values = c.args.self.now.values.items; pace = p; coming = c.args.source.now }) first c.step.new.self stack done in
+    subst Q (sym paced)
+    (field_goes_on d g.T.Track.takes first c.args.self.now.values.items c.args.self.now.pace c.args.source.now c.args.i (reverse c.args.self.now.frames.items) c.requires.part.0 node
+    c.requires.stands.known c.requires.plain c.requires.part.1 look_node took (c.node-field.ensures.node ∙ ap (λ n. Some n) c.in-Field.is) (subst (λ (n : Node). g.T.Track.takes c.args.track.now (Enter c.args.part) n c.step.new.self) c.in-Field.is c.step.ensures)
+    c.number_of.ensures.count refl stands))
+    c.in-Turn.ensures.turns
+
+pub returns-in-Ended-clause-pays : goal.returns-in-Ended-clause-pays
+returns-in-Ended-clause-pays g c =
+    let n = length c.args.self.now.plan.now.nodes in
     let frames = reverse c.args.self.now.frames.items in
     let bits = length c.args.source.now.bits in
     let t = label_begins c.args.self.now.plan.now c.args.self.now.pace c.requires.stands.known c.requires.part.1 c.requires.stands.stands.shows c.requires.stands.stands.stack_is in
-    let paced : c.begin-2.new.self ≡ begun_by c.args.part c.args.self.now.pace = begun_again d c.args.self.now.pace c.args.part c.begin-2.ensures in
-    let put : reverse c.push.new.self.items ≡ frame.Named c.args.i ∷ frames = ap (λ (l : List Frame). reverse l) c.push.ensures.items ∙ pushed c.args.self.now.frames.items (frame.Named c.args.i) in
+    let paced : c.begin-2.new.self ≡ begun_by c.args.part c.args.self.now.pace = begun_again c.args.self.now.plan.now c.args.self.now.pace c.args.part c.begin-2.ensures in
+    let left = c.in-Field.unit * c.number_of.result in
+    let less = labelled_credit c.args.i left frames c.args.self.now.pace bits t.within t.rises in
+    let same = ap (λ p. credit_of n (frame.Leaf c.args.part (leaf.Field left) ∷ frame.Named c.args.i ∷ frames) p bits) paced in
+    let paid = c.in-Ended.ensures.pays in
+    (omega (arith, less, same, paid.0, c.node-field.ensures.step), omega (arith, less, same, paid.1))
+
+pub returns-in-Turn-clause-pays : goal.returns-in-Turn-clause-pays
+returns-in-Turn-clause-pays g c =
+    let n = length c.args.self.now.plan.now.nodes in
+    let frames = reverse c.args.self.now.frames.items in
+    let bits = length c.args.source.now.bits in
+    let t = label_begins c.args.self.now.plan.now c.args.self.now.pace c.requires.stands.known c.requires.part.1 c.requires.stands.stands.shows c.requires.stands.stands.stack_is in
+    let paced : c.begin-2.new.self ≡ begun_by c.args.part c.args.self.now.pace = begun_again c.args.self.now.plan.now c.args.self.now.pace c.args.part c.begin-2.ensures in
     let left = c.in-Field.unit * c.number_of.result in
     let top : Frame = frame.Leaf c.args.part (leaf.Field left) in
     let less = labelled_credit c.args.i left frames c.args.self.now.pace bits t.within t.rises in
-    let same = ap (λ (l : List Frame). credit_of (length d.nodes) (top ∷ l) c.begin-2.new.self bits) put ∙ ap (λ p. credit_of (length d.nodes) (top ∷ frame.Named c.args.i ∷ frames) p bits) paced in
-    entered_pays (credit_of (length d.nodes) (frame.Begin c.args.i ∷ frames) c.args.self.now.pace bits) (credit_of (length d.nodes) (top ∷ reverse c.push.new.self.items) c.begin-2.new.self bits)
-    (credit_of (length d.nodes) (reverse c.read.new.self.frames.items) c.read.new.self.pace (length c.read.new.source.bits)) c.args.steps.now c.node-field.new.steps (c.node-field.new.steps + 1) c.read.result
-    (omega (arith, less, same)) c.node-field.ensures.step
-    (paid_with (credit_of (length d.nodes) (top ∷ reverse c.push.new.self.items) c.begin-2.new.self bits) (credit_of (length d.nodes) (reverse c.read.new.self.frames.items) c.read.new.self.pace (length c.read.new.source.bits)) c.node-field.new.steps c.read.result c.read.ensures.pays)
+    let same = ap (λ p. credit_of n (top ∷ frame.Named c.args.i ∷ frames) p bits) paced in
+    let before = credit_of n (top ∷ frame.Named c.args.i ∷ frames) c.begin-2.new.self bits in
+    let after = credit_of n (reverse c.read_part.new.self.frames.items) c.read_part.new.self.pace (length c.read_part.new.source.bits) in
+    entered_pays (credit_of n (frame.Begin c.args.i ∷ frames) c.args.self.now.pace bits) before after c.args.steps.now c.node-field.new.steps (c.node-field.new.steps + 1) c.in-Turn.turn
+    (omega (arith, less, same)) c.node-field.ensures.step (paid_with before after c.node-field.new.steps c.in-Turn.turn c.in-Turn.ensures.pays)

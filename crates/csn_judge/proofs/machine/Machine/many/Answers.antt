@@ -57,7 +57,7 @@ returns-in-Take-clause-turns g c =
     let d : DescV = c.args.self.now.plan.now in
     λ stack done stands.
     goes_since d g.T.Track.takes c.args.track.now c.args.track.now (frame.Many c.args.i c.args.part ∷ reverse c.args.self.now.frames.items) c.args.self.now.values.items c.args.self.now.pace c.ready-ready.ensures.same _
-    (GoesOn-along d g.T.Track.takes c.args.track.now c.args.self.now.values.items c.args.self.now.pace c.ready-ready.new.self c.begin.ensures.frames (ap (λ v. v.items) c.begin.ensures.values) c.begin.ensures.pace
+    (GoesOn-along d g.T.Track.takes c.args.track.now c.args.self.now.values.items c.args.self.now.pace c.ready-ready.new.self (ap (λ (l : List Frame). frame.Begin c.args.part ∷ l) c.begin.ensures.frames) (ap (λ v. v.items) c.begin.ensures.values) c.begin.ensures.pace
     (free_takes d g.T.Track.takes c.args.track.now c.args.self.now.values.items c.args.self.now.pace c.ready-ready.new.self c.ready-ready.ensures.count
     c.in-Take.ensures.none c.in-Take.ensures.some c.requires.known
     (stands_on d g.T.Track.takes c.args.track.now c.args.track.now (frame.Many c.args.i c.args.part ∷ reverse c.args.self.now.frames.items) c.args.self.now.values.items c.args.self.now.pace c.ready-ready.ensures.same stands)))
@@ -96,5 +96,5 @@ returns-in-Take-clause-pays g c =
     let d : DescV = c.args.self.now.plan.now in
     let k = free_stands d c.requires.stands.shows in
     let stack = subst (λ (l : List Left). IsStack d c.args.self.now.pace.next (fresh_at c.args.self.now.pace (length c.requires.done)) l c.requires.done) k.is c.requires.stands.stack_is in
-    begun_pays_on c.args.steps.now 1 (frame.Many c.args.i c.args.part) _ (ap (λ (l : List ℕ). length l) c.ready-ready.ensures.same.bits) c.begin.ensures.frames c.begin.ensures.pace c.pick.ensures.step
+    begun_pays_on c.args.steps.now 1 (frame.Many c.args.i c.args.part) _ (ap (λ (l : List ℕ). length l) c.ready-ready.ensures.same.bits) (ap (λ (l : List Frame). frame.Begin c.args.part ∷ l) c.begin.ensures.frames) c.begin.ensures.pace c.pick.ensures.step
     (begun_within d (of_begun d (free_begins d c.args.self.now.pace c.requires.known stack))) (free_goes_back d c.args.self.now.pace c.requires.known stack) (omega arith) (omega arith)

@@ -2,6 +2,7 @@ use Rattle.std.proofs.Common.{suc, List, ◌≡◌, ◌-◌, ◌∷◌, length, 
 use Rattle.std.proofs.lemmas.List.{length-reverse}
 use Rattle.std.proofs.lemmas.Option.{slice_get_within}
 use Rattle.csn_desc.specs.Nodes.{DescV}
+use Rattle.csn_judge.specs.declared.frame.Frame.{Frame}
 use Rattle.csn_judge.specs.declared.frame.Frame.TheVariants as frame
 use Rattle.csn_judge.specs.Left.{Left, turns_left}
 use Rattle.csn_judge.specs.Inside.{IsStack}
@@ -30,7 +31,7 @@ pub returns-clause-turns : goal.returns-clause-turns
 returns-clause-turns g c =
     let d : DescV = c.args.self.now.plan.now in
     λ stack done stands.
-    GoesOn-along d g.T.Track.takes c.args.track.now c.args.self.now.values.items c.args.self.now.pace c.args.source.now c.begin.ensures.frames (ap (λ v. v.items) c.begin.ensures.values) c.begin.ensures.pace
+    GoesOn-along d g.T.Track.takes c.args.track.now c.args.self.now.values.items c.args.self.now.pace c.args.source.now (ap (λ (l : List Frame). frame.Begin c.args.part ∷ l) c.begin.ensures.frames) (ap (λ v. v.items) c.begin.ensures.values) c.begin.ensures.pace
     (begins_turn d g.T.Track.takes c.args.track.now c.args.self.now.values.items c.args.self.now.pace c.args.source.now (omega (arith, c.if-left-eq0.false)) c.requires.known stands)
 
 pub returns-then-left-eq0-clause-turns : goal.returns-then-left-eq0-clause-turns
@@ -46,5 +47,5 @@ returns-clause-pays g c =
     let k = turns_stand d c.requires.stands.shows in
     let some : c.args.left ≡ suc (c.args.left - 1) = omega (arith, c.if-left-eq0.false) in
     let stack = subst (λ (l : List Left). IsStack d c.args.self.now.pace.next (fresh_at c.args.self.now.pace (length c.requires.done)) l c.requires.done) (k.is ∙ ap (λ n. turns_left n c.args.part k.v ∷ k.outer) some) c.requires.stands.stack_is in
-    begun_pays c.args.steps.now (length c.args.source.now.bits) 0 (frame.Times c.args.i c.args.part c.args.left) _ c.begin.ensures.frames c.begin.ensures.pace (omega arith)
+    begun_pays c.args.steps.now (length c.args.source.now.bits) 0 (frame.Times c.args.i c.args.part c.args.left) _ (ap (λ (l : List Frame). frame.Begin c.args.part ∷ l) c.begin.ensures.frames) c.begin.ensures.pace (omega arith)
     (begun_within d (turn_stack d c.args.self.now.pace c.requires.known stack)) (turn_goes_back d c.args.self.now.pace c.requires.known stack) (omega arith) (omega arith)

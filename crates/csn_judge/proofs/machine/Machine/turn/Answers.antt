@@ -1,10 +1,12 @@
-use Rattle.std.proofs.Common.{◌≡◌, [], length, reverse, List, refl, sym, ◌∙◌, ap, subst}
+use Rattle.std.proofs.Common.{◌≡◌, [], ◌∷◌, length, reverse, List, refl, sym, ◌∙◌, ap, subst}
 use Rattle.csn_judge.specs.declared.frame.Frame.{Frame}
 use Rattle.csn_judge.specs.declared.frame.Frame.TheVariants as frame
+use Rattle.csn_judge.specs.declared.turn.Turn.TheVariants.{Moved}
 use Rattle.csn_judge.specs.Credit.{credit_of, Pays}
 use Rattle.csn_judge.specs.Shown.{Shows}
-use Rattle.csn_judge.specs.Turns.{state_of, passed_choice, passed_label, Turns}
-use Rattle.csn_judge.proofs.TurningOn.{popped_frame, no_items, quietly, stops_behind, choice_within, label_within}
+use Rattle.csn_judge.specs.Turns.{state_then, turn_in, passed_choice, passed_label, Turns}
+use Rattle.csn_judge.proofs.Turning.{stays_as}
+use Rattle.csn_judge.proofs.TurningOn.{popped_frame, no_items, stops_behind, choice_within, label_within}
 use Rattle.csn_judge.proofs.machine.Machine.turn.Goals as goal
 
 pub returns-in_default-clause-turns : goal.returns-in_default-clause-turns
@@ -14,6 +16,12 @@ returns-in_default-clause-turns g c =
     let P : List Frame → Type 0 = λ l. Turns c.args.self.now.plan.now g.T.Track.takes (record { frames = reverse l; values = c.args.self.now.values.items; pace = c.args.self.now.pace; coming = c.args.source.now }) (record { frames = reverse c.pop.new.self.items; values = c.args.self.now.values.items; pace = c.args.self.now.pace; coming = c.args.source.now }) c.args.track.now c.args.track.now c.stopped.result in
     let Q : List Frame → Type 0 = λ l. Turns c.args.self.now.plan.now g.T.Track.takes (record { frames = []; values = c.args.self.now.values.items; pace = c.args.self.now.pace; coming = c.args.source.now }) (record { frames = reverse l; values = c.args.self.now.values.items; pace = c.args.self.now.pace; coming = c.args.source.now }) c.args.track.now c.args.track.now c.stopped.result in
     subst P (sym none) (subst Q (sym gone) (stops_behind c.args.self.now.plan.now g.T.Track.takes c.args.track.now c.args.self.now.values.items c.args.self.now.pace c.args.source.now c.stopped.result c.stopped.ensures c.requires.known))
+
+pub returns-in-Begin-clause-turns : goal.returns-in-Begin-clause-turns
+returns-in-Begin-clause-turns g c =
+    let is = popped_frame c.pop.new.self.items c.in-Some.ensures.items c.in-Begin.is in
+    let P : List Frame → Type 0 = λ l. Turns c.args.self.now.plan.now g.T.Track.takes (record { frames = l; values = c.args.self.now.values.items; pace = c.args.self.now.pace; coming = c.args.source.now }) (record { frames = frame.Begin c.in-Begin.node ∷ reverse c.pop.new.self.items; values = c.args.self.now.values.items; pace = c.args.self.now.pace; coming = c.args.source.now }) c.args.track.now c.args.track.now Moved in
+    subst P (sym is) (λ stack done stands. stays_as c.args.self.now.plan.now g.T.Track.takes c.args.track.now _ stands)
 
 pub pass-requires-clause-node : goal.pass-requires-clause-node
 pass-requires-clause-node g c =
@@ -28,8 +36,8 @@ pass-requires-in-Named-clause-node g c =
 pub returns-in-Open-clause-turns : goal.returns-in-Open-clause-turns
 returns-in-Open-clause-turns g c =
     let is = popped_frame c.pop.new.self.items c.in-Some.ensures.items c.in-Open.is in
-    let P : List Frame → Type 0 = λ l. Turns c.args.self.now.plan.now g.T.Track.takes (record { frames = l; values = c.args.self.now.values.items; pace = c.args.self.now.pace; coming = c.args.source.now }) (state_of c.choose_on.new.self c.choose_on.new.source) c.args.track.now c.args.track.now c.choose_on.result in
-    subst P (sym is) (quietly c.args.self.now.plan.now g.T.Track.takes c.args.track.now _ _ c.choose_on.result c.choose_on.ensures.turns)
+    let P : List Frame → Type 0 = λ l. Turns c.args.self.now.plan.now g.T.Track.takes (record { frames = l; values = c.args.self.now.values.items; pace = c.args.self.now.pace; coming = c.args.source.now }) (state_then c.choose_on.result c.choose_on.new.self c.choose_on.new.source) c.args.track.now c.choose_on.new.track (turn_in c.choose_on.result) in
+    subst P (sym is) c.choose_on.ensures.turns
 
 pub returns-in-Choice-clause-turns : goal.returns-in-Choice-clause-turns
 returns-in-Choice-clause-turns g c =
