@@ -1,5 +1,5 @@
 -- Whether a block is a string of a description, and the bits of one that stands in pieces. (This project's own choice.)
-use Rattle.std.specs.Prelude.{◌≤◌, ◌*◌, ◌+◌, ℕ, List, [], ◌∷◌, ◌++◌, length, take}
+use Rattle.std.specs.Prelude.{◌≡◌, ◌≤◌, ◌*◌, ◌+◌, ℕ, List, [], ◌∷◌, ◌++◌, length, take}
 use Rattle.csn_bits.specs.Octets.{bits_of_octets}
 use Rattle.csn_desc.specs.Nodes.{DescV}
 use Rattle.csn_desc.specs.TreeV.{TreeV}
@@ -7,12 +7,17 @@ use Rattle.csn_desc.specs.Means.{NMeans}
 use Rattle.csn_desc.specs.Follows.{IsPlace}
 use Rattle.csn_judge.specs.declared.verdict.Judged.{Judged}
 use Rattle.csn_judge.specs.declared.verdict.Judged.TheVariants.{Ok, Refused}
+use Rattle.csn_judge.specs.Judging.{JudgeV, JudgesFor}
 use Rattle.csn_blocks.specs.declared.block.Piece.{Piece}
 
 -- some tree has the bits; or none has, and this many of them can be followed
 abbrev pub IsJudged : DescV → List ℕ → Judged → Type 0
 IsJudged d block Ok = (t : TreeV) × NMeans d 0 0 [] block t
 IsJudged d block (Refused place) = IsPlace d block place × ((t : TreeV) → ¬ NMeans d 0 0 [] block t)
+
+-- a judge that stands for no bits
+abbrev pub IsFresh : JudgeV → Type 0
+IsFresh judge = JudgesFor judge [] [] × (judge.seen ≡ 0)
 
 -- ---- pieces of a block
 

@@ -2,7 +2,7 @@
 
 ghost use Rattle.std.specs.Prelude.{◌≡◌, ◌<◌, ◌≤◌};
 ghost use Rattle.csn_bits.specs.Octets.{most_bits};
-ghost use Rattle.csn_blocks.specs.Judging.{AreWithin, IsJudged, bits_in, bits_of};
+ghost use Rattle.csn_blocks.specs.Judging.{AreWithin, IsFresh, IsJudged, bits_in, bits_of};
 
 use csn_bits::Bits;
 use csn_certify::{Plan, Steps};
@@ -17,22 +17,37 @@ pub struct Piece<'a> {
     pub bits: u32,
 }
 
-/// Judges a block with a counter of steps.
-fn judge_with<L: Ledger>(plan: &Plan, pieces: &[Piece<'_>], blank: Blank) -> Judged
+/// Judges the next block with a counter of steps.
+fn judge_with<L: Ledger>(judge: &mut Judge<'_>, pieces: &[Piece<'_>], blank: Blank) -> Judged
     requires name { blank.name ≡ L.name }
     requires parts { blank.parts ≡ L.parts }
     requires some { 0 < blank.parts }
+    requires fresh { IsFresh judge.old }
     requires within { AreWithin pieces.now }
     requires few { bits_in pieces.now ≤ most_bits }
-    ensures { IsJudged plan.now (bits_of pieces.now) result }
+    ensures judged { IsJudged judge.old.desc (bits_of pieces.now) result }
+    ensures fresh { IsFresh judge.new }
+    ensures desc { judge.new.desc ≡ judge.old.desc }
 {
     let mut steps = Steps::<L>::new(blank);
-    let mut judge = Judge::new(plan);
     for piece in pieces {
         // behind a refusal a piece changes nothing
         let _verdict = judge.feed(piece.octets, piece.bits, &mut steps);
     }
-    judge.finish(&mut steps)
+    judge.next_block(&mut steps)
+}
+
+/// Judges a block whose bits stand in some pieces, as [`judge_pieces`] does, by a judge that stands for no bits. It stands
+/// for none again behind the block, so many blocks can be judged by one.
+pub fn judge_next(judge: &mut Judge<'_>, pieces: &[Piece<'_>]) -> Judged
+    requires fresh { IsFresh judge.old }
+    requires within { AreWithin pieces.now }
+    requires few { bits_in pieces.now ≤ most_bits }
+    ensures judged { IsJudged judge.old.desc (bits_of pieces.now) result }
+    ensures fresh { IsFresh judge.new }
+    ensures desc { judge.new.desc ≡ judge.old.desc }
+{
+    judge_with::<Brand>(judge, pieces, Blank::new(1))
 }
 
 /// Judges a block whose bits stand in some pieces, one behind another: whether they are a string of the description, or
@@ -42,7 +57,8 @@ pub fn judge_pieces(plan: &Plan, pieces: &[Piece<'_>]) -> Judged
     requires few { bits_in pieces.now ≤ most_bits }
     ensures { IsJudged plan.now (bits_of pieces.now) result }
 {
-    judge_with::<Brand>(plan, pieces, Blank::new(1))
+    let mut judge = Judge::new(plan);
+    judge_next(&mut judge, pieces)
 }
 
 /// Judges the bits of a block.

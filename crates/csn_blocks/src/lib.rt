@@ -4,7 +4,7 @@
 
 mod block;
 
-pub use block::{Piece, judge_block, judge_pieces};
+pub use block::{Piece, judge_block, judge_next, judge_pieces};
 
 #[cfg(test)]
 mod descriptions;

@@ -1,17 +1,17 @@
 ghost use Rattle.std.specs.Prelude.{◌≡◌, ◌<◌, ◌≤◌, ◌+◌, ◌*◌, ◌++◌, ◌↔◌, IfOk, IsTrue, if◌then◌else◌, length, take, drop};
 ghost use Rattle.std.specs.Int.{to_be_bytes, w64};
 ghost use Rattle.csn_bits.specs.Octets.{bits_of_octets, most_bits};
-ghost use Rattle.csn_blocks.specs.Judging.{AreWithin, bits_in, bits_of};
+ghost use Rattle.csn_blocks.specs.Judging.{AreWithin, IsFresh, bits_in, bits_of};
 ghost use Rattle.csn_soak.specs.declared.soaking.TheConstants.{MOST_BLOCKS};
 ghost use Rattle.csn_soak.specs.Generator.{is_cut};
 ghost use Rattle.csn_soak.specs.Soaking.{IsSoaked, IsString};
 
 use crate::generator::next;
 use csn_bits::{Bits, BitsFault, NoMemory};
-use csn_blocks::{Piece, judge_pieces};
+use csn_blocks::{Piece, judge_next};
 use csn_catalogue::{Entry, Sample, sample_of};
 use csn_certify::Plan;
-use csn_judge::Judged;
+use csn_judge::{Judge, Judged};
 use std::alloc::Global;
 
 /// The most blocks of a run.
@@ -64,22 +64,28 @@ fn behind_field(alloc: Global, sample: &Sample) -> Result<Bits, BitsFault>
 }
 
 /// Whether the bits of some pieces are a string.
-fn is_string(plan: &Plan, pieces: &[Piece<'_>]) -> bool
+fn is_string(judge: &mut Judge<'_>, pieces: &[Piece<'_>]) -> bool
+    requires fresh { IsFresh judge.old }
     requires within { AreWithin pieces.now }
     requires few { bits_in pieces.now ≤ most_bits }
-    ensures { IsTrue result ↔ IsString plan.now (bits_of pieces.now) }
+    ensures answer { IsTrue result ↔ IsString judge.old.desc (bits_of pieces.now) }
+    ensures fresh { IsFresh judge.new }
+    ensures desc { judge.new.desc ≡ judge.old.desc }
 {
-    judge_pieces(plan, pieces) == Judged::Ok
+    judge_next(judge, pieces) == Judged::Ok
 }
 
 /// Whether the sample with a number in its field is a string.
-fn is_string_with(plan: &Plan, sample: &Sample, behind: &Bits, number: u64) -> bool
+fn is_string_with(judge: &mut Judge<'_>, sample: &Sample, behind: &Bits, number: u64) -> bool
+    requires fresh { IsFresh judge.old }
     requires within { sample.now.at + sample.now.width ≤ 8 * length sample.now.octets.now }
     requires short { length sample.now.octets.now ≤ 22 }
     requires width { sample.now.width ≤ 64 }
     requires behind { length behind.now ≤ 176 }
-    ensures { IsTrue result ↔ IsString plan.now (take sample.now.at (bits_of_octets sample.now.octets.now)
+    ensures answer { IsTrue result ↔ IsString judge.old.desc (take sample.now.at (bits_of_octets sample.now.octets.now)
         ++ take sample.now.width (bits_of_octets (to_be_bytes w64 number)) ++ behind.now) }
+    ensures fresh { IsFresh judge.new }
+    ensures desc { judge.new.desc ≡ judge.old.desc }
 {
     let pieces = [
         Piece {
@@ -95,19 +101,22 @@ fn is_string_with(plan: &Plan, sample: &Sample, behind: &Bits, number: u64) -> b
             bits: behind.len(),
         },
     ];
-    is_string(plan, &pieces)
+    is_string(judge, &pieces)
 }
 
 /// Whether the first bit of the sample is a string.
-fn is_string_cut(plan: &Plan, sample: &Sample) -> bool
-    requires { 0 < length sample.now.octets.now }
-    ensures { IsTrue result ↔ IsString plan.now (take 1 (bits_of_octets sample.now.octets.now)) }
+fn is_string_cut(judge: &mut Judge<'_>, sample: &Sample) -> bool
+    requires fresh { IsFresh judge.old }
+    requires some { 0 < length sample.now.octets.now }
+    ensures answer { IsTrue result ↔ IsString judge.old.desc (take 1 (bits_of_octets sample.now.octets.now)) }
+    ensures fresh { IsFresh judge.new }
+    ensures desc { judge.new.desc ≡ judge.old.desc }
 {
     let pieces = [Piece {
         octets: sample.octets,
         bits: 1,
     }];
-    is_string(plan, &pieces)
+    is_string(judge, &pieces)
 }
 
 /// Whether the block with this number, counted from 0, is cut to its first bit.
@@ -130,20 +139,29 @@ fn length_of(sample: &Sample, k: u32) -> u32
 }
 
 /// Whether the block with this number is a string, in whose field another number stands.
-fn is_block_string(plan: &Plan, sample: &Sample, behind: &Bits, k: u32, number: u64) -> bool
+fn is_block_string(
+    judge: &mut Judge<'_>,
+    sample: &Sample,
+    behind: &Bits,
+    k: u32,
+    number: u64,
+) -> bool
+    requires fresh { IsFresh judge.old }
     requires some { 0 < length sample.now.octets.now }
     requires within { sample.now.at + sample.now.width ≤ 8 * length sample.now.octets.now }
     requires short { length sample.now.octets.now ≤ 22 }
     requires width { sample.now.width ≤ 64 }
     requires behind { length behind.now ≤ 176 }
-    ensures { IsTrue result ↔ IsString plan.now (if is_cut k then take 1 (bits_of_octets sample.now.octets.now)
+    ensures answer { IsTrue result ↔ IsString judge.old.desc (if is_cut k then take 1 (bits_of_octets sample.now.octets.now)
         else (take sample.now.at (bits_of_octets sample.now.octets.now)
         ++ take sample.now.width (bits_of_octets (to_be_bytes w64 number)) ++ behind.now)) }
+    ensures fresh { IsFresh judge.new }
+    ensures desc { judge.new.desc ≡ judge.old.desc }
 {
     if is_cut(k) {
-        is_string_cut(plan, sample)
+        is_string_cut(judge, sample)
     } else {
-        is_string_with(plan, sample, behind, number)
+        is_string_with(judge, sample, behind, number)
     }
 }
 
@@ -162,9 +180,10 @@ pub fn soak(alloc: Global, plan: &Plan, entry: Entry, blocks: u32) -> Result<Soa
         bits: 0,
     };
     let mut number = 1;
+    let mut judge = Judge::new(plan);
     for k in 0..blocks {
         number = next(number);
-        let ok = is_block_string(plan, &sample, &behind, k, number);
+        let ok = is_block_string(&mut judge, &sample, &behind, k, number);
         soaked.add(ok, length_of(&sample, k));
     }
     Ok(soaked)

@@ -10,8 +10,7 @@ abbrev no_piece : Piece
 no_piece = record { octets = record { ref_ptr = (0, 0); now = [] }; bits = 0 }
 
 pub loop-piece-init : goal.loop-piece-init
-loop-piece-init g c =
-    record { judges = ([], c.new-judge.ensures.judges); desc = c.new-judge.ensures.desc; seen = omega (arith, c.new-judge.ensures.seen) }
+loop-piece-init g c = record { judges = ([], c.requires.fresh.0); desc = refl; seen = omega (arith, c.requires.fresh.1) }
 
 pub feed-verdict-requires-clause-within : goal.feed-verdict-requires-clause-within
 feed-verdict-requires-clause-within g c = within_at c.args.pieces.now c.loop-piece.piece-index _ c.requires.within c.loop-piece-test.true
@@ -43,10 +42,10 @@ loop-piece-preserved g c =
       ));
     }
 
-pub returns : goal.returns
-returns g c =
+pub returns-clause-judged : goal.returns-clause-judged
+returns-clause-judged g c =
     let pieces : List Piece = c.args.pieces.now in
-    let P : List Piece → Type 0 = λ ps. IsJudged c.args.plan.now (bits_of ps) c.finish.result in
+    let P : List Piece → Type 0 = λ ps. IsJudged c.args.judge.now.desc (bits_of ps) c.next_block.result in
     let whole : take c.loop-piece.piece-index pieces ≡ pieces = take_all c.loop-piece.piece-index pieces (omega (arith, c.loop-piece-test.false)) in
-    subst P whole (judged c.loop-piece.judge c.args.plan.now (bits_of (take c.loop-piece.piece-index pieces)) c.finish.result
-    c.loop-piece.invariant.desc c.finish.ensures.ends c.loop-piece.invariant.judges)
+    subst P whole (judged c.loop-piece.judge c.args.judge.now.desc (bits_of (take c.loop-piece.piece-index pieces)) c.next_block.result
+    c.loop-piece.invariant.desc c.next_block.ensures.ends c.loop-piece.invariant.judges)

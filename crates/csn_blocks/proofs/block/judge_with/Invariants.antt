@@ -7,6 +7,6 @@ use Rattle.csn_blocks.proofs.block.judge_with.Given as goal
 abbrev pub invariant-loop-piece : goal.invariant-loop-piece
 invariant-loop-piece g l = record {
   judges : (moves : List Move) × JudgesFor l.judge (bits_of (take l.piece-index l.pieces)) moves;
-  desc : l.judge.desc ≡ l.plan;
+  desc : l.judge.desc ≡ l.fn.judge.desc;
   seen : l.judge.seen ≤ bits_in (take l.piece-index l.pieces);
 }

@@ -1,4 +1,5 @@
 use Rattle.std.proofs.Common.{◌≡◌}
+use Rattle.csn_blocks.specs.Judging.{IsFresh}
 use Rattle.csn_soak.specs.Generator.{number}
 use Rattle.csn_soak.specs.Soaking.{IsSoaked}
 use Rattle.csn_soak.proofs.soaking.soak.Given as goal
@@ -7,4 +8,6 @@ abbrev pub invariant-loop-k : goal.invariant-loop-k
 invariant-loop-k l = record {
   number : l.number ≡ number l.k;
   soaked : IsSoaked l.plan l.fn.entry l.k l.soaked;
+  fresh : IsFresh l.judge;
+  desc : l.judge.desc ≡ l.plan;
 }
