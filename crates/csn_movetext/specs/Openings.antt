@@ -21,7 +21,7 @@ number_text form (Some k) = mark_text form k
 abbrev pub told_width : ℕ → Option ℕ
 told_width width = if nat_le 1 width && nat_le width MOST_SHORT then Some width else None
 
--- the constant width of a leaf, where it is written before its bits
+-- the constant width of a leaf, where a text has it before the bits
 abbrev pub leaf_width : Node → Option ℕ
 leaf_width (Spare symbol) = told_width 1
 leaf_width (Field unit (Fixed n)) = told_width (unit * n)

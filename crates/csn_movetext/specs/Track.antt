@@ -8,8 +8,8 @@ use Rattle.csn_movetext.specs.Openings.{OpeningsV, opening_in}
 use Rattle.csn_movetext.specs.Writing.{WritingV, gathering, behind}
 use Rattle.csn_movetext.specs.Kept.{KeptV, Shows, Extends}
 
--- the openings with their form, what is kept of the text, and whether memory was refused; and, between two bits of a run, those of its
--- bits that have come
+-- the openings with their form, what is kept of the text, and whether memory was refused; and, between two bits of a
+-- run, those of its bits that have come
 pub record TrackV : Type 0 where
   pub openings : OpeningsV
   pub kept : KeptV

@@ -88,7 +88,7 @@ left_node form (Named label part) w = part_left form w
 left_node form _ w = passed w
 
 -- behind one move, where `openings` tells what each node writes where it begins. There is nothing where a leaf is open
--- and another node is entered or left, or the leaf has other bits than were told
+-- and another node is entered or left, or as a text the leaf has other bits than were told
 abbrev pub behind : TreeForm → (ℕ → List ℕ) → Move → Node → WritingV → Option WritingV
 behind form openings (Enter i) n w = entered form (openings i) w
 behind form openings (Bit bit) n w = took bit n w

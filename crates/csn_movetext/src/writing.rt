@@ -259,14 +259,14 @@ fn gap(form: TreeForm) -> u8
     }
 }
 
-// Whether the width of a leaf is written before its bits.
+// Whether the width of a leaf is known before its bits.
 fn is_told(node: &Node) -> bool
     ensures { IsTold (leaf_width node.now) result }
 {
     leaf_width(node).is_some()
 }
 
-/// The constant width of a leaf, where it is written before its bits.
+/// The constant width of a leaf, where a text has it before the bits.
 pub(crate) fn leaf_width(node: &Node) -> Option<u64>
     ensures { result ≡ leaf_width node.now }
 {
