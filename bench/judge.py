@@ -108,10 +108,10 @@ fn blocks_of(alloc: Global, input: &[u8]) -> Option<Vec<Bits>> {
 
 /// Judges each block once.
 fn judge_all<L: Ledger>(plan: &Plan, blocks: &[Bits], steps: &mut Steps<L>, sums: &mut Sums) {
+    let mut judge = Judge::new(plan);
     for block in blocks {
-        let mut judge = Judge::new(plan);
         let _verdict = judge.feed(block.octets(), block.len(), steps);
-        match judge.finish(steps) {
+        match judge.next_block(steps) {
             Judged::Ok => sums.ok = sums.ok.wrapping_add(1),
             Judged::Refused { .. } => sums.refused = sums.refused.wrapping_add(1),
         }
@@ -180,6 +180,13 @@ PICK = """use Rattle.bench_judge.proofs.judged.Given as goal
 
 abbrev pub ghosts-judge_turns : goal.ghosts-judge_turns
 ghosts-judge_turns a = record { name = a.blank.name; parts = a.blank.parts }
+"""
+
+SEEN = """use Rattle.std.proofs.Common.{◌≡◌}
+use Rattle.bench_judge.proofs.judge_all.Given as goal
+
+abbrev pub invariant-loop-block : goal.invariant-loop-block
+invariant-loop-block g l = l.judge.seen ≡ 0
 """
 
 
@@ -274,7 +281,7 @@ def main():
     catalogue = str(Path(args.catalogue).resolve())
     with tempfile.TemporaryDirectory() as name:
         folder = Path(name)
-        files = {"src/main.rt": MAIN, "proofs/judged/Invariants.antt": PICK}
+        files = {"src/main.rt": MAIN, "proofs/judged/Invariants.antt": PICK, "proofs/judge_all/Invariants.antt": SEEN}
         words = [catalogue, ENTRIES["si1"][0], "1"]
         program = args.program or program_of(folder / "copy", CRATE, files, words)
         other = str(Path(args.beside).resolve()) if args.beside else None
