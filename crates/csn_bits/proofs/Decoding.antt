@@ -1,8 +1,11 @@
 -- Lines of whole octets, as the crate hex decodes them.
-use Rattle.std.proofs.Common.{◌≡◌, ℕ, ◌+◌, ◌*◌, ◌%◌, ◌≤◌, true, List, [], ◌∷◌, length, map, Option, Some, None, is_some, unwrap_or, Ok, refl, sym, ap, ◌∙◌, arith, append-nil, subst}
+use Rattle.std.proofs.Common.{◌≡◌, ℕ, ◌+◌, ◌*◌, ◌%◌, ◌≤◌, true, List, [], ◌∷◌, length, map, take, Option, Some, None, is_some, unwrap_or, Result, Ok, Err, refl, sym, ap, ◌∙◌, arith, append-nil, subst}
+use Rattle.std.specs.Prelude.{MatchResult}
 use Rattle.std.specs.List.{AllPass}
+use Rattle.std.proofs.lemmas.List.{length-take, length-take-le, take-take}
 use Rattle.std.proofs.lemmas.List.Elements.{All-head, All-tail}
-use Rattle.hex.specs.Hex.{decode_of, decode_pairs, encode_upper, hex_digit_value, is_hex_digit, pair_value}
+use Rattle.hex.specs.declared.error.FromHexError.{FromHexError}
+use Rattle.hex.specs.Hex.{decode_of, decode_pairs, decode_sized, encode_upper, hex_digit_value, is_hex_digit, pair_value}
 use Rattle.hex.proofs.HexLemmas.{decode_of-even, decode_of-ok, decode_of-same}
 use Rattle.hex.proofs.Pairs.{cons_byte, decode_pairs-ok_pair}
 use Rattle.csn_bits.specs.Octets.{bits_of_octets, octets_of}
@@ -39,9 +42,54 @@ none_waits [] even = refl
 none_waits (a ∷ []) even = absurd (omega arith)
 none_waits (a ∷ b ∷ rest) even = none_waits rest (omega arith)
 
+-- a call answered what a text decodes to
+decoded_as : (decoded : Result (List ℕ) FromHexError) (octets : List ℕ) (result : Result (Unit {0}) FromHexError)
+    → MatchResult decoded (λ bytes. (result ≡ Ok tt) × (octets ≡ bytes)) (λ e. result ≡ Err e) → result ≡ Ok tt → decoded ≡ Ok octets
+decoded_as (Ok bytes) octets result same is = ap (λ (l : List ℕ). Ok l) (sym same.1)
+decoded_as (Err e) octets result same is = absurd (cc)
+
+decode_sized-fits : (line : List ℕ) (count : ℕ) → length line ≡ 2 * count → decode_sized line count ≡ decode_of line
+decode_sized-fits line count twice = grind (arith)
+
+-- what the crate decodes of pairs of digits are their octets
+decoded_pairs : (line octets : List ℕ) → decode_of line ≡ Ok octets → AreDigits line × (waiting_value line ≡ None) × (octets ≡ octets_of_digits line)
+decoded_pairs line octets decoded =
+    let (even, all, twice, bytes) = decode_of-ok line octets decoded in
+    let digits = are_digits line all in
+    let waits = none_waits line even in
+    (digits, waits, decode_of-same line octets (octets_of_digits line) decoded (decode_of-even line even ∙ decodes 0 line digits waits))
+
 -- what it decodes is half as long
 pub halved : (line octets : List ℕ) → decode_of line ≡ Ok octets → length line ≡ 2 * length octets
 halved line octets decoded = let (even, all, twice, bytes) = decode_of-ok line octets decoded in twice
+
+-- the same into room for so many
+pub decoded_front : (line octets : List ℕ) (count room : ℕ) (result : Result (Unit {0}) FromHexError) → length line ≡ 2 * count → room ≡ count
+    → MatchResult (decode_sized line room) (λ bytes. (result ≡ Ok tt) × (octets ≡ bytes)) (λ e. result ≡ Err e) → result ≡ Ok tt
+    → AreDigits line × (length octets ≡ count) × (octets ≡ octets_of_digits line)
+decoded_front line octets count room result twice fits sized is =
+    let same_room : decode_sized line room ≡ decode_of line =
+    ap (decode_sized line) fits ∙ decode_sized-fits line count twice in
+    let decoded = sym same_room ∙ decoded_as (decode_sized line room) octets result sized is in
+    let (digits, waits, same) = decoded_pairs line octets decoded in
+    (digits, omega (arith, halved line octets decoded, twice), same)
+
+-- so many pairs of digits that were decoded among the first bytes
+pub pairs_taken : (bytes decoded : List ℕ) (count most : ℕ) → AreDigits (take (2 * count) (take most bytes))
+    → take count decoded ≡ octets_of_digits (take (2 * count) (take most bytes)) → 2 * count ≤ length (take most bytes)
+    → (length (take (2 * count) bytes) ≡ 2 * count) × AreDigits (take (2 * count) bytes) × (waiting_value (take (2 * count) bytes) ≡ None)
+    × (take count decoded ≡ octets_of_digits (take (2 * count) bytes)) × (2 * count ≤ length bytes) × (2 * count ≤ most)
+pairs_taken bytes decoded count most all octets within =
+    let fits = length-take most bytes in
+    let same : take (2 * count) (take most bytes) ≡ take (2 * count) bytes = take-take (2 * count) most bytes (omega (arith, fits, within)) in
+    let n : length (take (2 * count) bytes) ≡ 2 * count = length-take-le (2 * count) bytes (omega (arith, fits, within)) in (
+      n,
+      subst AreDigits same all,
+      none_waits (take (2 * count) bytes) (omega (arith, n)),
+      octets ∙ ap octets_of_digits same,
+      omega (arith, fits, within),
+      omega (arith, fits, within),
+    )
 
 -- what the crate decodes of a line, where it is of a block and not empty, are the octets of the bits that it spells
 pub whole_line : (line octets : List ℕ) → decode_of line ≡ Ok octets → 1 ≤ length line → length line ≤ 131072
@@ -50,10 +98,7 @@ whole_line line octets decoded some few =
     let (even, all, twice, bytes) = decode_of-ok line octets decoded in
     let some_octets : 1 ≤ length octets = omega (arith, twice, some) in
     let few_octets : length octets ≤ 65536 = omega (arith, twice, few) in
-    let digits = are_digits line all in
-    let waits = none_waits line even in
-    let is : octets ≡ octets_of_digits line =
-    decode_of-same line octets (octets_of_digits line) decoded (decode_of-even line even ∙ decodes 0 line digits waits) in
+    let (digits, waits, is) = decoded_pairs line octets decoded in
     let small : AreOctets octets = subst AreOctets (sym is) (AreOctets-octets_of_digits line) in
     let bits : List ℕ = bits_of_octets octets in
     let count = length-bits_of_octets octets in

@@ -1,7 +1,7 @@
 -- Digits, and the octets of their pairs.
-use Rattle.std.proofs.Common.{◌≡◌, ℕ, suc, ◌+◌, ◌-◌, ◌*◌, ◌<◌, ◌≤◌, ◌==◌, Bool, true, false, List, [], ◌∷◌, ◌++◌, length, take, Some, None, refl, sym, ap, ◌∙◌, arith, eqb-true, inl, inr}
+use Rattle.std.proofs.Common.{◌≡◌, ℕ, suc, ◌+◌, ◌-◌, ◌*◌, ◌<◌, ◌≤◌, ◌==◌, Bool, true, false, List, [], ◌∷◌, ◌++◌, length, take, Some, None, refl, sym, ap, ◌∙◌, arith, append_assoc, length-append, eqb-true, inl, inr}
 use Rattle.std.proofs.lemmas.Bool.{cases_Bool}
-use Rattle.std.proofs.lemmas.List.{take_at, take-append-le, take_all, length_push}
+use Rattle.std.proofs.lemmas.List.{take_at, take-append-le, take_all, length-take-le, length_push}
 use Rattle.hex.specs.Hex.{is_hex_digit}
 use Rattle.csn_bits.specs.Line.{last_of, octets_of_digits, value_of}
 use Rattle.csn_bits.specs.Feed.{AreDigits, all_but_last, leading_digits, waiting_value}
@@ -87,6 +87,56 @@ octets-push_second (d ∷ []) high digit some =
     (let e : value_of d ≡ high = cc in ap (λ (n : ℕ). (16 * n + value_of digit) ∷ []) e)
 octets-push_second (h ∷ l ∷ rest) high digit some =
     ap (λ (os : List ℕ). (16 * value_of h + value_of l) ∷ os) (octets-push_second rest high digit some)
+
+-- ---- more digits behind whole pairs
+
+pub AreDigits-append : (digits more : List ℕ) → AreDigits digits → AreDigits more → AreDigits (digits ++ more)
+AreDigits-append [] more s t = t
+AreDigits-append (d ∷ digits) more s t = (s.0, AreDigits-append digits more s.1 t)
+
+pub waiting-append : (digits more : List ℕ) → waiting_value digits ≡ None → waiting_value (digits ++ more) ≡ waiting_value more
+waiting-append [] more none = refl
+waiting-append (d ∷ []) more none = absurd (cc)
+waiting-append (h ∷ l ∷ rest) more none = waiting-append rest more none
+
+pub octets-append : (digits more : List ℕ) → waiting_value digits ≡ None
+    → octets_of_digits (digits ++ more) ≡ octets_of_digits digits ++ octets_of_digits more
+octets-append [] more none = refl
+octets-append (d ∷ []) more none = absurd (cc)
+octets-append (h ∷ l ∷ rest) more none =
+    ap (λ (os : List ℕ). (16 * value_of h + value_of l) ∷ os) (octets-append rest more none)
+
+pub last_of-append : (xs ys : List ℕ) (x : ℕ) → last_of ys ≡ Some x → last_of (xs ++ ys) ≡ Some x
+last_of-append [] ys x is = is
+last_of-append (a ∷ []) [] x is = absurd (cc)
+last_of-append (a ∷ []) (b ∷ ys) x is = is
+last_of-append (a ∷ b ∷ rest) ys x is = last_of-append (b ∷ rest) ys x is
+
+all_but_last-append : (xs : List ℕ) (y : ℕ) (ys : List ℕ) → all_but_last (xs ++ y ∷ ys) ≡ xs ++ all_but_last (y ∷ ys)
+all_but_last-append [] y ys = refl
+all_but_last-append (x ∷ xs) y ys =
+    let later = all_but_last-append xs y ys in
+    let n : length (x ∷ xs ++ y ∷ ys) - 1 ≡ suc (length (xs ++ y ∷ ys) - 1) = omega (arith, length-append xs (y ∷ ys)) in
+    rw n (ap (λ (l : List ℕ). x ∷ l) later)
+
+-- what more octets give behind others: the octet that was the last, and then they but for their last
+pub given-append : (octets more : List ℕ) → 1 ≤ length more → length octets + length more ≤ 65536
+    → take 65536 (all_but_last (octets ++ more)) ≡ octets ++ all_but_last more
+given-append octets [] some fits = absurd (omega arith)
+given-append octets (y ∷ ys) some fits =
+    let count = length-append octets (all_but_last (y ∷ ys)) in
+    let fewer = length-take-le (length (y ∷ ys) - 1) (y ∷ ys) (omega arith) in
+    ap (take 65536) (all_but_last-append octets y ys)
+    ∙ take_all 65536 (octets ++ all_but_last (y ∷ ys)) (omega (arith, count, fewer))
+
+pub given-behind : (octets : List ℕ) (last : ℕ) (more : List ℕ) → last_of octets ≡ Some last → length octets ≤ 65536
+    → octets ++ more ≡ take 65536 (all_but_last octets) ++ last ∷ more
+given-behind octets last more is fits =
+    let parts = last_parts octets last is in
+    let front : List ℕ = all_but_last octets in
+    let n : length octets ≡ length front + 1 = ap length parts ∙ length_push front last in
+    let short : take 65536 front ≡ front = take_all 65536 front (omega arith) in
+    ap (λ (l : List ℕ). l ++ more) parts ∙ append_assoc front (last ∷ []) more ∙ ap (λ (l : List ℕ). l ++ last ∷ more) (sym short)
 
 -- ---- what a feed gives
 

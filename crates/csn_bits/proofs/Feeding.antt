@@ -8,7 +8,7 @@ use Rattle.csn_bits.specs.Feed.{AreDigits, Holds, dot, bad, read, all_but_last, 
 use Rattle.csn_bits.specs.declared.fault.LineWhy.TheVariants.{BadDigit, BadLength}
 use Rattle.csn_bits.specs.declared.feed.Stage.{Stage}
 use Rattle.csn_bits.specs.declared.feed.Stage.TheVariants as stage
-use Rattle.csn_bits.proofs.Digits.{AreDigits-push, given-push, given-push_full, last_none, last_of-push, length-octets_odd, leading-all, leading-stop, octets-push_first, octets-push_second, waiting-push_first, waiting-push_second}
+use Rattle.csn_bits.proofs.Digits.{AreDigits-append, AreDigits-push, given-append, given-behind, given-push, given-push_full, last_none, last_of-append, last_of-push, length-octets_even, length-octets_odd, leading-all, leading-stop, octets-append, octets-push_first, octets-push_second, waiting-append, waiting-push_first, waiting-push_second}
 use Rattle.csn_bits.proofs.Faults.{fault-bad_digit, fault-tail}
 
 -- nothing yet
@@ -101,6 +101,49 @@ module _ (line : List ℕ) (at : Stage) (waiting last : Option ℕ) (digit value
       let empty = last_none (octets_of_digits line) (sym o ∙ before) in
       given_of_digits (line ++ digit ∷ []) (AreDigits-push line digit s d)
       ∙ (rw (octets-push_second line high digit odd, given_of_digits line s, empty) refl)
+
+-- ---- whole pairs of digits at once
+
+module _ (line digits : List ℕ) (at : Stage) (waiting last : Option ℕ) (h : Holds at waiting last line) (is : at ≡ stage.Digits)
+    (even : waiting ≡ None) (all : AreDigits digits) (pairs : waiting_value digits ≡ None) where
+  pub holds_pairs : (octet : ℕ) → last_of (octets_of_digits digits) ≡ Some octet → Holds at waiting (Some octet) (line ++ digits)
+  holds_pairs octet some =
+      let (s, w, o) = holds_digits at waiting last line h is in
+      let none : waiting_value line ≡ None = sym w ∙ even in
+      rw (is, even) (holds_from (line ++ digits) None (Some octet) (AreDigits-append line digits s all)
+      (sym (waiting-append line digits none ∙ pairs))
+      (sym (ap last_of (octets-append line digits none) ∙ last_of-append (octets_of_digits line) (octets_of_digits digits) octet some)))
+
+  given_pairs : 1 ≤ length digits → length line + length digits ≤ 131072
+      → octets_given (line ++ digits) ≡ octets_of_digits line ++ all_but_last (octets_of_digits digits)
+  given_pairs some fits =
+      let (s, w, o) = holds_digits at waiting last line h is in
+      let none : waiting_value line ≡ None = sym w ∙ even in
+      let before = length-octets_even line none in
+      let more = length-octets_even digits pairs in
+      given_of_digits (line ++ digits) (AreDigits-append line digits s all)
+      ∙ ap (λ (os : List ℕ). take 65536 (all_but_last os)) (octets-append line digits none)
+      ∙ given-append (octets_of_digits line) (octets_of_digits digits) (omega (arith, more, some)) (omega (arith, before, more, fits))
+
+  -- the first ones
+  pub given_first_pairs : last ≡ None → 1 ≤ length digits → length line + length digits ≤ 131072
+      → octets_given (line ++ digits) ≡ octets_given line ++ all_but_last (octets_of_digits digits)
+  given_first_pairs first some fits =
+      let (s, w, o) = holds_digits at waiting last line h is in
+      let empty = last_none (octets_of_digits line) (sym o ∙ first) in
+      let nothing : octets_given line ≡ [] = given_of_digits line s ∙ (rw empty refl) in
+      given_pairs some fits ∙ (rw (empty, nothing) refl)
+
+  -- others: they give the octet that was held back
+  pub given_more_pairs : (octet : ℕ) → last ≡ Some octet → 1 ≤ length digits → length line + length digits ≤ 131072
+      → octets_given (line ++ digits) ≡ octets_given line ++ octet ∷ all_but_last (octets_of_digits digits)
+  given_more_pairs octet held some fits =
+      let (s, w, o) = holds_digits at waiting last line h is in
+      let before = length-octets_even line (sym w ∙ even) in
+      let back : List ℕ = all_but_last (octets_of_digits digits) in
+      given_pairs some fits
+      ∙ given-behind (octets_of_digits line) octet back (sym o ∙ held) (omega (arith, before, fits))
+      ∙ ap (λ (os : List ℕ). os ++ octet ∷ back) (sym (given_of_digits line s))
 
 -- ---- any other byte
 

@@ -1,4 +1,5 @@
 pub mod Packing
+pub mod Room
 pub mod NumberFacts
 pub mod HexDigits
 pub mod Digits

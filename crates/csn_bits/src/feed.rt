@@ -1,7 +1,7 @@
-ghost use Rattle.std.specs.Prelude.{◌≡◌, ℕ, codes, ◌+◌, ◌<◌, ◌≤◌, ◌↔◌, List, [], ◌∷◌, ◌++◌, length, IsTrue, Some};
+ghost use Rattle.std.specs.Prelude.{◌≡◌, ℕ, codes, ◌+◌, ◌*◌, ◌/◌, ◌<◌, ◌≤◌, ◌↔◌, List, [], ◌∷◌, ◌++◌, drop, length, take, IsTrue, IfNone, IfSome, Some};
 ghost use Rattle.std.specs.Option.{ForSome};
 
-use crate::digit::{counted_bits, digit_value};
+use crate::digit::{counted_bits, decode_pairs, digit_value};
 use crate::fault::LineWhy;
 
 /// The most bytes of a line.
@@ -47,6 +47,16 @@ pub enum HexStep {
     Octet(u8),
 }
 
+/// Whole pairs of digits that a feed took at once. What they give stands in the room from a place on, up to half as many
+/// octets as there are digits.
+#[derive(Clone, Copy, Debug, Drop, PartialEq, Eq)]
+pub struct Pairs {
+    /// How many bytes were taken.
+    pub bytes: usize,
+    /// The place in the room.
+    pub from: usize,
+}
+
 /// How a line ended.
 #[derive(Clone, Copy, Debug, Drop, PartialEq, Eq)]
 pub enum HexEnd {
@@ -60,7 +70,7 @@ pub enum HexEnd {
 
 impl HexFeed {
     ghost use Rattle.hex.specs.Hex.{hex_digit_value};
-    ghost use Rattle.csn_bits.specs.Feed.{EndsDigits, EndsLine, Fed, Gives, Keeps, fault_of_end, seen_of};
+    ghost use Rattle.csn_bits.specs.Feed.{EndsDigits, EndsLine, Fed, Gives, Keeps, fault_of_end, octets_given, seen_of};
     ghost use Rattle.csn_bits.specs.Line.{fault_of};
 
     /// A feed that was given nothing yet.
@@ -100,6 +110,42 @@ impl HexFeed {
                 HexStep::Nothing
             }
         }
+    }
+
+    /// Takes the whole pairs of digits that some bytes begin with, where only whole pairs were read before, and no more than
+    /// a block has octets. What they give, the octet of the last pair held back, stands then in the room.
+    pub fn pairs(&mut self, bytes: &[u8], room: &mut [u8]) -> Option<Pairs>
+        requires { length bytes.now + 2 ≤ 2 * length room.old }
+        ensures fed { IfSome result (λ pairs. (line : List ℕ) → Fed self.old line → Fed self.new (line ++ take pairs.bytes bytes.now)) }
+        ensures given { IfSome result (λ pairs. (line : List ℕ) → Fed self.old line
+            → octets_given (line ++ take pairs.bytes bytes.now) ≡ octets_given line ++ drop pairs.from (take (pairs.bytes / 2) room.new)) }
+        ensures seen { IfSome result (λ pairs. seen_of self.new ≡ seen_of self.old + pairs.bytes) }
+        ensures some { IfSome result (λ pairs. 0 < pairs.bytes) }
+        ensures within { IfSome result (λ pairs. pairs.bytes ≤ length bytes.now) }
+        ensures from { IfSome result (λ pairs. pairs.from ≤ pairs.bytes / 2) }
+        ensures none { IfNone result (self.new ≡ self.old) }
+        ensures room { length room.new ≡ length room.old }
+    {
+        let (Stage::Digits, None) = (self.stage, self.waiting) else {
+            return None;
+        };
+        let left = (2 * MOST_OCTETS).checked_sub(self.seen)? as usize;
+        let count = decode_pairs(&bytes[..bytes.len().min(left)], &mut room[1..]);
+        if count == 0 {
+            return None;
+        }
+        self.seen += 2 * count as u32;
+        let from = match self.last.replace(room[count]) {
+            Some(octet) => {
+                room[0] = octet;
+                0
+            }
+            None => 1,
+        };
+        Some(Pairs {
+            bytes: 2 * count,
+            from,
+        })
     }
 
     // Takes the value of a digit, which is counted already, while only digits were read.

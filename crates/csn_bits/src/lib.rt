@@ -10,7 +10,7 @@ mod pattern;
 
 pub use bits::{Bits, MOST_BITS};
 pub use fault::{BitsFault, LineWhy, NoMemory};
-pub use feed::{HexEnd, HexFeed, HexStep, MOST_LINE};
+pub use feed::{HexEnd, HexFeed, HexStep, MOST_LINE, Pairs};
 pub use pattern::pattern_bit;
 
 #[cfg(test)]

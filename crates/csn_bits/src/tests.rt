@@ -1,4 +1,4 @@
-use crate::{Bits, BitsFault, HexEnd, HexFeed, HexStep, LineWhy, MOST_BITS, pattern_bit};
+use crate::{Bits, BitsFault, HexEnd, HexFeed, HexStep, LineWhy, MOST_BITS, Pairs, pattern_bit};
 use std::test::Fail;
 
 /// How many digits the longest block line has.
@@ -106,4 +106,27 @@ fn feeds_a_line_byte_by_byte(rt: HostRuntime) {
         }
     );
     assert_eq!(rt; HexFeed::new().finish(), HexEnd::Fault(LineWhy::BadLength));
+}
+
+#[test]
+fn takes_whole_pairs_at_once(rt: HostRuntime) {
+    let mut feed = HexFeed::new();
+    let mut room = [0u8; 4];
+    let first = feed.pairs(b"A50f3", &mut room);
+    assert_eq!(rt; first, Some(Pairs { bytes: 4, from: 1 }));
+    assert_eq!(rt; room[1], 0xA5);
+    let more = feed.pairs(b"40/2.", &mut room);
+    assert_eq!(rt; more, Some(Pairs { bytes: 2, from: 0 }));
+    assert_eq!(rt; room[0], 0x0F);
+    assert_eq!(rt; feed.pairs(b"/2f0F", &mut room), None);
+    assert_eq!(rt; feed.byte(b'/'), HexStep::Nothing);
+    assert_eq!(rt; feed.pairs(b"40", &mut room), None);
+    assert_eq!(rt; feed.byte(b'2'), HexStep::Nothing);
+    assert_eq!(rt;
+        feed.finish(),
+        HexEnd::Last {
+            octet: 0x40,
+            bits: 2
+        }
+    );
 }
