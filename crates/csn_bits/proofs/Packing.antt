@@ -133,6 +133,11 @@ IsBits-take zero bits s = tt
 IsBits-take (suc n) [] s = tt
 IsBits-take (suc n) (bit ∷ rest) s = (s.0, IsBits-take n rest s.1)
 
+pub IsBits-drop : (n : ℕ) (bits : List ℕ) → IsBits bits → IsBits (drop n bits)
+IsBits-drop zero bits s = s
+IsBits-drop (suc n) [] s = tt
+IsBits-drop (suc n) (bit ∷ rest) s = IsBits-drop n rest s.1
+
 -- each of them is a byte
 abbrev pub AreOctets : List ℕ → Type 0
 AreOctets octets = (k : ℕ) → get_or octets k 0 < 256

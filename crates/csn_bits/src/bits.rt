@@ -2,6 +2,7 @@ ghost use Rattle.std.specs.Prelude.{◌≡◌, ◌+◌, ◌*◌, ◌/◌, ◌<�
 ghost use Rattle.std.specs.Option.{ForSome};
 ghost use Rattle.csn_bits.specs.Fault.{IsLineFault};
 ghost use Rattle.csn_bits.specs.Line.{BlockLine, written};
+ghost use Rattle.csn_bits.specs.Numbers.{number_of};
 ghost use Rattle.csn_bits.specs.Octets.{IsBits, bits_of_octets, octets_of};
 
 use crate::fault::{BitsFault, NoMemory};
@@ -190,6 +191,15 @@ impl Bits {
         })
     }
 
+    /// The number that at most 64 bits write, the first of them most significant.
+    pub fn number(&self) -> u64
+        requires { length self.now ≤ 64 }
+        ensures { result ≡ number_of self.now }
+    {
+        let octets = self.octets();
+        octets_number(octets) >> (8 * octets.len() as u32 - self.len)
+    }
+
     /// The octets that hold the bits, eight to an octet, the first bit of each octet its most
     /// significant one. In the last octet what is unused is 0.
     pub fn octets(&self) -> &[u8]
@@ -199,4 +209,16 @@ impl Bits {
     {
         &self.octets
     }
+}
+
+// The number that the bits of at most eight octets write.
+fn octets_number(octets: &[u8]) -> u64
+    requires { length octets.now ≤ 8 }
+    ensures { result ≡ number_of (bits_of_octets octets.now) }
+{
+    let mut number = 0;
+    for &octet in octets {
+        number = 256 * number + u64::from(octet);
+    }
+    number
 }

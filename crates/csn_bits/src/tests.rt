@@ -78,6 +78,10 @@ fn packs_bits(rt: HostRuntime) -> Result<(), Fail> {
     bits.push(1)?;
     assert_eq!(rt; bits.octets(), [0xB0].as_slice());
     assert_eq!(rt; Bits::new(rt.alloc()).len(), 0);
+    let long = Bits::from_octets(rt.alloc(), &[0xA5, 0xFF], 12)?;
+    if long.len() <= 64 {
+        assert_eq!(rt; long.number(), 0xA5F);
+    }
     assert_eq!(rt; [pattern_bit(1), pattern_bit(2), pattern_bit(7)], [0, 1, 1]);
     Ok(())
 }

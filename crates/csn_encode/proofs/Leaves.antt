@@ -6,6 +6,7 @@ use Rattle.std.proofs.lemmas.List.{length-take-le, drop-append-le}
 use Rattle.csn_bits.specs.Octets.{IsBits}
 use Rattle.csn_bits.specs.Numbers.{number_of}
 use Rattle.csn_bits.proofs.NumberFacts.{number_of-push, number_of-lt}
+use Rattle.csn_bits.proofs.Packing.{IsBits-drop, IsBits-take}
 use Rattle.csn_desc.specs.declared.symbol.Symbol.{Symbol}
 use Rattle.csn_desc.specs.Spelled.{symbol_bit, spelled}
 
@@ -59,16 +60,6 @@ each_sent s (b ∷ bits) place (suc k) all less =
     each_sent s bits (suc place) k rest (omega arith) ∙ ap (λ k. symbol_bit s k) (omega arith)
 
 -- ---- numbers
-
-IsBits-take : (n : ℕ) (bits : List ℕ) → IsBits bits → IsBits (take n bits)
-IsBits-take zero bits s = tt
-IsBits-take (suc n) [] s = tt
-IsBits-take (suc n) (bit ∷ rest) s = (s.0, IsBits-take n rest s.1)
-
-IsBits-drop : (n : ℕ) (bits : List ℕ) → IsBits bits → IsBits (drop n bits)
-IsBits-drop zero bits s = s
-IsBits-drop (suc n) [] s = tt
-IsBits-drop (suc n) (bit ∷ rest) s = IsBits-drop n rest s.1
 
 pub number-next : (bits : List ℕ) (from at x : ℕ) → from ≤ at → at < length bits → get_or bits at 0 ≡ x
     → number_of (drop from (take (at + 1) bits)) ≡ 2 * number_of (drop from (take at bits)) + x

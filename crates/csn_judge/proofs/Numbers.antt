@@ -10,7 +10,7 @@ use Rattle.csn_judge.specs.Coming.{AreOctets, bits_from}
 use Rattle.csn_bits.specs.Octets.{IsBits, bits_of_octet, bits_of_octets}
 use Rattle.csn_bits.specs.Numbers.{number_of, low_bits}
 use Rattle.csn_bits.proofs.NumberFacts.{length-low_bits, IsBits-low_bits, number_of-low_bits, low_bits-split, low_bits-mod, low_bits-shifted, low_bits-octet}
-use Rattle.csn_bits.proofs.Packing.{length-bits_of_octets, drop-bits_of_octets, bits_of_octets-append}
+use Rattle.csn_bits.proofs.Packing.{IsBits-append, IsBits-bits_of_octets, IsBits-take, length-bits_of_octets, drop-bits_of_octets, bits_of_octets-append}
 
 -- ---- what the source does with its buffer
 
@@ -137,21 +137,6 @@ next_eight octets at within =
     rw (l0, l1, l2, l3, l4, l5, l6, l7) refl
 
 -- ---- each of them is 0 or 1
-
-IsBits-append : (front back : List ℕ) → IsBits front → IsBits back → IsBits (front ++ back)
-IsBits-append [] back s t = t
-IsBits-append (bit ∷ front) back s t = (s.0, IsBits-append front back s.1 t)
-
-IsBits-take : (n : ℕ) (bits : List ℕ) → IsBits bits → IsBits (take n bits)
-IsBits-take zero bits s = tt
-IsBits-take (suc n) [] s = tt
-IsBits-take (suc n) (bit ∷ rest) s = (s.0, IsBits-take n rest s.1)
-
-IsBits-bits_of_octets : (octets : List ℕ) → AreOctets octets → IsBits (bits_of_octets octets)
-IsBits-bits_of_octets [] small = tt
-IsBits-bits_of_octets (o ∷ rest) small =
-    IsBits-append (bits_of_octet o) (bits_of_octets rest) (subst IsBits (low_bits-octet o (small 0)) (IsBits-low_bits 8 o))
-    (IsBits-bits_of_octets rest (λ k. small (suc k)))
 
 AreOctets-drop : (n : ℕ) (octets : List ℕ) → AreOctets octets → AreOctets (drop n octets)
 AreOctets-drop n octets small = λ k. rw (get_or-drop n octets k 0) (small (n + k))

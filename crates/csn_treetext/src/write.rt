@@ -3,7 +3,6 @@ ghost use Rattle.std.specs.Fmt.{decimal};
 ghost use Rattle.csn_treetext.specs.declared.bounds.TheConstants.{MOST_SHORT};
 ghost use Rattle.csn_bits.specs.declared.bits.TheConstants.{MOST_BITS};
 ghost use Rattle.csn_bits.specs.Octets.{IsBits};
-ghost use Rattle.csn_bits.specs.Numbers.{number_of};
 ghost use Rattle.csn_treetext.specs.declared.version.Version.TheVariants.{Second};
 ghost use Rattle.csn_treetext.specs.Text.{leaf_text, text_of};
 ghost use Rattle.csn_desc.specs.TreeParts.{HasTreeParts};
@@ -69,7 +68,7 @@ fn push_leaf(out: &mut Vec<u8>, bits: &Bits) -> Result<(), NoMemory>
         1..=MOST_SHORT => {
             push_number(out, u64::from(bits.len()))?;
             out.push(b'\'')?;
-            push_number(out, number_of(bits))?;
+            push_number(out, bits.number())?;
         }
         _ => {
             out.push(b'x')?;
@@ -78,18 +77,6 @@ fn push_leaf(out: &mut Vec<u8>, bits: &Bits) -> Result<(), NoMemory>
         }
     }
     Ok(())
-}
-
-// The number that at most 64 bits write, the first of them most significant.
-fn number_of(bits: &Bits) -> u64
-    requires { length bits.now ≤ MOST_SHORT }
-    ensures { result ≡ number_of bits.now }
-{
-    let mut number = 0;
-    for at in 0..bits.len() {
-        number = 2 * number + u64::from(bits.get(at));
-    }
-    number
 }
 
 // Adds a number in decimal.
