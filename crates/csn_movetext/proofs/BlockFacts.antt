@@ -1,6 +1,6 @@
 -- The text of a block between two pieces of it, and at its end.
 use Rattle.std.proofs.Common.{◌≡◌, ℕ, ◌<◌, ◌≤◌, Bool, true, false, List, [], ◌++◌, length, take, refl, sym, ap, subst, ◌∙◌, arith, length-append, Some, None}
-use Rattle.std.specs.Prelude.{Ok, Err}
+use Rattle.std.specs.Prelude.{Result, Ok, Err, OnOk, IfErr}
 use Rattle.std.proofs.lemmas.List.{take-append-le}
 use Rattle.csn_desc.specs.declared.moves.Move.{Move}
 use Rattle.csn_desc.specs.Nodes.{DescV}
@@ -31,10 +31,11 @@ use Rattle.csn_movetext.specs.Openings.{OpeningsV, opening_in, HasOpenings}
 use Rattle.csn_movetext.specs.Writing.{ready}
 use Rattle.csn_movetext.specs.Kept.{Extends}
 use Rattle.csn_movetext.specs.Track.{TrackV, Writes}
-use Rattle.csn_movetext.specs.Blocks.{BlockV, stands, nothing, is_going, answer_of, IsAnswer, JudgesSome, WritesFor, writes_on, writes_no_more, Continues, Ends, AddsText, IsFaultOf}
+use Rattle.csn_movetext.specs.Blocks.{BlockV, stands, nothing, is_going, answer_of, outcome_of, IsAnswer, JudgesSome, WritesFor, writes_on, writes_no_more, Continues, Ends, AddsText, IsFaultOf}
 use Rattle.csn_movetext.proofs.Written.{block_writes}
 use Rattle.csn_movetext.proofs.TreesFit.{tree_fits}
 use Rattle.csn_movetext.proofs.TreeParts.{node_parts}
+use Rattle.csn_movetext.proofs.Octets.{extends_none}
 use Rattle.csn_movetext.proofs.Followed.{same_openings, extends, followed, tells-then, nothing_shown, all_written}
 
 -- no bits so far
@@ -61,14 +62,23 @@ pub feed_judges : (old new : JudgeV) (before after : TrackV) (more : List ℕ) (
     → Judges (λ around made. Tells old.desc Writes (opened old) made around before after) old new more says → JudgesSome (answer_of says short) new
 feed_judges old new before after more verdict.Going false (b, moves, for) judges =
     let on = judges b moves for in (b ++ more, moves ++ on.made, on.judges)
-feed_judges old new before after more verdict.Going true some judges = tt
+feed_judges old new before after more verdict.Going true (b, moves, for) judges =
+    let on = judges b moves for in (b ++ more, moves ++ on.made, on.judges)
 feed_judges old new before after more (verdict.Refused place) short some judges = tt
 
-pub end_stays : (j : JudgeV) (before after : TrackV) (says : Judged) → j.refused ≡ None → JudgesSome Going j
+told_stays : (j : JudgeV) (before after : TrackV) (says : Judged) → j.refused ≡ None → JudgesSome Going j
     → JudgeEnds (λ around made. Tells j.desc Writes (opened j) made around before after) j says → Stays before after
-end_stays j before after judged.Ok none (b, moves, for) judges = stays_by j.desc (judges b moves for).told
-end_stays j before after (judged.Refused place) none (b, moves, for) judges =
+told_stays j before after judged.Ok none (b, moves, for) judges = stays_by j.desc (judges b moves for).told
+told_stays j before after (judged.Refused place) none (b, moves, for) judges =
     let told = (judges b moves for).told none in stays_by j.desc told.2
+
+pub end_stays : (answer : Fed) (j : JudgeV) (before after : TrackV) (says : Judged) → IsAnswer answer j → JudgesSome answer j
+    → ((place : ℕ) → j.refused ≡ Some place → after ≡ before)
+    → JudgeEnds (λ around made. Tells j.desc Writes (opened j) made around before after) j says → Stays before after
+end_stays Going j before after says is some still judges = told_stays j before after says is some judges
+end_stays NoMemory j before after says is some still judges = told_stays j before after says is some judges
+end_stays (Refused place) j before after says is some still judges =
+    subst (λ t. Stays before t) (sym (still place is)) (record { same = refl; more = extends_none before.kept.text before.kept.text refl })
 
 -- the bytes in front stay
 pub same_front : (start : ℕ) (old new : List ℕ) → start ≤ length old → Extends old new → take start new ≡ take start old
@@ -221,6 +231,45 @@ module _ (j : JudgeV) (before after : TrackV) (front : List ℕ) where
               (node_parts j.desc are.labels are_bits string.block.means (few_bits none few for));
         },
       )
+
+-- by what it comes to
+abbrev pub EndsAs : BlockV → Result (Unit {0}) BlockFault → List ℕ → Type 0
+EndsAs w (Ok done) bytes = Ends w (Ok bytes)
+EndsAs w (Err why) bytes = Ends w (Err why)
+
+pub ends_as : (j : JudgeV) (before after : TrackV) (front : List ℕ) (answer : Fed) (says : Judged) (short : Bool) → StringsAreFollowed → TextsAreJoined → MeaningsAreBits
+    → IsDescription j.desc → HasOneTree j.desc → HasOpenings j.desc before.openings → IsAnswer answer j → j.seen ≤ 524288 → short ≡ after.refused
+    → JudgeEnds (λ around made. Tells j.desc Writes (opened j) made around before after) j says
+    → EndsAs (stands j before answer front) (outcome_of answer says short) after.kept.text
+ends_as j before after front (Refused place) says short strings joined are_bits is one are answer few wanting judges = ends_refused strings (stands j before (Refused place) front) place refl
+ends_as j before after front NoMemory says short strings joined are_bits is one are answer few wanting judges = ends_short (stands j before NoMemory front) refl
+ends_as j before after front Going (judged.Refused place) short strings joined are_bits is one are answer few wanting judges = ends_none j before after front place judges
+ends_as j before after front Going judged.Ok true strings joined are_bits is one are answer few wanting judges = ends_wanting j before after front strings judges
+ends_as j before after front Going judged.Ok false strings joined are_bits is one are answer few wanting judges =
+    ends_text j before after front joined are_bits is one are answer few (sym wanting) judges
+
+pub ends_ok : (w : BlockV) (r : Result (Unit {0}) BlockFault) (bytes : List ℕ) → EndsAs w r bytes → OnOk r (Ends w (Ok bytes))
+ends_ok w (Ok done) bytes ends = ends
+ends_ok w (Err why) bytes ends = tt
+
+pub ends_err : (w : BlockV) (r : Result (Unit {0}) BlockFault) (bytes : List ℕ) → EndsAs w r bytes → IfErr r (λ why. Ends w (Err why))
+ends_err w (Ok done) bytes ends = tt
+ends_err w (Err why) bytes ends = ends
+
+-- the text is written behind other bytes too
+pub text_added : (w : BlockV) (kept front old new : List ℕ) (r : Result (Unit {0}) BlockFault) → front ≡ w.before → Ends w (Ok kept)
+    → OnOk r ((text : List ℕ) → kept ≡ front ++ text → new ≡ old ++ text) → OnOk r ((b : List ℕ) → WritesFor w b → AddsText w.form w.desc b old new)
+text_added w kept front old new (Ok done) same ends added = λ b writes.
+    let text = ends b writes in (text.0, added text.0 (text.1 ∙ ap (λ f. f ++ text.0) (sym same)), text.2)
+text_added w kept front old new (Err why) same ends added = tt
+
+-- or memory was wanting for it there
+pub text_wanting : StringsAreFollowed → (w : BlockV) (kept : List ℕ) (r : Result (Unit {0}) BlockFault) → Ends w (Ok kept) → IfErr r (λ why. why ≡ fault.NoMemory)
+    → IfErr r (λ why. Ends w (Err why))
+text_wanting strings w kept (Ok done) ends wanting = tt
+text_wanting strings w kept (Err why) ends wanting =
+    let short : Ends w (Err fault.NoMemory) = λ b writes. let text = ends b writes in strings w.desc 0 0 [] b text.2.tree text.2.means in
+    subst (λ y. Ends w (Err y)) (sym wanting) short
 
 -- ---- a block that comes at once
 

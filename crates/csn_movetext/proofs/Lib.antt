@@ -8,3 +8,4 @@ pub mod Followed
 pub mod TreesFit
 pub mod TreeParts
 pub mod BlockFacts
+pub mod LineFacts

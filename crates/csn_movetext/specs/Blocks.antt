@@ -12,6 +12,8 @@ use Rattle.csn_judge.specs.Judging.{JudgeV, JudgesFor, opened}
 use Rattle.csn_judge.specs.Told.{Tells}
 use Rattle.csn_judge.specs.declared.verdict.Verdict.{Verdict}
 use Rattle.csn_judge.specs.declared.verdict.Verdict.TheVariants as verdict
+use Rattle.csn_judge.specs.declared.verdict.Judged.{Judged}
+use Rattle.csn_judge.specs.declared.verdict.Judged.TheVariants as judged
 use Rattle.csn_movetext.specs.declared.block.BlockText.TheInside.{Inside}
 use Rattle.csn_movetext.specs.declared.form.TreeForm.{TreeForm}
 use Rattle.csn_movetext.specs.declared.fault.Fed.{Fed}
@@ -59,17 +61,25 @@ answer_of verdict.Going false = Going
 answer_of verdict.Going true = NoMemory
 answer_of (verdict.Refused place) short = Refused place
 
+-- what a block comes to behind an answer, by what the judge says of its end, where memory was wanting or not
+abbrev pub outcome_of : Fed → Judged → Bool → Result (Unit {0}) BlockFault
+outcome_of (Refused place) says short = Err (fault.Refused place)
+outcome_of NoMemory says short = Err fault.NoMemory
+outcome_of Going (judged.Refused place) short = Err (fault.Refused place)
+outcome_of Going judged.Ok true = Err fault.NoMemory
+outcome_of Going judged.Ok false = Ok tt
+
 -- the judge has refused exactly where this was the answer, or memory was wanting before
 abbrev pub IsAnswer : Fed → JudgeV → Type 0
 IsAnswer Going j = j.refused ≡ None
 IsAnswer (Refused place) j = j.refused ≡ Some place
 IsAnswer NoMemory j = j.refused ≡ None
 
--- the judge stands for some bits, unless they were refused or memory was wanting
+-- the judge stands for some bits, unless they were refused
 abbrev pub JudgesSome : Fed → JudgeV → Type 0
 JudgesSome Going j = (b : List ℕ) × (moves : List Move) × JudgesFor j b moves
 JudgesSome (Refused place) j = Unit {0}
-JudgesSome NoMemory j = Unit {0}
+JudgesSome NoMemory j = (b : List ℕ) × (moves : List Move) × JudgesFor j b moves
 
 pub record IsBlockText (b : Inside) : Type 0 where
   pub description : IsDescription b.judge.desc

@@ -8,4 +8,5 @@ pub mod Told
 pub mod Kept
 pub mod Track
 pub mod Blocks
+pub mod Lines
 pub mod Laws

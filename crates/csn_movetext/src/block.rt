@@ -1,13 +1,15 @@
-ghost use Rattle.std.specs.Prelude.{◌≡◌, ℕ, ◌+◌, ◌*◌, ◌≤◌, List, [], length, take, Ok, Err, IfOk, IfErr, IsErrAnd};
+ghost use Rattle.std.specs.Prelude.{◌≡◌, ℕ, ◌+◌, ◌*◌, ◌≤◌, List, [], ◌++◌, length, take, Ok, Err, IfOk, IfErr, IsErrAnd, OnOk};
 ghost use Rattle.csn_bits.specs.Octets.{bits_of_octets};
+ghost use Rattle.csn_judge.specs.Judging.{JudgesFor, opened};
 ghost use Rattle.csn_movetext.specs.Openings.{HasOpenings};
-ghost use Rattle.csn_movetext.specs.Blocks.{WritesFor, credit, Continues, Ends};
+ghost use Rattle.csn_movetext.specs.Kept.{Extends};
+ghost use Rattle.csn_movetext.specs.Blocks.{WritesFor, credit, Continues, Ends, AddsText};
 
 use crate::fault::{BlockFault, Fed, Unwritten};
 use crate::openings::Openings;
 use crate::track::TextTrack;
 use csn_certify::{Plan, Steps};
-use csn_judge::{Judge, Judged};
+use csn_judge::Judge;
 use std::marker::Model;
 use std::sync::ledger::Ledger;
 
@@ -89,7 +91,7 @@ impl<'a> BlockText<'a> {
     }
 
     /// The block has ended: the text of its tree stands behind the bytes. Else there are the bytes alone.
-    pub fn finish<L: Ledger>(self, steps: &mut Steps<L>) -> Result<Vec<u8>, Unwritten>
+    pub fn finish<L: Ledger>(mut self, steps: &mut Steps<L>) -> Result<Vec<u8>, Unwritten>
         ensures text { IfOk result (λ out. Ends self.entry (Ok out.items)) }
         ensures why { IfErr result (λ unwritten. Ends self.entry (Err unwritten.why)) }
         ensures same { IfErr result (λ unwritten. unwritten.out.items ≡ self.entry.before) }
@@ -99,29 +101,108 @@ impl<'a> BlockText<'a> {
             → IsErrAnd result (λ unwritten. unwritten.why ≡ BlockFault.NoMemory) }
         ensures steps { steps.new ≤ steps.old + credit self.entry }
     {
+        match self.end(steps) {
+            Ok(()) => Ok(self.track.finish()),
+            Err(why) => Err(cut_back(self.track, self.start, why)),
+        }
+    }
+
+    /// The block has ended, and the next begins: the text of its tree is written behind `out`. Where it has none nothing
+    /// is, and where memory is wanting for `out` some of it may be. So one value does for many blocks, with one buffer.
+    pub fn next_block<L: Ledger>(
+        &mut self,
+        out: &mut Vec<u8>,
+        steps: &mut Steps<L>,
+    ) -> Result<(), BlockFault>
+        ensures text { OnOk result ((b : List ℕ) → WritesFor self.old b → AddsText self.old.form self.old.desc b out.old.items out.new.items) }
+        ensures why { IfErr result (λ why. Ends self.old (Err why)) }
+        ensures refused { (place : ℕ) → self.old.answer ≡ Fed.Refused place → result ≡ Err (BlockFault.Refused place) }
+        ensures no_memory { self.old.answer ≡ Fed.NoMemory → result ≡ Err BlockFault.NoMemory }
+        ensures same { (place : ℕ) → result ≡ Err (BlockFault.Refused place) → out.new.items ≡ out.old.items }
+        ensures extends { Extends out.old.items out.new.items }
+        ensures writes { WritesFor self.new [] }
+        ensures answer { self.new.answer ≡ Fed.Going }
+        ensures form { self.new.form ≡ self.old.form }
+        ensures desc { self.new.desc ≡ self.old.desc }
+        ensures before { self.new.before ≡ self.old.before }
+        ensures seen { self.new.seen ≡ 0 }
+        ensures steps { steps.new + credit self.new ≤ steps.old + credit self.old + 8 * length self.old.desc.nodes }
+    {
+        csn_desc::laws::strings_are_followed();
+        let ended = match self.end(steps) {
+            Ok(()) => self.add_to(out),
+            Err(why) => Err(why),
+        };
+        self.restart();
+        ended
+    }
+
+    /// The block is given up, and the next begins.
+    pub fn give_up<L: Ledger>(&mut self, steps: &mut Steps<L>)
+        ensures writes { WritesFor self.new [] }
+        ensures answer { self.new.answer ≡ Fed.Going }
+        ensures form { self.new.form ≡ self.old.form }
+        ensures desc { self.new.desc ≡ self.old.desc }
+        ensures before { self.new.before ≡ self.old.before }
+        ensures seen { self.new.seen ≡ 0 }
+        ensures steps { steps.new + credit self.new ≤ steps.old + credit self.old + 8 * length self.old.desc.nodes }
+    {
+        let _ended = self.end(steps);
+        self.restart();
+    }
+
+    // The block has ended: whether the text of its tree stands behind the bytes. The judge stands for no bits then.
+    fn end<L: Ledger>(&mut self, steps: &mut Steps<L>) -> Result<(), BlockFault>
+        ensures text { OnOk result (Ends self.old (Ok self.new.track.kept.text)) }
+        ensures why { IfErr result (λ why. Ends self.old (Err why)) }
+        ensures refused { (place : ℕ) → self.old.answer ≡ Fed.Refused place → result ≡ Err (BlockFault.Refused place) }
+        ensures no_memory { self.old.answer ≡ Fed.NoMemory → result ≡ Err BlockFault.NoMemory }
+        ensures judges { JudgesFor self.new.judge [] [] }
+        ensures opened { opened self.new.judge ≡ [] }
+        ensures answer { self.new.answer ≡ Fed.Going }
+        ensures form { self.new.form ≡ self.old.form }
+        ensures desc { self.new.desc ≡ self.old.desc }
+        ensures before { self.new.before ≡ self.old.before }
+        ensures seen { self.new.seen ≡ 0 }
+        ensures credit { credit self.new ≡ 8 * length self.old.desc.nodes }
+        ensures steps { steps.new ≤ steps.old + credit self.old }
+    {
         csn_desc::laws::strings_are_followed();
         csn_desc::laws::meanings_are_bits();
         csn_json::laws::texts_are_joined();
-        let BlockText {
-            judge,
-            mut track,
-            start,
-            answer,
-        } = self;
-        let ended = match answer {
-            Fed::Going => judge.finish_to(&mut track, steps),
-            Fed::Refused { place } => return Err(cut_back(
-                track,
-                start,
-                BlockFault::Refused { place },
-            )),
-            Fed::NoMemory => return Err(cut_back(track, start, BlockFault::NoMemory)),
-        };
-        match ended {
-            Judged::Refused { place } => Err(cut_back(track, start, BlockFault::Refused { place })),
-            Judged::Ok if track.is_refused() => Err(cut_back(track, start, BlockFault::NoMemory)),
-            Judged::Ok => Ok(track.finish()),
+        let judged = self.judge.next_block_to(&mut self.track, steps);
+        let ended = self.answer.outcome(judged, self.track.is_refused());
+        self.answer = Fed::Going;
+        ended
+    }
+
+    // Writes the text behind the bytes before it also behind `out`.
+    fn add_to(&self, out: &mut Vec<u8>) -> Result<(), BlockFault>
+        ensures added { OnOk result ((text : List ℕ) → self.now.track.kept.text ≡ self.now.before ++ text
+            → out.new.items ≡ out.old.items ++ text) }
+        ensures why { IfErr result (λ why. why ≡ BlockFault.NoMemory) }
+        ensures extends { Extends out.old.items out.new.items }
+    {
+        match out.extend_from_slice(&self.track.bytes()[self.start..]) {
+            Ok(()) => Ok(()),
+            Err(_) => Err(BlockFault::NoMemory),
         }
+    }
+
+    // The next block begins, where the judge stands for no bits.
+    fn restart(&mut self)
+        requires judges { JudgesFor self.old.judge [] [] }
+        requires opened { opened self.old.judge ≡ [] }
+        requires answer { self.old.answer ≡ Fed.Going }
+        ensures writes { WritesFor self.new [] }
+        ensures answer { self.new.answer ≡ Fed.Going }
+        ensures form { self.new.form ≡ self.old.form }
+        ensures desc { self.new.desc ≡ self.old.desc }
+        ensures before { self.new.before ≡ self.old.before }
+        ensures seen { self.new.seen ≡ self.old.seen }
+        ensures credit { credit self.new ≡ credit self.old }
+    {
+        self.track.restart(self.start);
     }
 }
 

@@ -1,4 +1,4 @@
-use csn_judge::Verdict;
+use csn_judge::{Judged, Verdict};
 use thiserror::Error;
 
 /// What is known of a block that goes on.
@@ -14,7 +14,7 @@ pub enum Fed {
 
 impl Fed {
     ghost use Rattle.std.specs.Prelude.{◌≡◌};
-    ghost use Rattle.csn_movetext.specs.Blocks.{answer_of, is_going};
+    ghost use Rattle.csn_movetext.specs.Blocks.{answer_of, outcome_of, is_going};
 
     /// Whether neither the bits were refused nor memory was wanting.
     pub(crate) fn is_going(self) -> bool
@@ -31,6 +31,19 @@ impl Fed {
             Verdict::Refused { place } => Fed::Refused { place },
             Verdict::Going if short => Fed::NoMemory,
             Verdict::Going => Fed::Going,
+        }
+    }
+
+    /// What a block comes to behind this answer, by what the judge says of its end, where memory was wanting or not.
+    pub(crate) fn outcome(self, judged: Judged, short: bool) -> Result<(), BlockFault>
+        ensures { result ≡ outcome_of self judged short }
+    {
+        match (self, judged) {
+            (Fed::Refused { place }, _) => Err(BlockFault::Refused { place }),
+            (Fed::NoMemory, _) => Err(BlockFault::NoMemory),
+            (Fed::Going, Judged::Refused { place }) => Err(BlockFault::Refused { place }),
+            (Fed::Going, Judged::Ok) if short => Err(BlockFault::NoMemory),
+            (Fed::Going, Judged::Ok) => Ok(()),
         }
     }
 }

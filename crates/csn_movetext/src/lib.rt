@@ -8,6 +8,8 @@ mod digits;
 mod fault;
 mod form;
 pub mod laws;
+mod line;
+mod octet_text;
 mod openings;
 mod track;
 mod write;
@@ -16,5 +18,9 @@ mod writing;
 pub use block::BlockText;
 pub use fault::{BlockFault, Fed, Unwritten};
 pub use form::TreeForm;
+pub use line::{LineEnd, LineText};
 pub use openings::Openings;
 pub use write::write_block;
+
+#[cfg(test)]
+mod tests;

@@ -47,11 +47,26 @@ impl<'a> TextTrack<'a> {
         }
     }
 
+    /// Nothing of a tree again, behind the first of the bytes.
+    pub fn restart(&mut self, start: usize)
+        ensures { self.new ≡ nothing self.old.openings (take start self.old.kept.text) }
+    {
+        self.writing.restart(start);
+        self.refused = false;
+    }
+
     /// Whether memory was refused.
     pub fn is_refused(&self) -> bool
         ensures { result ≡ self.now.refused }
     {
         self.refused
+    }
+
+    /// The bytes so far.
+    pub fn bytes(&self) -> &[u8]
+        ensures { result.now ≡ self.now.kept.text }
+    {
+        self.writing.out.as_slice()
     }
 
     /// The bytes.

@@ -26,7 +26,7 @@ pub(crate) struct Writing {
 }
 
 impl Writing {
-    ghost use Rattle.std.specs.Prelude.{◌≡◌, ℕ, ◌+◌, ◌*◌, ◌<◌, ◌≤◌, ◌^◌, ◌++◌, List, Option, Some, true, false, codes, length, OnOk};
+    ghost use Rattle.std.specs.Prelude.{◌≡◌, ℕ, ◌+◌, ◌*◌, ◌<◌, ◌≤◌, ◌^◌, ◌++◌, List, Option, Some, true, false, codes, length, take, OnOk};
     ghost use Rattle.csn_bits.specs.Octets.{IsBits};
     ghost use Rattle.csn_bits.specs.Numbers.{low_bits, number_of};
     ghost use Rattle.csn_bits.specs.Line.{written};
@@ -45,6 +45,17 @@ impl Writing {
             held: 0,
             bits: 0,
         }
+    }
+
+    /// Nothing of a tree again, behind the first of the bytes.
+    pub fn restart(&mut self, start: usize)
+        ensures { kept_of self.new ≡ record { text = take start self.old.out.items; left = false; long = false; held = 0; bits = 0 } }
+    {
+        self.out.truncate(start);
+        self.left = false;
+        self.long = false;
+        self.held = 0;
+        self.bits = 0;
     }
 
     /// A node with this opening is entered.

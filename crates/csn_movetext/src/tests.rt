@@ -1,0 +1,122 @@
+ghost use Rattle.std.specs.Prelude.{◌<◌};
+
+use super::*;
+use csn_bits::{LineWhy, MOST_LINE};
+use csn_certify::{Plan, certify};
+use csn_desc::{DescBuilder, Head, Reading, Run, Symbol};
+use std::alloc::Global;
+use std::process::Abort;
+use std::test::Fail;
+
+fn enter(builder: &mut DescBuilder, head: Head) -> bool {
+    builder.takes(&head) && builder.enter(head).is_ok()
+}
+
+fn leave(builder: &mut DescBuilder) -> bool {
+    let may = builder.may_leave();
+    if may {
+        builder.leave();
+    }
+    may
+}
+
+// 0 and any bits behind it
+fn zero_and_rest(alloc: Global) -> Result<Plan, Fail> {
+    let mut builder = DescBuilder::new(alloc, Reading::Received);
+    let mut run = Run::new(alloc);
+    run.push(Symbol::Zero).map_err(|_| "out of memory")?;
+    let built = enter(&mut builder, Head::Seq)
+        && enter(&mut builder, Head::Lits(run))
+        && leave(&mut builder)
+        && enter(&mut builder, Head::Rest)
+        && leave(&mut builder)
+        && leave(&mut builder);
+    if !built || !builder.is_whole() {
+        return Err("not built".into());
+    }
+    let desc = builder.finish().map_err(|_| "no description")?;
+    match certify(alloc, desc) {
+        Ok(plan) => Ok(plan),
+        Err(_fault) => Err(Fail::from("not certified")),
+    }
+}
+
+// what the line comes to that comes in pieces of so many bytes
+fn read(
+    text: &mut LineText<'_>,
+    line: &[u8],
+    size: usize,
+    out: &mut Vec<u8>,
+) -> Result<LineEnd, Fail>
+    requires { 0 < size }
+{
+    for piece in line.chunks(size) {
+        if text.seen() as usize + piece.len() > MOST_LINE as usize {
+            return Err("a long line".into());
+        }
+        text.take(piece);
+    }
+    text.end(out).map_err(|_| "out of memory".into())
+}
+
+// all lines of a table by one value, in pieces of so many bytes
+fn reads<R: Abort>(rt: &R, alloc: Global, text: &mut LineText<'_>, size: usize) -> Result<(), Fail>
+    requires { 0 < size }
+{
+    let place = 0;
+    for (line, want, written) in [
+        (
+            b"25".as_slice(),
+            LineEnd::Text { bits: 8 },
+            b"[. 7'37]".as_slice(),
+        ),
+        (b"20/4", LineEnd::Text { bits: 4 }, b"[. 3'2]"),
+        (b"A5", LineEnd::Refused { place, bits: 8 }, b""),
+        (
+            b"00112233445566778899aabb",
+            LineEnd::Text { bits: 96 },
+            b"[. x0022446688AACCEF11335576/7]",
+        ),
+        (b".", LineEnd::Refused { place, bits: 0 }, b""),
+        (b"00/1", LineEnd::Text { bits: 1 }, b"[. b]"),
+        (
+            b"A5A5A5 A5",
+            LineEnd::Fault(LineWhy::BadDigit { column: 6 }),
+            b"",
+        ),
+        (b"255", LineEnd::Fault(LineWhy::BadLength), b""),
+        (b"2525/4", LineEnd::Fault(LineWhy::BadFill), b""),
+        (b"25", LineEnd::Text { bits: 8 }, b"[. 7'37]"),
+    ] {
+        let mut out = Vec::new(alloc);
+        assert_eq!(rt; read(text, line, size, &mut out)?, want);
+        assert!(rt; out.as_slice() == written);
+    }
+    Ok(())
+}
+
+// lines of so many digits, the second of which spells the longest block
+fn long_lines<R: Abort>(rt: &R, alloc: Global, text: &mut LineText<'_>) -> Result<(), Fail> {
+    for (digits, want) in [
+        (131_074, LineEnd::Fault(LineWhy::TooManyBits)),
+        (131_072, LineEnd::Text { bits: 524_288 }),
+    ] {
+        let line = vec![in alloc; b'0'; digits]?;
+        let mut out = Vec::new(alloc);
+        assert_eq!(rt; read(text, &line, 1000, &mut out)?, want);
+    }
+    Ok(())
+}
+
+#[test]
+fn lines_come_in_pieces(rt: HostRuntime) -> Result<(), Fail> {
+    let plan = zero_and_rest(rt.alloc())?;
+    let Ok(openings) = Openings::new(rt.alloc(), &plan, TreeForm::Text) else {
+        return Err("out of memory".into());
+    };
+    let mut text = LineText::new(rt.alloc(), &plan, &openings);
+    for size in [1000, 1, 3] {
+        reads(&rt, rt.alloc(), &mut text, size)?;
+    }
+    long_lines(&rt, rt.alloc(), &mut text)
+}
