@@ -1,4 +1,5 @@
 mod Captures
+mod Heads
 mod Puts
 mod Rounds
 mod Watching

@@ -2,6 +2,8 @@
 #![tactic(auto)]
 
 mod capture;
+mod head;
+pub mod laws;
 mod output;
 mod seen;
 mod tally;
@@ -11,6 +13,7 @@ mod watcher;
 mod watchers;
 
 pub use capture::{Capture, MOST_LINE, read_capture};
+pub use head::CaptureHead;
 pub use seen::{Go, Kind, Seen};
 pub use telling::{close, tell};
 pub use told::Told;

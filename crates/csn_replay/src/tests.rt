@@ -84,6 +84,46 @@ fn the_first_space_ends_the_word(rt: HostRuntime) {
 }
 
 #[test]
+fn a_head_is_the_same_in_any_pieces(rt: HostRuntime) -> Result<(), Fail> {
+    let alloc = rt.alloc();
+    for (line, text, block) in [
+        ("uplink A5", "Block(Uplink)", "A5"),
+        ("downlink A5", "Block(Downlink)", "A5"),
+        ("si13 2B", "Block(Si13)", "2B"),
+        ("ia  2B", "Block(Ia)", " 2B"),
+        ("ia ", "Block(Ia)", ""),
+        ("ia", "Word([105, 97])", ""),
+        ("", "Word([])", ""),
+        (" A5", "Missing", ""),
+        (
+            "uplinkA5",
+            "Word([117, 112, 108, 105, 110, 107, 65, 53])",
+            "",
+        ),
+        ("uplinkA5 A5", "Missing", ""),
+        ("Uplink A5", "Missing", ""),
+        ("downlinks A5", "Missing", ""),
+        ("downlinks", "Missing", ""),
+    ] {
+        for most in [1, 3, 16] {
+            let mut head = CaptureHead::new();
+            let mut left = Vec::new(alloc);
+            for piece in line.as_bytes().chunks(most) {
+                let taken = head.take(piece);
+                left.extend_from_slice(&piece[taken..])?;
+            }
+            assert_eq!(rt;
+                format!(in alloc; "{head:?}")?.as_str(),
+                text,
+                "{line} by {most}"
+            );
+            assert_eq!(rt; left.as_slice(), block.as_bytes(), "{line} by {most}");
+        }
+    }
+    Ok(())
+}
+
+#[test]
 fn watchers_report_when_they_are_done(rt: HostRuntime) -> Result<(), Fail> {
     let alloc = rt.alloc();
     let mut out = MemSink::new(alloc, 4096, Vec::new(alloc));

@@ -1,0 +1,39 @@
+use Rattle.std.proofs.Common.{◌≡◌, ◌<◌, ◌≤◌, ◌+◌, ◌∷◌, ◌++◌, length, take, drop, sym, ap, subst, ◌∙◌, arith, rules}
+use Rattle.std.proofs.lemmas.List.{append_assoc, length-append}
+use Rattle.csn_catalogue.specs.Entries.{entry_word}
+use Rattle.csn_replay.specs.Capture.{IsCapture, space}
+use Rattle.csn_replay.proofs.Heads.{word_short, still_clear, space_missing, split_line, other_word}
+use Rattle.csn_replay.proofs.head.CaptureHead.take.Goals as goal
+
+pub returns-in-Missing-clause-head : goal.returns-in-Missing-clause-head
+returns-in-Missing-clause-head c line head =
+    rw (c.in-Missing.is) (λ more entry at is.
+    (rw (c.in-Missing.is) at head) (c.args.bytes.now ++ more) entry at (subst (λ text. IsCapture text entry at) (append_assoc line c.args.bytes.now more) is))
+
+pub returns-then-is_err-clause-head : goal.returns-then-is_err-clause-head
+returns-then-is_err-clause-head c line head more entry at =
+    let word = rw (c.in-Word.is) at head in
+    let full : length c.in-Word.word.items + length c.args.bytes.now ≤ 8 → ⊥ = λ fits. (let took = c.try_extend_from_slice.ensures.variant.1 fits in search rules) in
+    let longer : length (entry_word entry) < length (line ++ c.args.bytes.now) =
+    omega (arith, full, word_short entry, ap length word.0, length-append line c.args.bytes.now) in
+    space_missing (line ++ c.args.bytes.now) more entry at (still_clear line c.args.bytes.now word.1 c.in_default.ensures) longer
+
+pub returns-else-is_err-clause-head : goal.returns-else-is_err-clause-head
+returns-else-is_err-clause-head c line head =
+    let word = rw (c.in-Word.is) at head in
+    let kept : c.try_extend_from_slice.new.self.items ≡ c.in-Word.word.items ++ c.args.bytes.now = search rules in
+    (ap (λ text. text ++ c.args.bytes.now) word.0 ∙ sym kept, still_clear line c.args.bytes.now word.1 c.in_default.ensures)
+
+pub returns-in-Some-entry_of_parts-clause-head : goal.returns-in-Some-entry_of_parts-clause-head
+returns-in-Some-entry_of_parts-clause-head c line head =
+    let word = rw (c.in-Word.is) at head in
+    let behind = drop (c.in-Some.word_end + 1) c.args.bytes.now in
+    let before : line ++ take c.in-Some.word_end c.args.bytes.now ≡ entry_word c.in-Some-entry_of_parts.entry =
+    ap (λ text. text ++ take c.in-Some.word_end c.args.bytes.now) word.0 ∙ c.in-Some-entry_of_parts.ensures.its_word in
+    (behind, split_line line c.args.bytes.now c.in-Some.word_end c.in-Some.ensures.0.high c.in-Some.ensures.1 ∙ ap (λ text. text ++ space ∷ behind) before)
+
+pub returns-in-None-clause-head : goal.returns-in-None-clause-head
+returns-in-None-clause-head c line head more entry at =
+    let word = rw (c.in-Word.is) at head in
+    other_word line c.args.bytes.now more c.in-Some.word_end entry at word.1 c.in-Some.ensures.0 c.in-Some.ensures.1 (λ same.
+    let found = c.in-None.ensures.of_each_word entry (ap (λ text. text ++ take c.in-Some.word_end c.args.bytes.now) (sym word.0) ∙ same) in cc)
