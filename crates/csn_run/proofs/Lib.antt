@@ -11,6 +11,7 @@ pub mod LinesLemmas
 pub mod OutsideLemmas
 pub mod ProgressLemmas
 pub mod Prompt
+pub mod ReadingLemmas
 pub mod ResultLemmas
 pub mod ShowLemmas
 pub mod StandingLemmas

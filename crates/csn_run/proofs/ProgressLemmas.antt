@@ -10,7 +10,7 @@ use Rattle.csn_io.specs.Put.{Appended}
 use Rattle.csn_run.specs.declared.lines.TheConstants.{MOST_INPUT}
 use Rattle.csn_run.proofs.OutsideLemmas.{Appended-nil, Gave-nil}
 use Rattle.csn_run.specs.Lines.{between_feeds, HasNoFeed, without_return, answered, text_of, is_refusal}
-use Rattle.csn_run.specs.Progress.{AllSteps, AddsAnswers, Advances, Halts, HaltsAt}
+use Rattle.csn_run.specs.Progress.{AllSteps, AddsAnswers, Advances, Halts, HaltsAt, PassesOn}
 use Rattle.csn_run.proofs.LinesLemmas.{between_feeds-append, between_feeds-one, HasNoFeed-append, answered-append}
 
 or_false : (b : Bool) → (b || false) ≡ b
@@ -192,6 +192,29 @@ pass_halts {before = before} Step bytes line old new front rest waits taken take
   halts = subst (λ (l : List ℕ). Halts Step before bytes l new) nothing (halts_from_advances Step bytes line old new refused a);
   sink = sink;
   text_begins = split ∙ ap (λ l. l ++ rest) (sym (append-nil front) ∙ ap (λ l. front ++ l) (sym none));
+}
+
+-- and it took all of them
+pub pass_all : {St : Type 0} {before after : St} (Step : St → List ℕ → List ℕ → St → Type 0) (bytes line old new front rest : List ℕ) (taken taken' : Option (List ℕ)) (refused was_refused is_refused : Bool) → old ≡ [] → Advances Step before bytes line old new after refused → new ≡ front ++ rest → rest ≡ [] → Appended taken taken' front → is_refused ≡ (was_refused || refused) → PassesOn Step before bytes line taken taken' after was_refused is_refused
+pass_all {before = before} {after = after} Step bytes line old new front rest taken taken' refused was_refused is_refused nothing a split none sink refusal =
+    let all : new ≡ front = split ∙ ap (λ l. front ++ l) none ∙ append-nil front in
+    record {
+      text = front;
+      refused = refused;
+      advances = subst (λ (l : List ℕ). Advances Step before bytes line l front after refused) nothing (subst (λ (l : List ℕ). Advances Step before bytes line old l after refused) all a);
+      sink = sink;
+      refused_is = refusal;
+    }
+
+-- a job stopped before the sink took any of them
+pub stop_unpassed : {St : Type 0} {before : St} (Step : St → List ℕ → List ℕ → St → Type 0) (bytes old new : List ℕ) (taken : Option (List ℕ)) → old ≡ [] → Halts Step before bytes old new → HaltsAt Step before bytes taken taken new
+stop_unpassed {before = before} Step bytes old new taken nothing halts = record {
+  text = new;
+  took = [];
+  rest = [];
+  halts = subst (λ (l : List ℕ). Halts Step before bytes l new) nothing halts;
+  sink = Appended-nil taken;
+  text_begins = sym (append-nil new);
 }
 
 -- between two pieces of the input: what the source gave so far, what the sink took, and the line that

@@ -6,6 +6,7 @@ pub mod LineState
 pub mod OutLine
 pub mod Outside
 pub mod Progress
+pub mod Reading
 pub mod Compiled
 pub mod Result
 pub mod Job

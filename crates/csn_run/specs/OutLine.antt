@@ -155,6 +155,12 @@ ShowsBlockBy form d block answer =
     (text : List ℕ) (rules : RulesV) (name : List ℕ) (reading : Reading) → IsCompiled text name reading rules d
     → ShowsBlock form rules name reading block answer
 
+-- a line is answered so for each rule that has the description: its block, which has so many bits, or its fault
+abbrev pub ShowsAs : TreeForm → DescV → List ℕ → List ℕ → Option ℕ → Type 0
+ShowsAs form d line answer (Some bits) =
+    (block : List ℕ) × BlockLine line block × (bits ≡ length block) × ShowsBlockBy form d block answer
+ShowsAs form d line answer None = (fault : BitsFault) × IsLineFault line fault × (answer ≡ fault_text fault)
+
 -- the number of the fault that tells why a block gives no message
 abbrev pub segment_fault : SegmentWhy → ℕ
 segment_fault not_23_octets = 5

@@ -2,7 +2,6 @@
 #![tactic(auto)]
 
 mod answers;
-mod by_plan;
 mod command;
 mod command_line;
 mod comparing;
@@ -22,6 +21,7 @@ mod soaking;
 mod text_plan;
 mod top;
 mod verifying;
+mod whole_lines;
 mod write;
 
 pub use ended::Ended;

@@ -7,6 +7,7 @@ ghost use Rattle.csn_io.specs.Put.{Appended};
 ghost use Rattle.csn_run.specs.declared.lines.TheConstants.{LINE_FEED, MOST_INPUT, PIECE};
 ghost use Rattle.csn_run.specs.Lines.{HasNoFeed, without_return, is_refusal, is_refused};
 ghost use Rattle.csn_run.specs.Outside.{Keeps};
+ghost use Rattle.csn_run.specs.Reading.{AtLine, IsFresh, return_of};
 ghost use Rattle.csn_run.specs.Progress.{AddsAnswers, Advances, Closes, Halts, PassesOn, HaltsAt, AnswersAll, Stops};
 ghost use Rattle.csn_run.specs.LineState.{closing_of};
 ghost use Rattle.csn_run.specs.OutLine.{Works};
@@ -38,7 +39,8 @@ pub enum Answered {
     Refused,
 }
 
-/// A command that answers each line of the input. The answer may depend on the lines before it.
+/// A command that takes each line of the input as it comes, and answers it at its line feed. The answer may depend on the
+/// lines before it.
 pub trait LineCommand {
     ghost use Rattle.csn_run.specs.LineState.{Kept};
     ghost use Rattle.csn_run.specs.OutLine.{LineWork};
@@ -49,17 +51,23 @@ pub trait LineCommand {
     /// What it keeps of the lines so far.
     ghost kept: { Self → Kept };
 
-    /// Writes what a line gives, with its line feed.
-    fn answer(
-        &mut self,
-        alloc: Global,
-        line: &[u8],
-        out: &mut Vec<u8>,
-    ) -> Result<Answered, AllocError>
-        requires some { 0 < length line.now }
-        requires fits { length line.now ≤ MOST_INPUT }
-        ensures ok { IfOk result (λ answered. (text : List ℕ) × (out.new.items ≡ out.old.items ++ text)
-            × Works (work self.old) (kept self.old) line.now text (kept self.new) × (is_refused answered ≡ is_refusal text)) }
+    /// That these are the bytes that it has taken of the open line.
+    ghost reads: { Self → List ℕ → Type 0 };
+
+    /// Takes the next bytes of the line. The carriage return at its end and the line feed are no part of it.
+    fn take(&mut self, bytes: &[u8]) -> Result<(), AllocError>
+        requires { (line : List ℕ) × reads self.old line × (length line + length bytes.now ≤ MOST_INPUT) }
+        ensures reads { OnOk result ((line : List ℕ) → reads self.old line → reads self.new (line ++ bytes.now)) }
+        ensures work { work self.new ≡ work self.old }
+        ensures kept { kept self.new ≡ kept self.old };
+
+    /// Writes what the line gives, with its line feed, and stands at the next line.
+    fn answer(&mut self, alloc: Global, out: &mut Vec<u8>) -> Result<Answered, AllocError>
+        requires { (line : List ℕ) × reads self.old line × (0 < length line) × (length line ≤ MOST_INPUT) }
+        ensures ok { IfOk result (λ answered. (line : List ℕ) → reads self.old line → 0 < length line → (text : List ℕ)
+            × (out.new.items ≡ out.old.items ++ text) × Works (work self.old) (kept self.old) line text (kept self.new)
+            × (is_refused answered ≡ is_refusal text)) }
+        ensures anew { OnOk result (reads self.new []) }
         ensures work { work self.new ≡ work self.old }
         ensures err { OnErr result ((tail : List ℕ) × (out.new.items ≡ out.old.items ++ tail)) };
 
@@ -69,14 +77,14 @@ pub trait LineCommand {
         ensures err { OnErr result ((tail : List ℕ) × (out.new.items ≡ out.old.items ++ tail)) };
 }
 
-/// A line without the carriage return at its end.
-fn strip_return(line: &[u8]) -> &[u8]
-    ensures value { result.now ≡ without_return line.now }
-    ensures fits { length result.now ≤ length line.now }
+/// Bytes without the carriage return at their end, and whether one stood there.
+fn split_return(bytes: &[u8]) -> (&[u8], bool)
+    ensures front { result.0.now ≡ without_return bytes.now }
+    ensures all { bytes.now ≡ result.0.now ++ return_of result.1 }
 {
-    match line {
-        [front @ .., CARRIAGE_RETURN] => front,
-        _ => line,
+    match bytes {
+        [front @ .., CARRIAGE_RETURN] => (front, true),
+        _ => (bytes, false),
     }
 }
 
@@ -89,25 +97,26 @@ fn split_at_feed(bytes: &[u8]) -> Option<(&[u8], &[u8])>
     Some((&bytes[..end], &bytes[end + 1..]))
 }
 
-/// Writes what a line gives, and tells whether the line was refused. An empty line gives nothing.
+/// Writes what the open line gives, of which the command has taken so many bytes, and tells whether the line was refused.
+/// An empty line gives nothing.
 fn answer_line<C: LineCommand>(
     command: &mut C,
     alloc: Global,
-    line: &[u8],
+    given: usize,
     out: &mut Vec<u8>,
 ) -> Result<bool, AllocError>
-    requires { length line.now ≤ MOST_INPUT }
-    ensures ok { IfOk result (AddsAnswers (Works (C.work command.old)) (C.kept command.old) (line.now ∷ [])
-        out.old.items out.new.items (C.kept command.new)) }
+    requires { (held : Bool) × (line : List ℕ) × AtLine (C.reads command.old) given held line × (length line ≤ MOST_INPUT) }
+    ensures ok { IfOk result (λ refused. (held : Bool) (line : List ℕ) → AtLine (C.reads command.old) given held line
+        → AddsAnswers (Works (C.work command.old)) (C.kept command.old) (line ∷ []) out.old.items out.new.items (C.kept command.new) refused) }
+    ensures anew { OnOk result (C.reads command.new []) }
     ensures work { C.work command.new ≡ C.work command.old }
     ensures err { OnErr result (out.new.items ≡ out.old.items) }
 {
-    let line = strip_return(line);
-    if line.len() == 0 {
+    if given == 0 {
         return Ok(false);
     }
     let start = out.len();
-    match command.answer(alloc, line, out) {
+    match command.answer(alloc, out) {
         Ok(Answered::Given) => Ok(false),
         Ok(Answered::Refused) => Ok(true),
         Err(error) => {
@@ -139,8 +148,10 @@ fn take_piece<S: Source>(input: &mut S, buffer: &mut [u8], room: usize) -> Got
 /// What stands between the input and the output of a job over lines.
 #[derive(Drop)]
 pub struct Lines {
-    /// What was taken of the line that has not ended.
-    line: Vec<u8>,
+    /// How many bytes of the line that has not ended the command has taken.
+    given: usize,
+    /// Whether a carriage return waits behind these. It is no part of the line if a line feed comes next.
+    held: bool,
     /// The answers that the sink has not taken.
     pub pending: Vec<u8>,
     /// Whether some line was refused.
@@ -149,31 +160,73 @@ pub struct Lines {
 
 impl Lines {
     pub fn new(alloc: Global) -> Lines
-        ensures line { result.line.items ≡ [] }
+        ensures line { IsFresh result }
         ensures pending { result.pending.items ≡ [] }
         ensures refused { result.refused ≡ false }
     {
         Lines {
-            line: Vec::new(alloc),
+            given: 0,
+            held: false,
             pending: Vec::new(alloc),
             refused: false,
         }
     }
 
-    /// Answers the line that ends here.
+    /// Gives the return that waits to the command, since it does not end the line.
+    fn give_held<C: LineCommand>(&mut self, command: &mut C) -> Result<(), AllocError>
+        requires { (line : List ℕ) × AtLine (C.reads command.old) self.old.given self.old.held line × (length line ≤ MOST_INPUT) }
+        ensures ok { OnOk result ((line : List ℕ) → AtLine (C.reads command.old) self.old.given self.old.held line
+            → C.reads command.new line × (self.new.given ≡ length line)) }
+        ensures work { C.work command.new ≡ C.work command.old }
+        ensures kept { C.kept command.new ≡ C.kept command.old }
+        ensures pending { self.new.pending ≡ self.old.pending }
+        ensures refused { self.new.refused ≡ self.old.refused }
+    {
+        if self.held {
+            command.take(&[CARRIAGE_RETURN])?;
+            self.given += 1;
+        }
+        Ok(())
+    }
+
+    /// Gives bytes of the open line to the command, but for a return at their end, which waits.
+    fn give<C: LineCommand>(&mut self, command: &mut C, bytes: &[u8]) -> Result<(), AllocError>
+        requires at { (line : List ℕ) × AtLine (C.reads command.old) self.old.given self.old.held line
+            × (length line + length bytes.now ≤ MOST_INPUT) }
+        requires unended { HasNoFeed bytes.now }
+        ensures ok { OnOk result ((line : List ℕ) → AtLine (C.reads command.old) self.old.given self.old.held line
+            → AtLine (C.reads command.new) self.new.given self.new.held (line ++ bytes.now)) }
+        ensures work { C.work command.new ≡ C.work command.old }
+        ensures kept { C.kept command.new ≡ C.kept command.old }
+        ensures pending { self.new.pending ≡ self.old.pending }
+        ensures refused { self.new.refused ≡ self.old.refused }
+    {
+        if bytes.len() == 0 {
+            return Ok(());
+        }
+        self.give_held(command)?;
+        let (front, held) = split_return(bytes);
+        command.take(front)?;
+        self.given += front.len();
+        self.held = held;
+        Ok(())
+    }
+
+    /// Answers the line that ends here, and stands at the next one.
     fn end_line<C: LineCommand>(&mut self, command: &mut C, alloc: Global) -> Result<(), AllocError>
-        requires { length self.old.line.items ≤ MOST_INPUT }
-        ensures ok { OnOk result ((refused : Bool)
-            × AddsAnswers (Works (C.work command.old)) (C.kept command.old) (self.old.line.items ∷ [])
+        requires { (line : List ℕ) × AtLine (C.reads command.old) self.old.given self.old.held line × (length line ≤ MOST_INPUT) }
+        ensures ok { OnOk result ((line : List ℕ) → AtLine (C.reads command.old) self.old.given self.old.held line → (refused : Bool)
+            × AddsAnswers (Works (C.work command.old)) (C.kept command.old) (line ∷ [])
             self.old.pending.items self.new.pending.items (C.kept command.new) refused
             × (self.new.refused ≡ (self.old.refused || refused))) }
+        ensures anew { OnOk result (AtLine (C.reads command.new) self.new.given self.new.held []) }
         ensures work { C.work command.new ≡ C.work command.old }
-        ensures line { OnOk result (self.new.line.items ≡ []) }
         ensures err { OnErr result (self.new.pending.items ≡ self.old.pending.items) }
     {
-        let refused = answer_line(command, alloc, &self.line, &mut self.pending)?;
+        let refused = answer_line(command, alloc, self.given, &mut self.pending)?;
         self.refused = self.refused || refused;
-        self.line.clear();
+        self.given = 0;
+        self.held = false;
         Ok(())
     }
 
@@ -183,8 +236,9 @@ impl Lines {
         command: &mut C,
         alloc: Global,
     ) -> Result<(), AllocError>
-        requires { length self.old.line.items ≤ MOST_INPUT }
-        ensures ok { OnOk result (Closes (Works (C.work command.old)) closing_of (C.kept command.old) self.old.line.items
+        requires { (line : List ℕ) × AtLine (C.reads command.old) self.old.given self.old.held line × (length line ≤ MOST_INPUT) }
+        ensures ok { OnOk result ((line : List ℕ) → AtLine (C.reads command.old) self.old.given self.old.held line
+            → Closes (Works (C.work command.old)) closing_of (C.kept command.old) line
             self.old.pending.items self.new.pending.items self.old.refused self.new.refused) }
         ensures err { OnErr result (self.new.pending.items ≡ self.old.pending.items) }
     {
@@ -204,24 +258,25 @@ impl Lines {
         alloc: Global,
         piece: &[u8],
     ) -> Result<(), AllocError>
-        requires fits { length self.old.line.items + length piece.now ≤ MOST_INPUT }
-        requires unended { HasNoFeed self.old.line.items }
-        ensures ok { OnOk result ((refused : Bool)
-            × Advances (Works (C.work command.old)) (C.kept command.old) (self.old.line.items ++ piece.now)
-            self.new.line.items self.old.pending.items self.new.pending.items (C.kept command.new) refused
-            × (self.new.refused ≡ (self.old.refused || refused))) }
+        requires { (line : List ℕ) × AtLine (C.reads command.old) self.old.given self.old.held line
+            × (length line + length piece.now ≤ MOST_INPUT) }
+        ensures ok { OnOk result ((line : List ℕ) → AtLine (C.reads command.old) self.old.given self.old.held line
+            → (line' : List ℕ) × AtLine (C.reads command.new) self.new.given self.new.held line' × (refused : Bool)
+            × Advances (Works (C.work command.old)) (C.kept command.old) (line ++ piece.now)
+            line' self.old.pending.items self.new.pending.items (C.kept command.new) refused
+            × (self.new.refused ≡ (self.old.refused || refused)) × (length line' ≤ length line + length piece.now)) }
         ensures work { OnOk result (C.work command.new ≡ C.work command.old) }
-        ensures fits { OnOk result (length self.new.line.items ≤ length self.old.line.items + length piece.now) }
-        ensures err { OnErr result (Halts (Works (C.work command.old)) (C.kept command.old)
-            (self.old.line.items ++ piece.now) self.old.pending.items self.new.pending.items) }
+        ensures err { OnErr result ((line : List ℕ) → AtLine (C.reads command.old) self.old.given self.old.held line
+            → Halts (Works (C.work command.old)) (C.kept command.old)
+            (line ++ piece.now) self.old.pending.items self.new.pending.items) }
     {
         let mut rest = piece;
         while let Some((front, back)) = split_at_feed(rest) {
-            self.line.extend_from_slice(front)?;
+            self.give(command, front)?;
             self.end_line(command, alloc)?;
             rest = back;
         }
-        self.line.extend_from_slice(rest)?;
+        self.give(command, rest)?;
         Ok(())
     }
 
@@ -233,16 +288,19 @@ impl Lines {
         piece: &[u8],
         out: &mut K,
     ) -> Result<(), Fault>
-        requires fits { length self.old.line.items + length piece.now ≤ MOST_INPUT }
-        requires unended { HasNoFeed self.old.line.items }
+        requires at { (line : List ℕ) × AtLine (C.reads command.old) self.old.given self.old.held line
+            × (length line + length piece.now ≤ MOST_INPUT) }
         requires pending { self.old.pending.items ≡ [] }
-        ensures ok { OnOk result (PassesOn (Works (C.work command.old)) (C.kept command.old) (self.old.line.items ++ piece.now)
-            self.new.line.items (K.taken out.old) (K.taken out.new) (C.kept command.new) self.old.refused self.new.refused) }
+        ensures ok { OnOk result ((line : List ℕ) → AtLine (C.reads command.old) self.old.given self.old.held line
+            → (line' : List ℕ) × AtLine (C.reads command.new) self.new.given self.new.held line'
+            × PassesOn (Works (C.work command.old)) (C.kept command.old) (line ++ piece.now)
+            line' (K.taken out.old) (K.taken out.new) (C.kept command.new) self.old.refused self.new.refused
+            × (length line' ≤ length line + length piece.now)) }
         ensures work { OnOk result (C.work command.new ≡ C.work command.old) }
         ensures pending { OnOk result (self.new.pending.items ≡ []) }
-        ensures fits { OnOk result (length self.new.line.items ≤ length self.old.line.items + length piece.now) }
-        ensures err { OnErr result (HaltsAt (Works (C.work command.old)) (C.kept command.old)
-            (self.old.line.items ++ piece.now) (K.taken out.old) (K.taken out.new) self.new.pending.items) }
+        ensures err { OnErr result ((line : List ℕ) → AtLine (C.reads command.old) self.old.given self.old.held line
+            → HaltsAt (Works (C.work command.old)) (C.kept command.old)
+            (line ++ piece.now) (K.taken out.old) (K.taken out.new) self.new.pending.items) }
         ensures causes { IfErr result (λ fault. (fault ≡ Fault.Write) ⊎ (fault ≡ Fault.Memory)) }
         ensures write { result ≡ Err Fault.Write → Rose (K.faults out.old) (K.faults out.new) }
         ensures out { Keeps (K.steady out.old) (K.steady out.new) (K.faults out.old) (K.faults out.new) (result ≡ Err Fault.Write) }
@@ -263,7 +321,8 @@ impl Lines {
         input: &mut S,
         out: &mut K,
     ) -> Result<(), Fault>
-        requires line { self.old.line.items ≡ [] }
+        requires begin { C.reads command.old [] }
+        requires line { IsFresh self.old }
         requires pending { self.old.pending.items ≡ [] }
         requires refused { self.old.refused ≡ false }
         ensures ok { OnOk result (AnswersAll (Works (C.work command.old)) closing_of (C.kept command.old)

@@ -9,7 +9,8 @@ ghost use Rattle.csn_run.specs.Lines.{is_refusal, is_refused};
 ghost use Rattle.csn_run.specs.OutLine.{MigratesLine, renewing};
 
 use crate::answers::answer_text_fault;
-use crate::lines::{Answered, LINE_FEED, LineCommand};
+use crate::lines::{Answered, LINE_FEED};
+use crate::whole_lines::WholeLineCommand;
 use csn_desc::Tree;
 use csn_treetext::{read_old_tree, write_tree};
 use std::alloc::{AllocError, Global};
@@ -50,7 +51,7 @@ fn migrate_line(alloc: Global, line: &[u8], out: &mut Vec<u8>) -> Result<Answere
 #[derive(Clone, Copy)]
 pub struct Migrate;
 
-impl LineCommand for Migrate {
+impl WholeLineCommand for Migrate {
     ghost work = { λ _. renewing };
 
     ghost kept = { λ _. nothing_kept };

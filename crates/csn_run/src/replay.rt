@@ -5,9 +5,10 @@ ghost use Rattle.csn_run.specs.declared.lines.TheConstants.{MOST_INPUT};
 ghost use Rattle.csn_run.specs.Lines.{is_refusal, is_refused};
 ghost use Rattle.csn_run.specs.OutLine.{CaptureLineBy, entry_place, replaying_by};
 
-use crate::lines::{Answered, LINE_FEED, LineCommand};
+use crate::lines::{Answered, LINE_FEED};
 use crate::show::{answer_fault, show_block};
 use crate::text_plan::TextPlan;
+use crate::whole_lines::WholeLineCommand;
 use csn_bits::Bits;
 use csn_catalogue::Entry;
 use csn_io::MemSink;
@@ -80,7 +81,7 @@ fn capture_line(
     Ok((answered, Some(seen)))
 }
 
-impl LineCommand for Replay<'_> {
+impl WholeLineCommand for Replay<'_> {
     ghost work = { λ s. replaying_by s.plans.now };
 
     ghost kept = { λ s. record { bodies = []; watchers = map (λ b. (Watcher-box b).watched b.value) s.watchers.items } };

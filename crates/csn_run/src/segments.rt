@@ -6,9 +6,10 @@ ghost use Rattle.csn_run.specs.Lines.{is_refusal, is_refused};
 ghost use Rattle.csn_run.specs.OutLine.{AnswersJoinedBy, JoinsLine, joining, segment_fault};
 
 use crate::answers::push_number;
-use crate::lines::{Answered, LINE_FEED, LineCommand};
+use crate::lines::{Answered, LINE_FEED};
 use crate::show::{answer_fault, show_block};
 use crate::text_plan::TextPlan;
+use crate::whole_lines::WholeLineCommand;
 use csn_bits::Bits;
 use csn_movetext::TreeForm;
 use csn_segment::{Joined, Joiner, SegmentWhy};
@@ -97,7 +98,7 @@ fn segments_line(
     answer_joined(alloc, plan, &joined, out)
 }
 
-impl LineCommand for Segments<'_> {
+impl WholeLineCommand for Segments<'_> {
     ghost work = { λ s. joining s.plan.now };
 
     ghost kept = { λ s. record { bodies = s.joiner; watchers = [] } };

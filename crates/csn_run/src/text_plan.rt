@@ -1,12 +1,13 @@
 //! A plan by which blocks are shown as trees, in either form.
 
-ghost use Rattle.std.specs.Prelude.{◌≡◌, ◌<◌, IfOk, IfErr, OnOk, OnErr};
+ghost use Rattle.std.specs.Prelude.{◌≡◌, ◌<◌, [], IfOk, IfErr, OnOk, OnErr};
 ghost use Rattle.csn_movetext.specs.Blocks.{AddsText, IsFaultOf};
+ghost use Rattle.csn_movetext.specs.Lines.{ReadsLine};
 ghost use Rattle.csn_movetext.specs.Openings.{HasOpenings};
 
 use csn_bits::{Bits, NoMemory};
 use csn_certify::{Plan, Steps};
-use csn_movetext::{BlockFault, Openings, TreeForm, write_block};
+use csn_movetext::{BlockFault, LineText, Openings, TreeForm, write_block};
 use std::alloc::Global;
 use std::marker::{Brand, Model};
 use std::sync::ledger::{Blank, Ledger};
@@ -69,6 +70,15 @@ impl TextPlan {
             TreeForm::Text => &self.text,
             TreeForm::Json => &self.json,
         }
+    }
+
+    /// Nothing of a line, of which the block is to be written as a tree in a form.
+    pub fn line_text(&self, alloc: Global, form: TreeForm) -> LineText<'_>
+        ensures reads { ReadsLine result [] }
+        ensures form { result.form ≡ form }
+        ensures desc { result.desc ≡ self.now }
+    {
+        LineText::new(alloc, &self.plan, self.openings(form))
     }
 
     /// Adds the tree that a block has, in a form. Where there is none, nothing is added.

@@ -8,13 +8,13 @@ ghost use Rattle.csn_run.specs.declared.lines.TheConstants.{LINE_FEED, MOST_INPU
 ghost use Rattle.csn_replay.specs.Watched.{Watched};
 ghost use Rattle.csn_run.specs.Command.{IsCommand, IsReplay, IsRowOf, IsSegments, NamesFile, NamesFiles, ReadsLines};
 ghost use Rattle.csn_run.specs.Progress.{AnswersAll, Stops};
-ghost use Rattle.csn_run.specs.LineState.{closing_of};
-ghost use Rattle.csn_run.specs.OutLine.{Works};
+ghost use Rattle.csn_run.specs.Reading.{IsFresh};
+ghost use Rattle.csn_run.specs.LineState.{closing_of, nothing_kept};
+ghost use Rattle.csn_run.specs.OutLine.{Works, by_plan};
 ghost use Rattle.csn_run.specs.Outside.{CannotRead, Keeps, LeftByFetch, LeftByFetches};
 ghost use Rattle.csn_run.specs.Job.{Asked, ComesTo, JobEnds, end_with};
 ghost use Rattle.csn_run.specs.Result.{AnswersPromptly, BeginsResult, EndsBefore, IsFinished, IsStopped, LineJob, OldBlocksStay, Result, RulesHaveOneTree, StopsReading, end_of};
 
-use crate::by_plan::ByPlan;
 use crate::command::{Command, RuleCommand, RuleReport, RuleWords, command_of};
 use crate::command_line::read_words;
 use crate::comparing::compare_files;
@@ -28,8 +28,12 @@ use crate::planned::{Unplanned, plan_of, plan_of_entry, plans_of_entries, refuse
 use crate::replay::Replay;
 use crate::reporting::report_plan;
 use crate::segments::Segments;
+use crate::show::ShowLines;
 use crate::soaking::soak_entry;
+use crate::text_plan::TextPlan;
 use crate::verifying::verify_file;
+use crate::whole_lines::WholeLines;
+use crate::write::WriteLines;
 use csn_catalogue::Entry;
 use csn_desc::Reading;
 use csn_io::{Shelf, Sink, Source};
@@ -45,7 +49,8 @@ fn answer_lines<C: LineCommand, S: Source, K: Sink>(
     out: &mut K,
     lines: &mut Lines,
 ) -> Result<Ended, Fault>
-    requires line { lines.old.line.items ≡ [] }
+    requires begin { C.reads command.old [] }
+    requires line { IsFresh lines.old }
     requires pending { lines.old.pending.items ≡ [] }
     requires refused { lines.old.refused ≡ false }
     ensures ok { IfOk result (λ ended. AnswersAll (Works (C.work command.old)) closing_of (C.kept command.old)
@@ -91,6 +96,40 @@ fn report<B: Shelf>(
     report_plan(alloc, report, plan, pending)
 }
 
+/// Answers each line of the input by the plan of a rule.
+fn answer_by_plan<S: Source, K: Sink>(
+    alloc: Global,
+    command: RuleCommand,
+    plan: &TextPlan,
+    input: &mut S,
+    out: &mut K,
+    lines: &mut Lines,
+) -> Result<Ended, Fault>
+    requires line { IsFresh lines.old }
+    requires pending { lines.old.pending.items ≡ [] }
+    requires refused { lines.old.refused ≡ false }
+    ensures ok { IfOk result (λ ended. AnswersAll (Works (by_plan command plan.now)) closing_of nothing_kept
+        (S.left input.old) (S.left input.new) (K.taken out.old) (K.taken out.new) lines.new.pending.items lines.new.refused × (ended ≡ end_of lines.new.refused)) }
+    ensures err { IfErr result (λ fault. Stops (Works (by_plan command plan.now)) nothing_kept fault
+        (S.left input.old) (S.left input.new) (K.taken out.old) (K.taken out.new) lines.new.pending.items) }
+    ensures read { result ≡ Err Fault.Read → Rose (S.faults input.old) (S.faults input.new) }
+    ensures write { result ≡ Err Fault.Write → Rose (K.faults out.old) (K.faults out.new) }
+    ensures input { Keeps (S.steady input.old) (S.steady input.new) (S.faults input.old) (S.faults input.new) (result ≡ Err Fault.Read) }
+    ensures out { Keeps (K.steady out.old) (K.steady out.new) (K.faults out.old) (K.faults out.new) (result ≡ Err Fault.Write) }
+{
+    match command {
+        RuleCommand::Show(form) => {
+            let mut command = ShowLines::new(alloc, plan, form);
+            answer_lines(alloc, &mut command, input, out, lines)
+        }
+        RuleCommand::Write(form) => {
+            let plan = plan.plan();
+            let mut command = WholeLines::new(alloc, WriteLines { form, plan });
+            answer_lines(alloc, &mut command, input, out, lines)
+        }
+    }
+}
+
 /// Answers each line of the input by the rule of a file.
 fn answer_by_rule<B: Shelf, S: Source, K: Sink>(
     alloc: Global,
@@ -101,7 +140,7 @@ fn answer_by_rule<B: Shelf, S: Source, K: Sink>(
     out: &mut K,
     lines: &mut Lines,
 ) -> Result<Ended, Fault>
-    requires line { lines.old.line.items ≡ [] }
+    requires line { IsFresh lines.old }
     requires pending { lines.old.pending.items ≡ [] }
     requires refused { lines.old.refused ≡ false }
     ensures ends { (words : List (List ℕ)) (watchers : List Watched) → IsRowOf words (Command.Answer command rule.entry)
@@ -124,11 +163,7 @@ fn answer_by_rule<B: Shelf, S: Source, K: Sink>(
         Ok(plan) => plan,
         Err(why) => return refuse(why, &mut lines.pending),
     };
-    let mut command = ByPlan {
-        command,
-        plan: &plan,
-    };
-    answer_lines(alloc, &mut command, input, out, lines)
+    answer_by_plan(alloc, command, &plan, input, out, lines)
 }
 
 /// Joins the blocks in the input to control messages of the downlink, and answers each line by these.
@@ -139,7 +174,7 @@ fn answer_segments<S: Source, K: Sink>(
     out: &mut K,
     lines: &mut Lines,
 ) -> Result<Ended, Fault>
-    requires line { lines.old.line.items ≡ [] }
+    requires line { IsFresh lines.old }
     requires pending { lines.old.pending.items ≡ [] }
     requires refused { lines.old.refused ≡ false }
     ensures ends { (words : List (List ℕ)) (files : Option (List ℕ → Option (List ℕ))) (watchers : List Watched)
@@ -157,10 +192,11 @@ fn answer_segments<S: Source, K: Sink>(
         Ok(plan) => plan,
         Err(reason) => return refuse(Unplanned::Text(reason), &mut lines.pending),
     };
-    let mut command = Segments {
+    let segments = Segments {
         joiner: Joiner::new(),
         plan: &plan,
     };
+    let mut command = WholeLines::new(alloc, segments);
     answer_lines(alloc, &mut command, input, out, lines)
 }
 
@@ -173,7 +209,7 @@ fn answer_replay<S: Source, K: Sink>(
     out: &mut K,
     lines: &mut Lines,
 ) -> Result<Ended, Fault>
-    requires line { lines.old.line.items ≡ [] }
+    requires line { IsFresh lines.old }
     requires pending { lines.old.pending.items ≡ [] }
     requires refused { lines.old.refused ≡ false }
     ensures ends { (words : List (List ℕ)) (files : Option (List ℕ → Option (List ℕ))) → IsReplay words reading
@@ -191,10 +227,11 @@ fn answer_replay<S: Source, K: Sink>(
         Ok(plans) => plans,
         Err(reason) => return refuse(Unplanned::Text(reason), &mut lines.pending),
     };
-    let mut command = Replay {
+    let replay = Replay {
         plans: &plans,
         watchers,
     };
+    let mut command = WholeLines::new(alloc, replay);
     answer_lines(alloc, &mut command, input, out, lines)
 }
 
@@ -208,7 +245,7 @@ fn perform<B: Shelf, S: Source, K: Sink>(
     lines: &mut Lines,
     watchers: Vec<Box<dyn Watcher>>,
 ) -> Result<Ended, Fault>
-    requires line { lines.old.line.items ≡ [] }
+    requires line { IsFresh lines.old }
     requires pending { lines.old.pending.items ≡ [] }
     requires refused { lines.old.refused ≡ false }
     requires row { (words : List (List ℕ)) × IsRowOf words command }
@@ -238,7 +275,10 @@ fn perform<B: Shelf, S: Source, K: Sink>(
         Command::Answer(command, rule) => {
             answer_by_rule(alloc, command, rule, shelf, input, out, lines)
         }
-        Command::Migrate => answer_lines(alloc, &mut Migrate, input, out, lines),
+        Command::Migrate => {
+            let mut command = WholeLines::new(alloc, Migrate);
+            answer_lines(alloc, &mut command, input, out, lines)
+        }
         Command::Segments(reading) => answer_segments(alloc, reading, input, out, lines),
         Command::Replay(reading) => answer_replay(alloc, reading, watchers, input, out, lines),
         Command::Soak(entry, blocks) => soak_entry(alloc, entry, blocks, &mut lines.pending),

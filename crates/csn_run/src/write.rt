@@ -1,4 +1,4 @@
-//! One line of `write` or `unjson`: a tree in, its block or its first misfit out.
+//! Lines of `write` and `unjson`: a tree in, its block or its first misfit out.
 
 ghost use Rattle.std.specs.Prelude.{◌≡◌, ◌<◌, ◌≤◌, ◌++◌, ◌∷◌, [], List, ℕ, codes, length, IfOk, IfErr, OnOk, OnErr};
 ghost use Rattle.csn_bits.specs.Line.{written};
@@ -7,12 +7,14 @@ ghost use Rattle.csn_encode.specs.Encoding.{IsBlockOf, IsFaultOf};
 ghost use Rattle.csn_run.specs.declared.command.RuleCommand.{RuleCommand};
 ghost use Rattle.csn_run.specs.declared.lines.TheConstants.{MOST_INPUT};
 ghost use Rattle.csn_run.specs.Compiled.{line_of};
+ghost use Rattle.csn_run.specs.LineState.{nothing_kept};
 ghost use Rattle.csn_run.specs.Lines.{is_refusal, is_refused};
-ghost use Rattle.csn_run.specs.OutLine.{AnswersBy, Reads, TellsJsonFault, misfit_text, path_text, why_text};
+ghost use Rattle.csn_run.specs.OutLine.{AnswersBy, Reads, TellsJsonFault, by_plan, misfit_text, path_text, why_text};
 
 use crate::answers::{answer_text_fault, push_number, push_numbers};
 use crate::laws::known;
-use crate::lines::Answered;
+use crate::lines::{Answered, LINE_FEED};
+use crate::whole_lines::WholeLineCommand;
 use csn_bits::Bits;
 use csn_certify::{Plan, Steps};
 use csn_desc::Tree;
@@ -156,7 +158,7 @@ fn tree_of_line(
 }
 
 /// Answers a line by the block of its tree, which it is in a form.
-pub fn write_line(
+fn write_line(
     alloc: Global,
     plan: &Plan,
     form: TreeForm,
@@ -181,5 +183,34 @@ pub fn write_line(
             answer_no_block(fault, out)?;
             Ok(Answered::Refused)
         }
+    }
+}
+
+/// The commands `write` and `unjson`, by the plan of a rule.
+#[derive(Drop)]
+pub struct WriteLines<'a> {
+    pub form: TreeForm,
+    pub plan: &'a Plan,
+}
+
+impl WholeLineCommand for WriteLines<'_> {
+    // A line is answered for each rule that has the description.
+    ghost work = { λ s. by_plan (RuleCommand.Write s.form) s.plan.now };
+
+    ghost kept = { λ _. nothing_kept };
+
+    fn answer(
+        &mut self,
+        alloc: Global,
+        line: &[u8],
+        out: &mut Vec<u8>,
+    ) -> Result<Answered, AllocError> {
+        let answered = write_line(alloc, self.plan, self.form, line, out)?;
+        out.push(LINE_FEED)?;
+        Ok(answered)
+    }
+
+    fn close(&mut self, _alloc: Global, _out: &mut Vec<u8>) -> Result<(), AllocError> {
+        Ok(())
     }
 }

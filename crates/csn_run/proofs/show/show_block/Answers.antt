@@ -1,9 +1,9 @@
 use Rattle.std.proofs.Common.{◌≡◌, ◌++◌, ◌∙◌, codes, length, refl, ap, subst, append_assoc, arith}
 use Rattle.csn_movetext.specs.declared.fault.BlockFault.{BlockFault}
 use Rattle.csn_movetext.specs.Blocks.{IsFaultOf}
-use Rattle.csn_run.specs.OutLine.{refusal_text, shows_tree, shows_place}
+use Rattle.csn_run.specs.OutLine.{refusal_text}
 use Rattle.csn_run.proofs.AnswerLemmas.{cut_back}
-use Rattle.csn_run.proofs.ShownLines.{string_of, meant_by, place_of}
+use Rattle.csn_run.proofs.ShowLemmas.{place_shown, text_shown}
 use Rattle.csn_run.proofs.show.show_block.Goals as goal
 
 pub returns-in-Ok-clause-ok : goal.returns-in-Ok-clause-ok
@@ -11,7 +11,7 @@ returns-in-Ok-clause-ok c =
     let added = c.in-Ok.ensures.text in (
       codes "ok " ++ added.0,
       added.1 ∙ ap (λ l. l ++ added.0) c.in_ok-extend_from_slice.ensures.items ∙ append_assoc _ (codes "ok ") added.0,
-      λ file rules name reading is. shows_tree added.2.tree added.0 (string_of c.known.ensures file rules name reading _ is _ _ added.2.means) added.2.spelled refl,
+      text_shown c.known.ensures c.args.form c.args.plan.now c.args.bits.now added.0 added.2,
       refl,
     )
 
@@ -25,6 +25,6 @@ returns-in_ok-answer_no_tree-in-Err-clause-ok c =
     let refusal = subst P told.1 c.in-Err.ensures.why in (
       refusal_text told.0 c.args.bits.now,
       told.2 ∙ ap (λ l. l ++ refusal_text told.0 c.args.bits.now) same,
-      λ file rules name reading is. shows_place told.0 (λ t string. refusal.no_tree t (meant_by c.known.ensures file rules name reading _ is _ t string)) (place_of c.known.ensures file rules name reading _ is _ _ refusal.place_is) refl,
+      place_shown c.known.ensures c.args.form c.args.plan.now c.args.bits.now told.0 refusal,
       refl,
     )

@@ -12,7 +12,7 @@ returns-in-Err-clause-ends g c = λ words watchers row. refused_ends words c.arg
 pub returns-clause-ends : goal.returns-clause-ends
 returns-clause-ends g c = λ words watchers row.
     let is = c.in-Ok.ensures.plan in
-    lines_end Watches (Works (by_plan c.args.command c.in-Ok.plan)) nothing_kept words _ watchers (by_rule c.args.command is.rules c.args.rule.name.now c.args.rule.reading) _ _ _ _ _ _ _ (asked_by_rule words _ watchers c.args.command c.args.rule c.in-Ok.plan row is) (alone_follows _ _ (λ line answer h. h is.text is.rules _ _ is.compiled)) watches_close refl c.answer_lines.ensures.ok c.answer_lines.ensures.err
+    lines_end Watches (Works (by_plan c.args.command c.in-Ok.plan)) nothing_kept words _ watchers (by_rule c.args.command is.rules c.args.rule.name.now c.args.rule.reading) _ _ _ _ _ _ _ (asked_by_rule words _ watchers c.args.command c.args.rule c.in-Ok.plan row is) (alone_follows _ _ (λ line answer h. h is.text is.rules _ _ is.compiled)) watches_close refl c.answer_by_plan.ensures.ok c.answer_by_plan.ensures.err
 
 pub returns-clause-touches : goal.returns-clause-touches
 returns-clause-touches g c = λ words watchers row. inr (by_rule c.args.command c.in-Ok.ensures.plan.rules c.args.rule.name.now c.args.rule.reading, asked_by_rule words _ watchers c.args.command c.args.rule c.in-Ok.plan row c.in-Ok.ensures.plan)

@@ -13,7 +13,9 @@ returns-in-Err-clause-ends g c = λ words files watchers row.
 pub returns-clause-ends : goal.returns-clause-ends
 returns-clause-ends g c = λ words files watchers row.
     let is = c.in-Ok.ensures.plan in
-    lines_end KeepsBodies (Works (joining c.in-Ok.plan)) _ words files watchers (segmenting is.0 c.args.reading) _ _ _ _ _ _ _ (asked_segments words files watchers c.args.reading is.0 c.in-Ok.plan row c.plan_of_entry.ensures.fits is.1) (joins_follow c.in-Ok.plan _ is.0 c.args.reading is.1) keeps_close (record { joins = c.new.ensures; watches = refl }) c.answer_lines.ensures.ok c.answer_lines.ensures.err
+    let ended = rw c.new-command.ensures.command at c.answer_lines.ensures.ok in
+    let stopped = rw c.new-command.ensures.command at c.answer_lines.ensures.err in
+    lines_end KeepsBodies (Works (joining c.in-Ok.plan)) _ words files watchers (segmenting is.0 c.args.reading) _ _ _ _ _ _ _ (asked_segments words files watchers c.args.reading is.0 c.in-Ok.plan row c.plan_of_entry.ensures.fits is.1) (joins_follow c.in-Ok.plan _ is.0 c.args.reading is.1) keeps_close (record { joins = c.new.ensures; watches = refl }) ended stopped
 
 pub returns-clause-touches : goal.returns-clause-touches
 returns-clause-touches g c = λ words files watchers row. inr (segmenting c.in-Ok.ensures.plan.0 c.args.reading, asked_segments words files watchers c.args.reading c.in-Ok.ensures.plan.0 c.in-Ok.plan row c.plan_of_entry.ensures.fits c.in-Ok.ensures.plan.1)

@@ -1,7 +1,7 @@
 use Rattle.std.proofs.Common.{◌∷◌, ◌++◌, [], Some, None, append_assoc, ap, refl, sym, ◌∙◌}
 use Rattle.csn_run.proofs.ProgressLemmas.{refusal_with_feed}
 use Rattle.csn_run.proofs.ReplayedLines.{reported}
-use Rattle.csn_run.proofs.replay.ReplayLineCommand.answer.Goals as goal
+use Rattle.csn_run.proofs.replay.ReplayWholeLineCommand.answer.Goals as goal
 
 pub returns-in_default-clause-ok : goal.returns-in_default-clause-ok
 returns-in_default-clause-ok g c =

@@ -1,6 +1,6 @@
 use Rattle.std.proofs.Common.{◌∷◌, ◌++◌, [], append_assoc, ap, refl, sym, ◌∙◌}
 use Rattle.csn_run.proofs.ProgressLemmas.{refusal_with_feed}
-use Rattle.csn_run.proofs.segments.SegmentsLineCommand.answer.Goals as goal
+use Rattle.csn_run.proofs.segments.SegmentsWholeLineCommand.answer.Goals as goal
 
 pub returns-clause-ok : goal.returns-clause-ok
 returns-clause-ok c =

@@ -1,0 +1,23 @@
+-- How far a command has taken the open line. (Words of private parts; no public contract cites them.)
+use Rattle.std.specs.Prelude.{◌≡◌, ℕ, Bool, true, false, List, [], ◌∷◌, ◌++◌, length}
+use Rattle.csn_run.specs.declared.lines.Lines.{Lines}
+use Rattle.csn_run.specs.declared.lines.TheConstants.{CARRIAGE_RETURN}
+use Rattle.csn_run.specs.Lines.{HasNoFeed, without_return}
+
+-- the carriage return that waits, where one does
+abbrev pub return_of : Bool → List ℕ
+return_of true = CARRIAGE_RETURN ∷ []
+return_of false = []
+
+-- a command has taken the open line, but for a return at its end, which waits for the next byte
+pub record AtLine (reads : List ℕ → Type 0) (given : ℕ) (held : Bool) (line : List ℕ) : Type 0 where
+  pub front : List ℕ
+  pub stands : reads front
+  pub count : given ≡ length front
+  pub line_is : line ≡ front ++ return_of held
+  pub bare : without_return line ≡ front
+  pub unended : HasNoFeed line
+
+-- no byte of a line has come
+abbrev pub IsFresh : Lines → Type 0
+IsFresh lines = (lines.given ≡ 0) × (lines.held ≡ false)
