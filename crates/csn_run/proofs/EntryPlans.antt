@@ -18,7 +18,7 @@ use Rattle.csn_run.proofs.OneResult.{all_have_jobs}
 use Rattle.csn_run.proofs.ReplayedLines.{compiled_more}
 
 -- what was pushed where there was no error
-pub pushed : {A B : Type 0} (r : Result A B) (new more same : List DescV) → new ≡ (if is_ok r then more else same) → is_err r ≡ false → new ≡ more
+pub pushed : {A B X : Type 0} (r : Result A B) (new more same : List X) → new ≡ (if is_ok r then more else same) → is_err r ≡ false → new ≡ more
 pushed (Ok x) new more same is e = is
 pushed (Err x) new more same is e = absurd (let clash : true ≡ false = e in cc)
 

@@ -1,6 +1,7 @@
 pub mod AnswerLemmas
 pub mod Arguments
 pub mod Captures
+pub mod CaptureLemmas
 pub mod CommandLemmas
 pub mod FormLemmas
 pub mod FormsAgree

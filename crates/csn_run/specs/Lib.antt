@@ -7,6 +7,7 @@ pub mod OutLine
 pub mod Outside
 pub mod Progress
 pub mod Reading
+pub mod Replaying
 pub mod Compiled
 pub mod Result
 pub mod Job

@@ -2,6 +2,7 @@
 #![tactic(auto)]
 
 mod answers;
+mod capture_text;
 mod command;
 mod command_line;
 mod comparing;

@@ -15,6 +15,7 @@ ghost use Rattle.csn_run.specs.Outside.{CannotRead, Keeps, LeftByFetch, LeftByFe
 ghost use Rattle.csn_run.specs.Job.{Asked, ComesTo, JobEnds, end_with};
 ghost use Rattle.csn_run.specs.Result.{AnswersPromptly, BeginsResult, EndsBefore, IsFinished, IsStopped, LineJob, OldBlocksStay, Result, RulesHaveOneTree, StopsReading, end_of};
 
+use crate::capture_text::CaptureText;
 use crate::command::{Command, RuleCommand, RuleReport, RuleWords, command_of};
 use crate::command_line::read_words;
 use crate::comparing::compare_files;
@@ -227,11 +228,10 @@ fn answer_replay<S: Source, K: Sink>(
         Ok(plans) => plans,
         Err(reason) => return refuse(Unplanned::Text(reason), &mut lines.pending),
     };
-    let replay = Replay {
-        plans: &plans,
-        watchers,
+    let Ok(text) = CaptureText::new(alloc, &plans) else {
+        return Err(Fault::Memory);
     };
-    let mut command = WholeLines::new(alloc, replay);
+    let mut command = Replay { text, watchers };
     answer_lines(alloc, &mut command, input, out, lines)
 }
 

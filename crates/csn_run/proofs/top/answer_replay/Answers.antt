@@ -21,8 +21,8 @@ returns-clause-ends g c = λ words files row.
     let are = subst (λ l. AreCompiled is.0 c.args.reading all_entries l) (sym c.deref.ensures.value) is.1 in
     let watched = map (λ b. (goal.Watcher-dyn g (b.vtable, b.value)).watched b.value) c.args.watchers.items in
     let kept : Kept = record { bodies = []; watchers = watched } in
-    let ended = rw c.new-command.ensures.command at c.answer_lines.ensures.ok in
-    let stopped = rw c.new-command.ensures.command at c.answer_lines.ensures.err in
+    let ended = rw c.in-Ok-new.ensures.descs at c.answer_lines.ensures.ok in
+    let stopped = rw c.in-Ok-new.ensures.descs at c.answer_lines.ensures.err in
     lines_end Watches (Works (replaying_by plans)) kept words files watched (replaying is.0 c.args.reading watched) _ _ _ _ _ _ _ (asked_replay words files watched c.args.reading is.0 plans row c.plans_of_entries.ensures.fits are) (replays_follow plans is.0 c.args.reading are) watches_close refl ended stopped
 
 pub returns-clause-touches : goal.returns-clause-touches
