@@ -50,6 +50,3 @@ pub fn certify(alloc: Global, desc: Desc) -> Result<Plan, CertifyFault>
         }
     }
 }
-
-#[cfg(test)]
-mod tests;

@@ -18,9 +18,6 @@ use csn_look::{Look, MOST_WORD, Reach, Word};
 use std::marker::Model;
 use std::sync::ledger::Ledger;
 
-#[cfg(test)]
-mod tests;
-
 /// A certified description, by which blocks are read. A contract sees the description; nodes are told by
 /// counted calls alone.
 #[derive(Drop)]

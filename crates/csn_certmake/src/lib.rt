@@ -10,6 +10,3 @@ mod pattern_table;
 mod row;
 
 pub use make::make_certificate;
-
-#[cfg(test)]
-mod tests;

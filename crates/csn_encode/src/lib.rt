@@ -11,8 +11,6 @@ mod numbers;
 mod packed;
 mod path;
 mod symbols;
-#[cfg(test)]
-mod tests;
 mod write;
 
 pub use encoding::encode;

@@ -15,8 +15,6 @@ mod key_tables;
 mod known;
 pub mod laws;
 mod look;
-#[cfg(test)]
-mod look_tests;
 mod marks;
 mod node_sets;
 mod octet_set;
@@ -25,8 +23,6 @@ mod sizes;
 mod starts;
 mod symbol_set;
 mod table_maker;
-#[cfg(test)]
-mod tests;
 mod word;
 
 pub use follow::Follow;

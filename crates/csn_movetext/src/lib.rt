@@ -21,6 +21,3 @@ pub use form::TreeForm;
 pub use line::{LineEnd, LineText};
 pub use openings::Openings;
 pub use write::write_block;
-
-#[cfg(test)]
-mod tests;

@@ -18,8 +18,6 @@ mod resolving;
 mod shown;
 mod steps;
 mod tail;
-#[cfg(test)]
-mod tests;
 mod walk;
 mod walker;
 mod why;

@@ -23,6 +23,3 @@ pub use fault::TextFault;
 pub use read::{read_old_tree, read_tree};
 pub use version::Version;
 pub use write::write_tree;
-
-#[cfg(test)]
-mod tests;

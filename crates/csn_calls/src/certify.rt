@@ -1,6 +1,7 @@
-use super::*;
-use csn_desc::{Count, DescBuilder, Head, Label, Reading, Run, Symbol};
-use csn_look::Word;
+use crate::building::{bits, enter, finished, labelled, leaf, leave, literal, word_of};
+use csn_certify::{CertifyFault, Conflict, certify};
+use csn_desc::{Desc, DescBuilder, Head, Reading, Symbol};
+use std::alloc::Global;
 use std::test::Fail;
 
 /// What comes next in a description: a node that has parts, a part, or the end of a node's parts.
@@ -26,49 +27,14 @@ const ONE: Step = Step::Literal(0, Symbol::One);
 
 const LOW: Step = Step::Literal(0, Symbol::Low);
 
-fn enter(builder: &mut DescBuilder, head: Head) -> Result<(), Fail> {
-    if !builder.takes(&head) {
-        return Err(Fail::from("no node is taken there"));
-    }
-    builder.enter(head).map_err(|_| "no node")?;
-    Ok(())
-}
-
-fn end(builder: &mut DescBuilder) -> Result<(), Fail> {
-    if !builder.may_leave() {
-        return Err(Fail::from("a part is missing"));
-    }
-    builder.leave();
-    Ok(())
-}
-
-fn leaf(builder: &mut DescBuilder, head: Head) -> Result<(), Fail> {
-    enter(builder, head)?;
-    end(builder)
-}
-
-fn add(run: &mut Run, symbol: Symbol) -> Result<(), Fail> {
-    if run.len() >= 16 {
-        return Err(Fail::from("too many symbols"));
-    }
-    run.push(symbol).map_err(|_| "out of memory")?;
-    Ok(())
-}
-
-fn literal(alloc: Global, builder: &mut DescBuilder, zeros: u32, last: Symbol) -> Result<(), Fail> {
-    let mut run = Run::new(alloc);
+// A literal of so many zeros and a last symbol.
+fn zeros_and(alloc: Global, zeros: u32, last: Symbol) -> Result<Head, Fail> {
+    let mut symbols = Vec::new(alloc);
     for _ in 0..zeros {
-        add(&mut run, Symbol::Zero)?;
+        symbols.push(Symbol::Zero)?;
     }
-    add(&mut run, last)?;
-    leaf(builder, Head::Lits(run))
-}
-
-fn labelled(alloc: Global, builder: &mut DescBuilder, head: Head) -> Result<(), Fail> {
-    let label = Label::new(alloc, b"A").map_err(|_| "no label")?;
-    enter(builder, Head::Named(label))?;
-    leaf(builder, head)?;
-    end(builder)
+    symbols.push(last)?;
+    literal(alloc, &symbols)
 }
 
 fn take(alloc: Global, builder: &mut DescBuilder, step: Step) -> Result<(), Fail> {
@@ -76,15 +42,12 @@ fn take(alloc: Global, builder: &mut DescBuilder, step: Step) -> Result<(), Fail
         Step::Seq => enter(builder, Head::Seq),
         Step::Choice => enter(builder, Head::Choice),
         Step::Many => enter(builder, Head::Many),
-        Step::Literal(zeros, last) => literal(alloc, builder, zeros, last),
+        Step::Literal(zeros, last) => leaf(builder, zeros_and(alloc, zeros, last)?),
         Step::Null => leaf(builder, Head::Null),
         Step::Rest => leaf(builder, Head::Rest),
-        Step::Bits(n) => {
-            let count = Count::Fixed(n);
-            labelled(alloc, builder, Head::Field { unit: 1, count })
-        }
-        Step::Any => labelled(alloc, builder, Head::Rest),
-        Step::End => end(builder),
+        Step::Bits(n) => labelled(alloc, builder, b"A", bits(n)),
+        Step::Any => labelled(alloc, builder, b"A", Head::Rest),
+        Step::End => leave(builder),
     }
 }
 
@@ -93,10 +56,7 @@ fn built(alloc: Global, steps: &[Step]) -> Result<Desc, Fail> {
     for step in steps {
         take(alloc, &mut builder, *step)?;
     }
-    if !builder.is_whole() {
-        return Err(Fail::from("a part is missing"));
-    }
-    Ok(builder.finish().map_err(|_| "no description")?)
+    finished(builder)
 }
 
 /// The conflict that is told of a description, and none where it is certified.
@@ -118,16 +78,6 @@ fn nodes(alloc: Global, steps: &[Step]) -> Result<u16, Fail> {
     }
 }
 
-fn word(bits: &[u8]) -> Word {
-    let mut word = Word::new();
-    for bit in bits {
-        if *bit <= 1 && word.len() < 12 {
-            word.push(*bit);
-        }
-    }
-    word
-}
-
 #[test]
 fn alternatives_that_are_not_told_apart(rt: HostRuntime) -> Result<(), Fail> {
     use Step::{Bits, Choice, End, Null, Seq};
@@ -139,8 +89,8 @@ fn alternatives_that_are_not_told_apart(rt: HostRuntime) -> Result<(), Fail> {
         octet: 0,
         i: 0,
         j: 1,
-        word_i: word(&[0, 1]),
-        word_j: word(&[0, 1]),
+        word_i: word_of(&[0, 1])?,
+        word_j: word_of(&[0, 1])?,
     };
     assert_eq!(rt; told(alloc, &steps)?, Some(overlap));
     // { L | 0 }
@@ -150,8 +100,8 @@ fn alternatives_that_are_not_told_apart(rt: HostRuntime) -> Result<(), Fail> {
         octet: 0,
         i: 0,
         j: 1,
-        word_i: word(&[0]),
-        word_j: word(&[0]),
+        word_i: word_of(&[0])?,
+        word_j: word_of(&[0])?,
     };
     assert_eq!(rt; told(alloc, &steps)?, Some(overlap));
     // { null | null }

@@ -1,6 +1,6 @@
-use super::*;
 use csn_desc::{Count, Desc, Node, Parts, Reading, Symbol};
 use csn_grammar::read_rules;
+use csn_resolve::{ResolveFault, Why, resolve};
 use std::alloc::Global;
 use std::test::Fail;
 

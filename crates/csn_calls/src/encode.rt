@@ -1,80 +1,31 @@
 ghost use Rattle.std.specs.Prelude.{◌≡◌, ◌<◌};
 
-use super::*;
+use crate::building::{bits, enter, finished, labelled, leaf, leave, literal};
 use csn_bits::Bits;
 use csn_certify::{Plan, Steps, certify};
-use csn_desc::{Count, DescBuilder, Head, Label, Reading, Rows, Run, Shape, Symbol, Tree};
+use csn_desc::{DescBuilder, Head, Label, Reading, Rows, Shape, Symbol, Tree};
+use csn_encode::{EncodeFault, Misfit, MisfitWhy, encode};
 use std::alloc::Global;
 use std::marker::Brand;
 use std::process::Abort;
 use std::sync::ledger::{Blank, Ledger};
 use std::test::Fail;
 
-#[test]
-fn a_path_holds_its_numbers(rt: HostRuntime) -> Result<(), Fail> {
-    let mut path = Path::new(rt.alloc());
-    path.push(1).map_err(|_| "out of memory")?;
-    path.push(0).map_err(|_| "out of memory")?;
-    path.push(7).map_err(|_| "out of memory")?;
-    path.pop();
-    let misfit = Misfit {
-        path,
-        why: MisfitWhy::WrongWidth {
-            wanted: 3,
-            found: 4,
-        },
-    };
-    assert_eq!(rt; misfit.path.len(), 2);
-    assert_eq!(rt; misfit.path.get(0), 1);
-    assert_eq!(rt; misfit.path.get(1), 0);
-    Ok(())
-}
-
-fn enter(builder: &mut DescBuilder, head: Head) -> bool {
-    builder.takes(&head) && builder.enter(head).is_ok()
-}
-
-fn leave(builder: &mut DescBuilder) -> bool {
-    let may = builder.may_leave();
-    if may {
-        builder.leave();
-    }
-    may
-}
-
-fn field(alloc: Global, builder: &mut DescBuilder, name: &[u8], width: u32) -> Result<bool, Fail> {
-    let label = Label::new(alloc, name).map_err(|_| "no label")?;
-    let count = Count::Fixed(width);
-    Ok(
-        enter(builder, Head::Named(label))
-            && enter(builder, Head::Field { unit: 1, count })
-            && leave(builder)
-            && leave(builder),
-    )
-}
-
 // <A : bit (3)> 0 <B : bit (4)>
 fn two_fields(alloc: Global) -> Result<Plan, Fail> {
     let mut builder = DescBuilder::new(alloc, Reading::Received);
-    let mut run = Run::new(alloc);
-    run.push(Symbol::Zero).map_err(|_| "out of memory")?;
-    let built = enter(&mut builder, Head::Seq)
-        && field(alloc, &mut builder, b"A", 3)?
-        && enter(&mut builder, Head::Lits(run))
-        && leave(&mut builder)
-        && field(alloc, &mut builder, b"B", 4)?
-        && leave(&mut builder);
-    if !built || !builder.is_whole() {
-        return Err("not built".into());
-    }
-    let desc = builder.finish().map_err(|_| "no description")?;
-    match certify(alloc, desc) {
+    enter(&mut builder, Head::Seq)?;
+    labelled(alloc, &mut builder, b"A", bits(3))?;
+    leaf(&mut builder, literal(alloc, &[Symbol::Zero])?)?;
+    labelled(alloc, &mut builder, b"B", bits(4))?;
+    leave(&mut builder)?;
+    match certify(alloc, finished(builder)?) {
         Ok(plan) => Ok(plan),
         Err(_fault) => Err(Fail::from("not certified")),
     }
 }
 
-fn labelled(alloc: Global, name: &[u8], digits: &[u8]) -> Result<Tree, Fail> {
+fn labelled_leaf(alloc: Global, name: &[u8], digits: &[u8]) -> Result<Tree, Fail> {
     let mut bits = Bits::new(alloc);
     for digit in digits {
         if *digit > 1 {
@@ -106,11 +57,11 @@ fn row(alloc: Global, trees: Vec<Tree>) -> Result<Tree, Fail> {
 // the tree of `<A : bit (3)> 0 <B : bit (4)>` with these bits in its fields
 fn two_leaves(alloc: Global, first: &[u8], second: &[u8]) -> Result<Tree, Fail> {
     let mut trees = Vec::new(alloc);
-    trees.push(labelled(alloc, b"A", first)?)?;
+    trees.push(labelled_leaf(alloc, b"A", first)?)?;
     trees.push(Tree {
         shape: Shape::Empty,
     })?;
-    trees.push(labelled(alloc, b"B", second)?)?;
+    trees.push(labelled_leaf(alloc, b"B", second)?)?;
     row(alloc, trees)
 }
 
@@ -131,15 +82,15 @@ fn is_written<L: Ledger>(
     }
 }
 
-// why the tree misses, and how many steps from the root
+// why and where the tree misses
 fn miss_of<L: Ledger>(
     alloc: Global,
     plan: &Plan,
     tree: &Tree,
     steps: &mut Steps<L>,
-) -> Option<(MisfitWhy, u32)> {
+) -> Option<Misfit> {
     match encode(alloc, plan, tree, steps) {
-        Err(EncodeFault::Misfit(misfit)) => Some((misfit.why, misfit.path.len())),
+        Err(EncodeFault::Misfit(misfit)) => Some(misfit),
         _ => None,
     }
 }
@@ -153,12 +104,18 @@ fn writes<L: Ledger, R: Abort>(rt: &R, alloc: Global, blank: Blank) -> Result<()
     let plan = two_fields(alloc)?;
     let tree = two_leaves(alloc, &[1, 0, 1], &[0, 1, 0, 1])?;
     assert!(rt; is_written(alloc, &plan, &tree, b"A5", &mut steps)?);
-    let wide = two_leaves(alloc, &[0, 1, 0, 1], &[0, 1, 0, 1])?;
-    let why = MisfitWhy::WrongWidth {
-        wanted: 3,
-        found: 4,
+    let wide = two_leaves(alloc, &[1, 0, 1], &[0, 1, 0, 1, 1])?;
+    let Some(misfit) = miss_of(alloc, &plan, &wide, &mut steps) else {
+        return Err("it does not miss".into());
     };
-    assert_eq!(rt; miss_of(alloc, &plan, &wide, &mut steps), Some((why, 2)));
+    let why = MisfitWhy::WrongWidth {
+        wanted: 4,
+        found: 5,
+    };
+    assert_eq!(rt; misfit.why, why);
+    // the third tree of the row, and what is labelled
+    assert_eq!(rt; misfit.path.len(), 2);
+    assert_eq!(rt; (misfit.path.get(0), misfit.path.get(1)), (2, 0));
     Ok(())
 }
 

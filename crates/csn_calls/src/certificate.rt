@@ -1,7 +1,8 @@
-use crate::make_certificate;
+use crate::building::{bits, enter, finished, labelled, leaf, leave, literal};
 use csn_cert::{read_certificate, write_certificate};
 use csn_certify::certify;
-use csn_desc::{Count, Desc, DescBuilder, Head, Label, Reading, Run, Symbol};
+use csn_certmake::make_certificate;
+use csn_desc::{Desc, DescBuilder, Head, Reading, Symbol};
 use csn_good::{Checked, check_certificate};
 use std::alloc::Global;
 use std::test::Fail;
@@ -56,54 +57,11 @@ const FAULTS: &[(&str, u8, u16)] = &[
     ),
 ];
 
-fn enter(builder: &mut DescBuilder, head: Head) -> Result<(), Fail> {
-    if !builder.takes(&head) {
-        return Err(Fail::from("no node is taken there"));
-    }
-    builder.enter(head).map_err(|_| "no node")?;
-    Ok(())
-}
-
-fn end(builder: &mut DescBuilder) -> Result<(), Fail> {
-    if !builder.may_leave() {
-        return Err(Fail::from("a part is missing"));
-    }
-    builder.leave();
-    Ok(())
-}
-
-fn leaf(builder: &mut DescBuilder, head: Head) -> Result<(), Fail> {
-    enter(builder, head)?;
-    end(builder)
-}
-
-fn literal(alloc: Global, symbol: Symbol) -> Result<Head, Fail> {
-    let mut run = Run::new(alloc);
-    run.push(symbol).map_err(|_| "out of memory")?;
-    Ok(Head::Lits(run))
-}
-
-fn finish(builder: DescBuilder) -> Result<Desc, Fail> {
-    if !builder.is_whole() {
-        return Err(Fail::from("no description"));
-    }
-    Ok(builder.finish().map_err(|_| "out of memory")?)
-}
-
 // The description of `<M> ::= <A : bit> ;`.
 fn one_bit(alloc: Global) -> Result<Desc, Fail> {
     let mut builder = DescBuilder::new(alloc, Reading::Received);
-    let label = Label::new(alloc, b"A").map_err(|_| "no label")?;
-    enter(&mut builder, Head::Named(label))?;
-    leaf(
-        &mut builder,
-        Head::Field {
-            unit: 1,
-            count: Count::Fixed(1),
-        },
-    )?;
-    end(&mut builder)?;
-    finish(builder)
+    labelled(alloc, &mut builder, b"A", bits(1))?;
+    finished(builder)
 }
 
 // The description of a choice of a head without parts, and of the literal 1.
@@ -111,10 +69,9 @@ fn choice(alloc: Global, head: Head) -> Result<Desc, Fail> {
     let mut builder = DescBuilder::new(alloc, Reading::Received);
     enter(&mut builder, Head::Choice)?;
     leaf(&mut builder, head)?;
-    let one = literal(alloc, Symbol::One)?;
-    leaf(&mut builder, one)?;
-    end(&mut builder)?;
-    finish(builder)
+    leaf(&mut builder, literal(alloc, &[Symbol::One])?)?;
+    leave(&mut builder)?;
+    finished(builder)
 }
 
 // What a text of a certificate comes to for a description.
@@ -154,7 +111,7 @@ fn the_certificate_of_one_bit_is_good(rt: HostRuntime) -> Result<(), Fail> {
 
 #[test]
 fn two_alternatives_are_told_apart(rt: HostRuntime) -> Result<(), Fail> {
-    let desc = choice(rt.alloc(), literal(rt.alloc(), Symbol::Zero)?)?;
+    let desc = choice(rt.alloc(), literal(rt.alloc(), &[Symbol::Zero])?)?;
     assert_eq!(rt; checked(rt.alloc(), &desc, OF_TWO)?, Checked::Proved);
     // the alternatives claim the same words
     let same =

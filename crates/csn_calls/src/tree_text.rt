@@ -1,5 +1,5 @@
-use crate::{TextFault, fits, read_old_tree, read_tree, write_tree};
 use csn_desc::{Shape, Tree};
+use csn_treetext::{TextFault, fits, read_old_tree, read_tree, write_tree};
 use std::test::Fail;
 
 // A text of every form: nothing, a number, no bits, a block line, rows, alternatives and labels.

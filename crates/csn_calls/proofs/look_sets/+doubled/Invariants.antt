@@ -1,4 +1,4 @@
-use Rattle.csn_look.proofs.look_tests.+doubled.Given as goal
+use Rattle.csn_calls.proofs.look_sets.+doubled.Given as goal
 
 abbrev pub decreases-doubled : goal.decreases-doubled
 decreases-doubled l = l.levels

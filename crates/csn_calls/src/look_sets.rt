@@ -1,69 +1,9 @@
-use super::*;
-use crate::tests::marks_of;
-use csn_desc::{Count, Desc, DescBuilder, Head, Label, MOST_SYMBOLS, Reading, Run, Symbol};
+use crate::building::{bits, enter, finished, labelled, leaf, leave, literal, word_of};
+use crate::look::marks_of;
+use csn_desc::{Count, Desc, DescBuilder, Head, Reading, Symbol};
+use csn_look::{Begins, Look, Reach, Sign};
 use std::alloc::Global;
-use std::process::Abort;
 use std::test::Fail;
-
-fn enter(builder: &mut DescBuilder, head: Head) -> Result<(), Fail> {
-    if !builder.takes(&head) {
-        return Err("not taken".into());
-    }
-    match builder.enter(head) {
-        Ok(_) => Ok(()),
-        Err(_) => Err("not entered".into()),
-    }
-}
-
-fn leave(builder: &mut DescBuilder) -> Result<(), Fail> {
-    if !builder.may_leave() {
-        return Err("not left".into());
-    }
-    builder.leave();
-    Ok(())
-}
-
-fn leaf(builder: &mut DescBuilder, head: Head) -> Result<(), Fail> {
-    enter(builder, head)?;
-    leave(builder)
-}
-
-fn finished(builder: DescBuilder) -> Result<Desc, Fail> {
-    if !builder.is_whole() {
-        return Err("not whole".into());
-    }
-    match builder.finish() {
-        Ok(desc) => Ok(desc),
-        Err(_) => Err("no description".into()),
-    }
-}
-
-fn literal(alloc: Global, symbols: &[Symbol]) -> Result<Head, Fail> {
-    let mut run = Run::new(alloc);
-    for symbol in symbols {
-        if run.len() >= MOST_SYMBOLS {
-            return Err("too many symbols".into());
-        }
-        run.push(*symbol)?;
-    }
-    Ok(Head::Lits(run))
-}
-
-fn bits(n: u32) -> Head {
-    Head::Field {
-        unit: 1,
-        count: Count::Fixed(n),
-    }
-}
-
-fn labelled(alloc: Global, builder: &mut DescBuilder, name: &[u8], n: u32) -> Result<(), Fail> {
-    match Label::new(alloc, name) {
-        Ok(label) => enter(builder, Head::Named(label))?,
-        Err(_) => return Err("no label".into()),
-    }
-    leaf(builder, bits(n))?;
-    leave(builder)
-}
 
 /// `{ 01 | 10 <A : bit> }`: node 0 is the choice, 1 the first literal word, 2 the sequence.
 fn one_of_two(alloc: Global, builder: &mut DescBuilder) -> Result<(), Fail> {
@@ -71,7 +11,7 @@ fn one_of_two(alloc: Global, builder: &mut DescBuilder) -> Result<(), Fail> {
     leaf(builder, literal(alloc, &[Symbol::Zero, Symbol::One])?)?;
     enter(builder, Head::Seq)?;
     leaf(builder, literal(alloc, &[Symbol::One, Symbol::Zero])?)?;
-    labelled(alloc, builder, b"A", 1)?;
+    labelled(alloc, builder, b"A", bits(1))?;
     leave(builder)?;
     leave(builder)
 }
@@ -86,7 +26,7 @@ fn every_kind(alloc: Global) -> Result<Desc, Fail> {
     enter(&mut builder, Head::Times(Count::Fixed(2)))?;
     leaf(&mut builder, bits(1))?;
     leave(&mut builder)?;
-    labelled(alloc, &mut builder, b"N", 3)?;
+    labelled(alloc, &mut builder, b"N", bits(3))?;
     let octets = Count::Counted {
         m: 1,
         field: 9,
@@ -116,15 +56,6 @@ fn last_kinds(alloc: Global, builder: &mut DescBuilder) -> Result<(), Fail> {
     leave(builder)?;
     leaf(builder, Head::Null)?;
     leaf(builder, Head::Pad)
-}
-
-fn word_of(bits: &[u8], rt: &impl Abort) -> Word {
-    let mut word = Word::new();
-    for bit in bits {
-        assert!(rt; *bit <= 1 && word.len() < 12);
-        word.push(*bit);
-    }
-    word
 }
 
 /// A node, an octet position, how many keys there are, and the first one.
@@ -163,7 +94,7 @@ fn nodes_have_their_keys(rt: HostRuntime) -> Result<(), Fail> {
         assert_eq!(rt; keys.len(), count, "{node} at {octet}");
         assert!(rt; keys.len() > 0);
         let key = keys.get(0);
-        assert!(rt; key.word == word_of(first, &rt), "{node} at {octet}");
+        assert!(rt; key.word == word_of(first)?, "{node} at {octet}");
         assert_eq!(rt; key.whole, whole, "{node} at {octet}");
     }
     Ok(())
@@ -240,10 +171,10 @@ fn a_table_is_asked_for_some_bits(rt: HostRuntime) -> Result<(), Fail> {
     let look = Look::new(rt.alloc(), &desc)?;
     assert!(rt; desc.len() > 2);
     let table = look.key_table(2, 0);
-    assert_eq!(rt; table.begins(&word_of(&[1, 0], &rt)), Begins::Proper);
-    assert_eq!(rt; table.begins(&word_of(&[1, 0, 1, 1], &rt)), Begins::Key);
-    assert_eq!(rt; table.begins(&word_of(&[0], &rt)), Begins::Neither);
-    assert!(rt; table.holds(&word_of(&[1, 0, 1], &rt), true));
+    assert_eq!(rt; table.begins(&word_of(&[1, 0])?), Begins::Proper);
+    assert_eq!(rt; table.begins(&word_of(&[1, 0, 1, 1])?), Begins::Key);
+    assert_eq!(rt; table.begins(&word_of(&[0])?), Begins::Neither);
+    assert!(rt; table.holds(&word_of(&[1, 0, 1])?, true));
     Ok(())
 }
 
@@ -275,7 +206,7 @@ fn equal_parts_share_their_tables(rt: HostRuntime) -> Result<(), Fail> {
         assert!(rt; node < desc.len());
         let keys = look.keys(rt.alloc(), node, 5)?;
         assert_eq!(rt; keys.len(), 1, "{node}");
-        assert!(rt; keys.get(0).word == word_of(word, &rt), "{node}");
+        assert!(rt; keys.get(0).word == word_of(word)?, "{node}");
         assert_eq!(rt; keys.get(0).whole, whole, "{node}");
     }
     Ok(())

@@ -1,5 +1,5 @@
-use super::*;
-use std::process::Abort;
+use crate::building::word_of;
+use csn_look::{Begins, Follow, Key, KeyTable, KeyTables, OctetSet, Sign, SymbolSet, Word};
 use std::test::Fail;
 
 #[test]
@@ -124,33 +124,24 @@ fn lengths_are_repeated(rt: HostRuntime) -> Result<(), Fail> {
     Ok(())
 }
 
-fn word_of(bits: &[u8], rt: &impl Abort) -> Word {
-    let mut word = Word::new();
-    for bit in bits {
-        assert!(rt; *bit <= 1 && word.len() < 12);
-        word.push(*bit);
-    }
-    word
-}
-
 #[test]
 fn a_table_tells_how_bits_begin(rt: HostRuntime) -> Result<(), Fail> {
     // the keys 01, 100 and 101 of { 01 | 10 <A : bit> }
     let mut first = KeyTable::new(rt.alloc())?;
-    first.add(rt.alloc(), &word_of(&[0, 1], &rt), true)?;
+    first.add(rt.alloc(), &word_of(&[0, 1])?, true)?;
     let mut table = KeyTable::new(rt.alloc())?;
-    table.add(rt.alloc(), &word_of(&[1, 0, 0], &rt), true)?;
-    table.add(rt.alloc(), &word_of(&[1, 0, 1], &rt), true)?;
-    assert_eq!(rt; table.begins(&word_of(&[0], &rt)), Begins::Neither);
+    table.add(rt.alloc(), &word_of(&[1, 0, 0])?, true)?;
+    table.add(rt.alloc(), &word_of(&[1, 0, 1])?, true)?;
+    assert_eq!(rt; table.begins(&word_of(&[0])?), Begins::Neither);
     table.add_all(rt.alloc(), &first)?;
-    assert!(rt; table.holds(&word_of(&[1, 0, 1], &rt), true));
-    assert!(rt; !table.holds(&word_of(&[1, 0, 1], &rt), false));
-    assert!(rt; !table.holds(&word_of(&[1, 0], &rt), true));
-    assert_eq!(rt; table.begins(&word_of(&[], &rt)), Begins::Proper);
-    assert_eq!(rt; table.begins(&word_of(&[1, 0], &rt)), Begins::Proper);
-    assert_eq!(rt; table.begins(&word_of(&[1, 0, 1, 1], &rt)), Begins::Key);
-    assert_eq!(rt; table.begins(&word_of(&[0, 1], &rt)), Begins::Key);
-    assert_eq!(rt; table.begins(&word_of(&[1, 1], &rt)), Begins::Neither);
+    assert!(rt; table.holds(&word_of(&[1, 0, 1])?, true));
+    assert!(rt; !table.holds(&word_of(&[1, 0, 1])?, false));
+    assert!(rt; !table.holds(&word_of(&[1, 0])?, true));
+    assert_eq!(rt; table.begins(&word_of(&[])?), Begins::Proper);
+    assert_eq!(rt; table.begins(&word_of(&[1, 0])?), Begins::Proper);
+    assert_eq!(rt; table.begins(&word_of(&[1, 0, 1, 1])?), Begins::Key);
+    assert_eq!(rt; table.begins(&word_of(&[0, 1])?), Begins::Key);
+    assert_eq!(rt; table.begins(&word_of(&[1, 1])?), Begins::Neither);
     Ok(())
 }
 
@@ -158,8 +149,8 @@ fn a_table_tells_how_bits_begin(rt: HostRuntime) -> Result<(), Fail> {
 fn one_part_after_another(rt: HostRuntime) -> Result<(), Fail> {
     // 0, or 1 and more, and then two bits: 000, 001, 010 and 011, whole, and 1, cut
     let mut first = KeyTable::new(rt.alloc())?;
-    first.add(rt.alloc(), &word_of(&[0], &rt), true)?;
-    first.add(rt.alloc(), &word_of(&[1], &rt), false)?;
+    first.add(rt.alloc(), &word_of(&[0])?, true)?;
+    first.add(rt.alloc(), &word_of(&[1])?, false)?;
     let mut rest = KeyTable::new(rt.alloc())?;
     rest.add_words(rt.alloc(), 2, true)?;
     let tables = [rest];
@@ -167,9 +158,9 @@ fn one_part_after_another(rt: HostRuntime) -> Result<(), Fail> {
     both.add_after(rt.alloc(), &first, &tables, &[0; 8])?;
     let keys = both.keys(rt.alloc())?;
     assert_eq!(rt; keys.len(), 5);
-    assert!(rt; keys.get(1).word == word_of(&[0, 0, 1], &rt));
+    assert!(rt; keys.get(1).word == word_of(&[0, 0, 1])?);
     assert!(rt; keys.get(3).whole);
-    assert!(rt; keys.get(4).word == word_of(&[1], &rt));
+    assert!(rt; keys.get(4).word == word_of(&[1])?);
     assert!(rt; !keys.get(4).whole);
     Ok(())
 }
@@ -180,11 +171,11 @@ fn equal_tables_are_kept_once(rt: HostRuntime) -> Result<(), Fail> {
     let mut numbers = Vec::new(rt.alloc());
     for bits in [[0, 1], [1, 1], [0, 1]] {
         let mut table = KeyTable::new(rt.alloc())?;
-        table.add(rt.alloc(), &word_of(&bits, &rt), true)?;
+        table.add(rt.alloc(), &word_of(&bits)?, true)?;
         numbers.push(tables.keep(table)?)?;
     }
     assert_eq!(rt; numbers.as_slice(), [0, 1, 0].as_slice());
     assert_eq!(rt; tables.len(), 2);
-    assert!(rt; tables.get(1).holds(&word_of(&[1, 1], &rt), true));
+    assert!(rt; tables.get(1).holds(&word_of(&[1, 1])?, true));
     Ok(())
 }

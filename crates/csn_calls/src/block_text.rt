@@ -1,41 +1,22 @@
 ghost use Rattle.std.specs.Prelude.{◌<◌};
 
-use super::*;
+use crate::building::{enter, finished, leaf, leave, literal};
 use csn_bits::{LineWhy, MOST_LINE};
 use csn_certify::{Plan, certify};
-use csn_desc::{DescBuilder, Head, Reading, Run, Symbol};
+use csn_desc::{DescBuilder, Head, Reading, Symbol};
+use csn_movetext::{LineEnd, LineText, Openings, TreeForm};
 use std::alloc::Global;
 use std::process::Abort;
 use std::test::Fail;
 
-fn enter(builder: &mut DescBuilder, head: Head) -> bool {
-    builder.takes(&head) && builder.enter(head).is_ok()
-}
-
-fn leave(builder: &mut DescBuilder) -> bool {
-    let may = builder.may_leave();
-    if may {
-        builder.leave();
-    }
-    may
-}
-
 // 0 and any bits behind it
 fn zero_and_rest(alloc: Global) -> Result<Plan, Fail> {
     let mut builder = DescBuilder::new(alloc, Reading::Received);
-    let mut run = Run::new(alloc);
-    run.push(Symbol::Zero).map_err(|_| "out of memory")?;
-    let built = enter(&mut builder, Head::Seq)
-        && enter(&mut builder, Head::Lits(run))
-        && leave(&mut builder)
-        && enter(&mut builder, Head::Rest)
-        && leave(&mut builder)
-        && leave(&mut builder);
-    if !built || !builder.is_whole() {
-        return Err("not built".into());
-    }
-    let desc = builder.finish().map_err(|_| "no description")?;
-    match certify(alloc, desc) {
+    enter(&mut builder, Head::Seq)?;
+    leaf(&mut builder, literal(alloc, &[Symbol::Zero])?)?;
+    leaf(&mut builder, Head::Rest)?;
+    leave(&mut builder)?;
+    match certify(alloc, finished(builder)?) {
         Ok(plan) => Ok(plan),
         Err(_fault) => Err(Fail::from("not certified")),
     }

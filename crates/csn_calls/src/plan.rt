@@ -1,0 +1,165 @@
+ghost use Rattle.std.specs.Prelude.{◌≡◌, ◌<◌, ◌≤◌, length, IsTrue};
+ghost use Rattle.csn_look.specs.ReachV.{IsReachOf};
+ghost use Rattle.csn_certify.specs.Picks.{IsAsked};
+
+use crate::building::{bits, enter, finished, labelled, leaf, leave, literal, word_of};
+use csn_certify::{Pick, Steps, certify};
+use csn_desc::{Desc, DescBuilder, Head, Node, Reading, Symbol};
+use csn_look::{Look, Reach};
+use std::alloc::Global;
+use std::marker::Brand;
+use std::process::Abort;
+use std::sync::ledger::{Blank, Ledger};
+use std::test::Fail;
+
+// a literal and then a field
+fn row(
+    alloc: Global,
+    builder: &mut DescBuilder,
+    symbols: &[Symbol],
+    width: u32,
+) -> Result<(), Fail> {
+    enter(builder, Head::Seq)?;
+    leaf(builder, literal(alloc, symbols)?)?;
+    labelled(alloc, builder, b"A", bits(width))?;
+    leave(builder)
+}
+
+// { 0 <A : bit (2)> | 10 <A : bit> | 11 }
+fn choice(alloc: Global) -> Result<Desc, Fail> {
+    let mut builder = DescBuilder::new(alloc, Reading::Received);
+    enter(&mut builder, Head::Choice)?;
+    row(alloc, &mut builder, &[Symbol::Zero], 2)?;
+    row(alloc, &mut builder, &[Symbol::One, Symbol::Zero], 1)?;
+    leaf(&mut builder, literal(alloc, &[Symbol::One, Symbol::One])?)?;
+    leave(&mut builder)?;
+    finished(builder)
+}
+
+// { 0 <A : bit> | null } 1
+fn option(alloc: Global) -> Result<Desc, Fail> {
+    let mut builder = DescBuilder::new(alloc, Reading::Received);
+    enter(&mut builder, Head::Seq)?;
+    enter(&mut builder, Head::Choice)?;
+    row(alloc, &mut builder, &[Symbol::Zero], 1)?;
+    leaf(&mut builder, Head::Null)?;
+    leave(&mut builder)?;
+    leaf(&mut builder, literal(alloc, &[Symbol::One])?)?;
+    leave(&mut builder)?;
+    finished(builder)
+}
+
+// { 1 <A : bit> } **
+fn repetition(alloc: Global) -> Result<Desc, Fail> {
+    let mut builder = DescBuilder::new(alloc, Reading::Received);
+    enter(&mut builder, Head::Many)?;
+    row(alloc, &mut builder, &[Symbol::One], 1)?;
+    leave(&mut builder)?;
+    finished(builder)
+}
+
+// Whether look-ahead may be asked at a node at an octet position.
+fn is_asked(desc: &Desc, reach: &Reach, i: u16, octet: u8) -> bool
+    requires octet { octet ≤ 7 }
+    requires reached { IsReachOf desc.now reach.now.reached }
+    ensures node { IsTrue result → i < length desc.now.nodes }
+    ensures asked { IsTrue result → IsAsked desc.now i octet }
+{
+    if i >= desc.len() {
+        return false;
+    }
+    match desc.node(i) {
+        Node::Choice(_) => reach.reached(i).has(octet),
+        Node::Many(part) if *part < desc.len() => reach.reached(*part).has(octet),
+        _ => false,
+    }
+}
+
+// What look-ahead answers at a node at octet position 0, where some bits are held and the block has ended or not.
+fn are_answered<L: Ledger, R: Abort>(
+    rt: &R,
+    alloc: Global,
+    desc: Desc,
+    i: u16,
+    cases: &[(&[u8], bool, Pick)],
+    steps: &mut Steps<L>,
+) -> Result<(), Fail> {
+    let look = Look::new(alloc, &desc)?;
+    let reach = Reach::new(alloc, &desc, &look)?;
+    if !is_asked(&desc, &reach, i, 0) {
+        return Err("it is not asked there".into());
+    }
+    let Ok(plan) = certify(alloc, desc) else {
+        return Err("not certified".into());
+    };
+    for (bits, ended, pick) in cases {
+        let given = plan.pick(i, 0, &word_of(bits)?, *ended, steps);
+        assert_eq!(rt; given, *pick, "{bits:?} {ended}");
+    }
+    Ok(())
+}
+
+fn picks<L: Ledger, R: Abort>(rt: &R, alloc: Global, blank: Blank) -> Result<(), Fail>
+    requires name { blank.name ≡ L.name }
+    requires parts { blank.parts ≡ L.parts }
+    requires some { 0 < blank.parts }
+{
+    let mut steps = Steps::<L>::new(blank);
+    let of_choice: [(&[u8], bool, Pick); 11] = [
+        (&[], false, Pick::Wait),
+        (&[], true, Pick::Refuse),
+        (&[0, 0], false, Pick::Wait),
+        (&[0, 0], true, Pick::Refuse),
+        (&[0, 0, 1], true, Pick::Take(0)),
+        (&[0, 1, 1, 0], false, Pick::Take(0)),
+        (&[1], false, Pick::Wait),
+        (&[1, 0], false, Pick::Wait),
+        (&[1, 0, 1], false, Pick::Take(1)),
+        (&[1, 1], true, Pick::Take(2)),
+        (&[1, 1, 0], false, Pick::Take(2)),
+    ];
+    are_answered(rt, alloc, choice(alloc)?, 0, &of_choice, &mut steps)?;
+    let of_option: [(&[u8], bool, Pick); 5] = [
+        (&[], false, Pick::Wait),
+        (&[], true, Pick::Take(1)),
+        (&[0], false, Pick::Wait),
+        (&[0, 1], false, Pick::Take(0)),
+        (&[1], false, Pick::Take(1)),
+    ];
+    are_answered(rt, alloc, option(alloc)?, 1, &of_option, &mut steps)?;
+    let of_repetition: [(&[u8], bool, Pick); 4] = [
+        (&[], false, Pick::Wait),
+        (&[], true, Pick::Leave),
+        (&[1], false, Pick::Take(0)),
+        (&[0], true, Pick::Leave),
+    ];
+    are_answered(rt, alloc, repetition(alloc)?, 0, &of_repetition, &mut steps)
+}
+
+#[test]
+fn look_ahead_answers_by_held_bits(rt: HostRuntime) -> Result<(), Fail> {
+    picks::<Brand, HostRuntime>(&rt, rt.alloc(), Blank::new(1))
+}
+
+fn nodes<L: Ledger, R: Abort>(rt: &R, alloc: Global, blank: Blank) -> Result<(), Fail>
+    requires name { blank.name ≡ L.name }
+    requires parts { blank.parts ≡ L.parts }
+    requires some { 0 < blank.parts }
+{
+    let mut steps = Steps::<L>::new(blank);
+    let Ok(plan) = certify(alloc, choice(alloc)?) else {
+        return Err("not certified".into());
+    };
+    assert_eq!(rt; plan.len(), 10);
+    assert_eq!(rt; plan.reading(), Reading::Received);
+    assert!(rt; !plan.counts(3));
+    let node = plan.node(9, &mut steps);
+    assert!(rt; matches!(node, Node::Lits(_)));
+    assert_eq!(rt; plan.into_desc().len(), 10);
+    Ok(())
+}
+
+#[test]
+fn a_plan_gives_its_nodes(rt: HostRuntime) -> Result<(), Fail> {
+    nodes::<Brand, HostRuntime>(&rt, rt.alloc(), Blank::new(1))
+}
