@@ -12,8 +12,7 @@ use Rattle.csn_certify.specs.declared.conflict.Conflict.{Conflict}
 use Rattle.csn_certify.specs.declared.conflict.Conflict.TheVariants.{TwoEmpty, NotFirm, Overlap, EmptyClash, LoopClash, NotLast}
 use Rattle.csn_certify.specs.Conflicts.{IsNull, IsConflict, two_empty, choice_not_firm, empty_clash, rank_of, NotAfter}
 use Rattle.csn_certify.specs.Search.{IsUnder, IsFirstUnder, IsNullAt, IsLeastFrom, IsClashing}
-use Rattle.csn_certify.proofs.Pieces.{order, equal_numbers, first_less, second_less}
-use Rattle.csn_certify.proofs.Searching.{IsBranch, NoneBelow, none_of, found_at, last_class, by_number, same_number, least_number, first_of_one, branch_clash, branch_octet}
+use Rattle.csn_certify.proofs.Searching.{IsBranch, NoneBelow, none_of, gone_through, found_at, last_class, by_number, first_behind, least_number, first_of_one, branch_clash, branch_octet}
 use Rattle.csn_certify.proofs.ConflictKinds.{ChoiceFits, choice_fits}
 
 -- what takes no bits begins with none
@@ -86,8 +85,7 @@ module _ (d : DescV) (node : ℕ) (parts : List ℕ) (at : slice_get d.nodes nod
           let up = least_number 0 i two.i (IsNullAt d parts) least (omega arith) two.null_i in
           let far = least_number (i + 1) j two.j (IsNullAt d parts) later (omega (arith, up, less)) two.null_j in
           subst (λ (e : Conflict). NotAfter (rank_of (TwoEmpty node i j)) (rank_of e)) (sym two.is)
-          (same_number node (1 ∷ i ∷ j ∷ []) (1 ∷ two.i ∷ two.j ∷ []) (same_number 1 (i ∷ j ∷ []) (two.i ∷ two.j ∷ [])
-          (by_number i two.i (j ∷ []) (two.j ∷ []) up (λ same. by_number j two.j [] [] far (λ too. tt)))))
+          (first_behind (node ∷ 1 ∷ []) (i ∷ j ∷ []) (two.i ∷ two.j ∷ []) (by_number i two.i (j ∷ []) (two.j ∷ []) up (λ same. by_number j two.j [] [] far (λ too. tt))))
 
 -- ---- an alternative that is not firm
 
@@ -242,8 +240,7 @@ module _ (d : DescV) (node : ℕ) (parts : List ℕ) (at : slice_get d.nodes nod
         let h = of_clash octet other under holds in
         let up = least_number 0 bit h.0 (IsClashing d node node octet) least (omega arith) h.3 in
         subst (λ (e : Conflict). NotAfter (rank_of (EmptyClash node octet bit)) (rank_of e)) (sym h.1)
-        (same_number node (3 ∷ octet ∷ 4 ∷ bit ∷ []) (3 ∷ octet ∷ 4 ∷ h.0 ∷ []) (same_number 3 (octet ∷ 4 ∷ bit ∷ []) (octet ∷ 4 ∷ h.0 ∷ [])
-        (same_number octet (4 ∷ bit ∷ []) (4 ∷ h.0 ∷ []) (same_number 4 (bit ∷ []) (h.0 ∷ []) (by_number bit h.0 [] [] up (λ same. tt))))))),
+        (first_behind (node ∷ 3 ∷ octet ∷ 4 ∷ []) (bit ∷ []) (h.0 ∷ []) (by_number bit h.0 [] [] up (λ same. tt)))),
   )
     where
       apart : (j q : ℕ) → slice_get parts j ≡ Some q → InStart d q octet bit → ¬ (j ≡ i)
@@ -260,16 +257,6 @@ module _ (d : DescV) (node : ℕ) (parts : List ℕ) (at : slice_get d.nodes nod
 module _ (d : DescV) (node : ℕ) (parts : List ℕ) (at : slice_get d.nodes node ≡ Some (Choice parts)) where
   -- the octet positions have been gone through
   pub octets_end : (count : ℕ) → 8 ≤ count → NoneBelow d (node ∷ 3 ∷ []) count → IsFirstUnder d (node ∷ 3 ∷ []) None
-  octets_end count all below = none_of d (node ∷ 3 ∷ []) (branch_clash node) each
-    where
-      past : (x : ℕ) → count ≤ x → IsFirstUnder d (node ∷ 3 ∷ x ∷ []) None
-      past x over =
-          not_reached d node parts at x (λ reached. let small = reached_small d reached in absurd (omega (arith, small, over, all)))
-
-      each : (x : ℕ) → IsFirstUnder d (node ∷ 3 ∷ x ∷ []) None
-      each x =
-          elim (order x count) [
-            | first_less lower ↦ below x lower
-            | equal_numbers same ↦ past x (omega arith)
-            | second_less higher ↦ past x (omega arith)
-          ]
+  octets_end count all below =
+      gone_through d (node ∷ 3 ∷ []) count (branch_clash node) below
+      (λ x over. not_reached d node parts at x (λ reached. let small = reached_small d reached in absurd (omega (arith, small, over, all))))

@@ -21,6 +21,7 @@ use Rattle.csn_certify.specs.PickTables.{entry_of, Tells}
 use Rattle.csn_certify.specs.Filling.{started, IsDeep, IsFilled, with_key, with_full, with_start, with_none, FillsUnder, AreEmpty, HasMarks, IsFullOf, AreDeep, AreApart}
 use Rattle.csn_certify.proofs.Pieces.{begun_both}
 use Rattle.csn_certify.proofs.FillingFacts.{begins_itself, full_on, full_begins, full_fresh}
+use Rattle.csn_certify.proofs.MoreHeld.{key_on}
 use Rattle.csn_certify.proofs.Choices as choice
 use Rattle.csn_certify.proofs.Choices.{Among}
 
@@ -190,7 +191,7 @@ module _ (d : DescV) (parts : List ℕ) (octet : ℕ) where
   abbrev pub TellsOf : ℕ → Option ℕ → List ℕ → Entry → Type 0
   TellsOf count none held Refuse = Among d parts octet held count none false
   TellsOf count none held Wait = Among d parts octet held count none true × ArePartly count held
-  TellsOf count _ held (Take j bits) = ((bits ≤ length held) × BeginsWithKey d 12 parts octet held j) ⊎ IsFullOf d parts octet j held bits
+  TellsOf count _ held (Take bits j) = ((bits ≤ length held) × BeginsWithKey d 12 parts octet held j) ⊎ IsFullOf d parts octet j held bits
 
   abbrev pub AllTell : ℕ → Option ℕ → ℕ → List Entry → Type 0
   AllTell count none width entries =
@@ -207,7 +208,7 @@ module _ (d : DescV) (parts : List ℕ) (octet : ℕ) where
       by_entry : (e : Entry) → TellsOf count none held e → TellsOf (count + 1) (Some count) held e
       by_entry Refuse h = choice.among_none d parts octet held h here
       by_entry Wait h = (choice.among_none d parts octet held h.0 here, partly_more count held h.1 (λ bits. partly_null count bits held here))
-      by_entry (Take j bits) h = h
+      by_entry (Take bits j) h = h
 
   -- one more, whose keys have filled the entries
   pub all_marks : (count width : ℕ) (none : Option ℕ) (table : List ℕ) (old new : List Entry) → HasMarks d parts octet count table → (word : List ℕ) → word ≡ [] → FillsUnder word width (IsFilled table count) old new → AllTell count none width old → AllTell (count + 1) none width new
@@ -231,14 +232,14 @@ module _ (d : DescV) (parts : List ℕ) (octet : ℕ) where
       by_start Wait h no_key start part =
           let s = stands answer.Proper has.real is (no_key, start) in
           (choice.among_begun d parts octet held h.0 s.0 s.1 s.2, partly_more count held h.1 (partly part))
-      by_start (Take j bits) h no_key start part = h
+      by_start (Take bits j) h no_key start part = h
 
       by_none : (e : Entry) → TellsOf count none held e → ¬ marks.BeginsWithKey table held → ¬ marks.StartsKey table held → TellsOf (count + 1) none held e
       by_none Refuse h no_key no_start = let s = stands answer.Neither has.real is (no_key, no_start) in choice.among_neither d parts octet held h s.0 s.1 s.2
       by_none Wait h no_key no_start =
           let s = stands answer.Neither has.real is (no_key, no_start) in
           (choice.among_neither d parts octet held h.0 s.0 s.1 s.2, partly_more count held h.1 (λ bits full. s.2 (begun_by_full count bits held is full)))
-      by_none (Take j bits) h no_key no_start = h
+      by_none (Take bits j) h no_key no_start = h
 
       by_filled : (e f : Entry) → TellsOf count none held e → IsFilled table count held e f → TellsOf (count + 1) none held f
       by_filled e f h (with_key bits key size same) =
@@ -251,18 +252,6 @@ module _ (d : DescV) (parts : List ℕ) (octet : ℕ) where
   -- ---- bits that go on
 
   module _ (held front : List ℕ) (begun : IsBegunBy held front) where
-    pub key_on : {j : ℕ} → BeginsWithKey d 12 parts octet front j → BeginsWithKey d 12 parts octet held j
-    key_on h =
-        record {
-          part = h.part;
-          word = h.word;
-          mark = h.mark;
-          is_part = h.is_part;
-          takes_bits = h.takes_bits;
-          key = h.key;
-          begins = (h.begins.0 ++ begun.0, begun.1 ∙ ap (λ l. l ++ begun.0) h.begins.1 ∙ append_assoc h.word h.begins.0 begun.0);
-        }
-
     begins_back : BeginsKey d 12 parts octet held → BeginsKey d 12 parts octet front
     begins_back h =
         let size = ap length begun.1 in
@@ -312,7 +301,7 @@ module _ (d : DescV) (parts : List ℕ) (octet : ℕ) where
       let one = one_key j bits held is full in
       record {
         no_key = λ k key.
-            let same : k ≡ j = apart (held ++ one.back) k j (key_on (held ++ one.back) held (one.back, refl) key) one.key in
+            let same : k ≡ j = apart (held ++ one.back) k j (key_on d 12 (one.back, refl) key) one.key in
             choice.no_key_of d parts octet held j full.has.part full.marks full.has.is_part full.has.are full.none (subst (λ (i : ℕ). BeginsWithKey d 12 parts octet held i) same key);
         is_none = told.is_none;
         no_none = λ is_none i null. let late = told.no_none is_none i null in let inside = slice_get_within parts i null.part null.is_part in omega (arith, late, inside, all);
@@ -355,11 +344,11 @@ module _ (d : DescV) (parts : List ℕ) (octet : ℕ) where
       either : (m n : ℕ) → (m ≤ n) ⊎ (n < m)
       either m n = grind arith
 
-      by_take : (j bits : ℕ) → ((bits ≤ length front) × BeginsWithKey d 12 parts octet front j) ⊎ IsFullOf d parts octet j front bits → Tells d parts octet held none (Take j bits)
+      by_take : (j bits : ℕ) → ((bits ≤ length front) × BeginsWithKey d 12 parts octet front j) ⊎ IsFullOf d parts octet j front bits → Tells d parts octet held none (Take bits j)
       by_take j bits (inl h) =
           let size = ap length begun.1 in
           let less = h.0 in (
-            (λ enough. key_on held front begun h.1),
+            (λ enough. key_on d 12 begun h.1),
             (λ few. absurd (omega (arith, size, less, few, length-append front begun.0))),
           )
       by_take j bits (inr all_keys) = (
@@ -370,4 +359,4 @@ module _ (d : DescV) (parts : List ℕ) (octet : ℕ) where
       by_entry : (e : Entry) → TellsOf count none front e → Tells d parts octet held none e
       by_entry Refuse h = refuse_on held front begun (choice.among_all d parts octet front h all)
       by_entry Wait h = by_size (either (length held) width) h.0 h.1
-      by_entry (Take j bits) h = by_take j bits h
+      by_entry (Take bits j) h = by_take j bits h

@@ -148,7 +148,7 @@ place_of_begun : (word held : List ℕ) → IsWord held → IsBegunBy held word 
 place_of_begun word held is begun =
     place_cut (length word) held is ∙ ap (λ l. place_of (take (length word) l)) begun.1 ∙ ap place_of (take-append_seam word begun.0)
 
-pub cover_all : (word : List ℕ) (width many j bits : ℕ) (old new : List Entry) → IsWord word → length word ≤ width → many ≡ width - length word + 1 → Covered (place_of word) many (Take j bits) old new → FillsUnder word width (IsTaken j bits) old new
+pub cover_all : (word : List ℕ) (width many j bits : ℕ) (old new : List Entry) → IsWord word → length word ≤ width → many ≡ width - length word + 1 → Covered (place_of word) many (Take bits j) old new → FillsUnder word width (IsTaken j bits) old new
 cover_all word width many j bits old new is within_it size all held is_held short = (
   (λ begun. all.covered (place_of held) (length held - length word) (omega (arith, short, within_it, size)) (place_of_begun word held is_held begun)),
   (λ never. all.others (place_of held) (λ over less same. never (begun_by_place word held over is is_held same))),

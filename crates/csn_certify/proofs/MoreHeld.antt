@@ -1,5 +1,5 @@
 -- What look-ahead takes with some held bits, it takes with more.
-use Rattle.std.proofs.Common.{◌≡◌, ℕ, ◌%◌, Bool, false, List, [], ◌∷◌, ◌++◌, sym, ◌∙◌, ap, subst, arith, append_assoc, Some, slice_get}
+use Rattle.std.proofs.Common.{◌≡◌, ℕ, ◌%◌, Bool, false, List, [], ◌∷◌, ◌++◌, sym, ◌∙◌, ap, subst, arith, append_assoc, refl, Some, slice_get}
 use Rattle.csn_desc.specs.declared.node.Node.TheVariants.{Choice}
 use Rattle.csn_desc.specs.Nodes.{DescV}
 use Rattle.csn_desc.specs.Formed.{IsDescription}
@@ -9,22 +9,23 @@ use Rattle.csn_look.specs.Reached.{Reached}
 use Rattle.csn_look.specs.Laws.{KeysStart, KeysOfFirmNodesHaveBits, ReachedAreOctets}
 use Rattle.csn_certify.specs.declared.conflict.Conflict.TheVariants.{NotFirm, EmptyClash}
 use Rattle.csn_certify.specs.declared.pick.Pick.TheVariants.{Take}
-use Rattle.csn_certify.specs.Conflicts.{IsNull, choice_not_firm, empty_clash, Certified}
+use Rattle.csn_certify.specs.Conflicts.{IsNull, IsBegunBy, choice_not_firm, empty_clash, Certified}
 use Rattle.csn_certify.specs.Picks.{IsAsked, asked_choice, asked_many, BeginsWithKey, StandsBehind, behind_bit, behind_end, TakesNone, Picks, pick_key, pick_none, pick_again}
 
-module _ (starts : KeysStart) (firm : KeysOfFirmNodesHaveBits) (octets : ReachedAreOctets) (d : DescV) (most : ℕ) (is : IsDescription d) (certified : Certified d most) where
-  key_held : {octet j : ℕ} {parts held : List ℕ} (more : List ℕ) → BeginsWithKey d most parts octet held j → BeginsWithKey d most parts octet (held ++ more) j
-  key_held more h =
-      record {
-        part = h.part;
-        word = h.word;
-        mark = h.mark;
-        is_part = h.is_part;
-        takes_bits = h.takes_bits;
-        key = h.key;
-        begins = (h.begins.0 ++ more, ap (λ l. l ++ more) h.begins.1 ∙ append_assoc h.word h.begins.0 more);
-      }
+-- bits that begin with a key begin with it where they go on
+pub key_on : (d : DescV) (most : ℕ) {octet j : ℕ} {parts held front : List ℕ} → IsBegunBy held front → BeginsWithKey d most parts octet front j → BeginsWithKey d most parts octet held j
+key_on d most begun h =
+    record {
+      part = h.part;
+      word = h.word;
+      mark = h.mark;
+      is_part = h.is_part;
+      takes_bits = h.takes_bits;
+      key = h.key;
+      begins = (h.begins.0 ++ begun.0, begun.1 ∙ ap (λ l. l ++ begun.0) h.begins.1 ∙ append_assoc h.word h.begins.0 begun.0);
+    }
 
+module _ (starts : KeysStart) (firm : KeysOfFirmNodesHaveBits) (octets : ReachedAreOctets) (d : DescV) (most : ℕ) (is : IsDescription d) (certified : Certified d most) where
   -- beside an alternative that takes no bits, where a bit stands that may stand behind the choice, no key begins with it
   module _ (node octet bit i : ℕ) (parts rest : List ℕ) (at : slice_get d.nodes node ≡ Some (Choice parts)) (reached : Reached d node octet) (none : TakesNone d most node parts octet (bit ∷ rest) false i) where
     no_start : {q : ℕ} (j : ℕ) → slice_get parts j ≡ Some q → (IsNull d q → ⊥) → InStart d q octet bit → StandsBehind d most node octet (bit ∷ rest) false → ⊥
@@ -65,6 +66,6 @@ module _ (starts : KeysStart) (firm : KeysOfFirmNodesHaveBits) (octets : Reached
   reached_choice at (asked_many part is_many reached) = absurd (cc)
 
   pub takes_stay : {node octet j : ℕ} {held : List ℕ} {ended : Bool} (more : List ℕ) → IsAsked d node octet → Picks d most node octet held false (Take j) → Picks d most node octet (held ++ more) ended (Take j)
-  takes_stay more asked (pick_key parts at h) = pick_key parts at (key_held more h)
+  takes_stay more asked (pick_key parts at h) = pick_key parts at (key_on d most (more, refl) h)
   takes_stay more asked (pick_none parts at absent none) = none_held more at (reached_choice at asked) none none.behind
   takes_stay more asked (pick_again part at start) = pick_again part at start

@@ -19,11 +19,8 @@ use Rattle.csn_certify.proofs.SearchFacts.{denied}
 use Rattle.csn_certify.proofs.Searching.{IsBranch, NoneBelow, found_at, least_number, first_behind}
 use Rattle.csn_certify.proofs.ConflictKinds.{ChoiceFits, choice_fits}
 use Rattle.csn_look.proofs.Tables.KeyWords.{key_word}
+use Rattle.csn_certify.proofs.TablesMeet.{swapped}
 use Rattle.csn_certify.proofs.KeyOrder.{text_first, text_at, MeetsWith, meets_with, with_meets}
-
-pub turned : (v w : List ℕ) → AreBegun v w → AreBegun w v
-turned v w (inl long) = inr long
-turned v w (inr long) = inl long
 
 -- ---- the first key of a list that meets a set
 
@@ -76,15 +73,15 @@ only_key empty only word none adds key mark is = (
 
 module _ (d : DescV) (octet p : ℕ) (keys : List Key) (lists : ListsKeys keys (InKeys d 12 p octet)) (marks word : List ℕ) (is : IsWord word) (are : KeysAre marks (IsOnly word)) where
   pub begun_none : IsLeastFrom 0 (MeetsAt marks keys) None → IsFirstBegun d octet p word None
-  begun_none none w key begun = none_meets d octet p keys lists marks (IsOnly word) are none w word key true is (refl, refl) (turned word w begun)
+  begun_none none w key begun = none_meets d octet p keys lists marks (IsOnly word) are none w word key true is (refl, refl) (swapped word w begun)
 
   pub begun_some : (at : ℕ) (first : Key) → IsLeastFrom 0 (MeetsAt marks keys) (Some at) → slice_get keys at ≡ Some first → IsFirstBegun d octet p word (Some first.word)
   begun_some at first least at_is =
       let met = at_meets d octet p keys lists marks (IsOnly word) are at first least at_is in
       let same = met.key.0 in (
         (first.whole, listed_key d octet p keys lists at first at_is),
-        turned first.word word (subst (λ (w : List ℕ). AreBegun first.word w) same met.begun),
-        (λ w key begun. first_meets d octet p keys lists marks (IsOnly word) are at first least at_is w word key true is (refl, refl) (turned word w begun)),
+        swapped first.word word (subst (λ (w : List ℕ). AreBegun first.word w) same met.begun),
+        (λ w key begun. first_meets d octet p keys lists marks (IsOnly word) are at first least at_is w word key true is (refl, refl) (swapped word w begun)),
       )
 
 -- ---- the conflict
@@ -221,14 +218,14 @@ module _ (d : DescV) (node : ℕ) (parts : List ℕ) (at : slice_get d.nodes nod
 
   -- ---- the words of two alternatives
 
-  -- an alternative that takes bits, by the number that it has
-  pub same_part : (i p q : ℕ) → IsPart d octet parts i p → slice_get parts i ≡ Some q → IsPart d octet parts i q
-  same_part i p q part at_q =
-      let there = part.is_part in
-      let same : p ≡ q = cc in
-      subst (λ (k : ℕ). IsPart d octet parts i k) same part
+  module _ (i j p q : ℕ) (less : i < j) (part : (n : ℕ) × IsPart d octet parts i n) (at_i : slice_get parts i ≡ Some p) (at_j : slice_get parts j ≡ Some q) where
+    -- the first one, by the number that it has
+    part_i : IsPart d octet parts i p
+    part_i =
+        let there = part.1.is_part in
+        let same : part.0 ≡ p = cc in
+        subst (λ (k : ℕ). IsPart d octet parts i k) same part.1
 
-  module _ (i j p q : ℕ) (less : i < j) (part_i : IsPart d octet parts i p) (at_j : slice_get parts j ≡ Some q) where
     -- the overlaps of these two
     record IsPair (c : Conflict) : Type 0 where
       word_i : List ℕ
@@ -329,6 +326,10 @@ module _ (d : DescV) (node : ℕ) (parts : List ℕ) (at : slice_get d.nodes nod
 -- ---- the alternatives from the last one back
 
 module _ (d : DescV) (octet : ℕ) (parts : List ℕ) where
+  -- the keys of the alternatives from one on, and the first of them that overlaps
+  abbrev pub AreLater : List ℕ → Option ℕ → ℕ → Type 0
+  AreLater keys first from = KeysAre keys (HasKeyFrom d octet parts from) × IsLeastFrom from (Overlaps d octet parts) first
+
   pub keys_none : (empty : List ℕ) (count : ℕ) → length parts ≤ count → KeysAre empty (λ key mark. ⊥) → KeysAre empty (HasKeyFrom d octet parts count)
   keys_none empty count all none word mark is = (
     (λ h. absurd ((none word mark is).0 h)),
@@ -419,7 +420,7 @@ module _ (d : DescV) (octet : ℕ) (parts : List ℕ) where
             is_w = is_w;
             key_v = (are o.word_j o.mark_j is_v).1 o.key_j;
             key_w = (are_own o.word_i key.0 is_w).1 key.1;
-            begun = turned o.word_i o.word_j o.begun;
+            begun = swapped o.word_i o.word_j o.begun;
             under_v = inr (o.word_j, refl);
             under_w = inr (o.word_i, refl);
           }
@@ -434,7 +435,7 @@ module _ (d : DescV) (octet : ℕ) (parts : List ℕ) where
             part = record { is_part = at; real = real };
             key_i = (m.mark_w, (are_own m.w m.mark_w m.is_w).0 m.key_w);
             key_j = (are m.v m.mark_v m.is_v).0 m.key_v;
-            begun = turned m.v m.w m.begun;
+            begun = swapped m.v m.w m.begun;
           }
 
       -- the least one after this alternative, by the test whether its table meets that of the later ones

@@ -11,8 +11,7 @@ use Rattle.csn_certify.specs.declared.conflict.Conflict.{Conflict}
 use Rattle.csn_certify.specs.declared.conflict.Conflict.TheVariants.{TwoEmpty, NotFirm, Overlap, EmptyClash, LoopClash, NotLast}
 use Rattle.csn_certify.specs.Conflicts.{IsConflict, many_not_firm, times_not_firm, loop_clash, not_last, rank_of, NotAfter}
 use Rattle.csn_certify.specs.Search.{IsUnder, IsFirstUnder, IsLeastFrom, IsClashing, MayEndAt, IsFollowed, IsLastNode}
-use Rattle.csn_certify.proofs.Pieces.{order, equal_numbers, first_less, second_less}
-use Rattle.csn_certify.proofs.Searching.{NoneBelow, none_of, found_at, widen, least_number, by_number, same_number, first_of_one, branch_clash}
+use Rattle.csn_certify.proofs.Searching.{NoneBelow, gone_through, found_at, widen, least_number, by_number, first_behind, first_of_one, branch_clash}
 use Rattle.csn_certify.proofs.ConflictKinds.{TimesFits, ManyFits, LastFits, times_fits, many_fits, last_fits}
 
 -- ---- by number
@@ -69,7 +68,7 @@ module _ (d : DescV) (node part : ℕ) (at : slice_get d.nodes node ≡ Some (Ma
           elim (of_many [] other under holds) [
             | case_firm is b ↦ subst (λ (e : Conflict). NotAfter (rank_of (NotFirm node 0)) (rank_of e)) (sym is) (first_of_one (rank_of (NotFirm node 0)))
             | case_clash o b is r s ↦ subst (λ (e : Conflict). NotAfter (rank_of (NotFirm node 0)) (rank_of e)) (sym is)
-                (same_number node (2 ∷ 0 ∷ []) (3 ∷ o ∷ 5 ∷ b ∷ []) (inl (lit< tt)))
+                (first_behind (node ∷ []) (2 ∷ 0 ∷ []) (3 ∷ o ∷ 5 ∷ b ∷ []) (inl (lit< tt)))
           ]
 
   -- and where it is, there are clashes alone
@@ -112,25 +111,14 @@ module _ (d : DescV) (node part : ℕ) (at : slice_get d.nodes node ≡ Some (Ma
         let h = of_clash octet other under holds in
         let up = least_number 0 bit h.0 (IsClashing d part node octet) least (omega arith) h.3 in
         subst (λ (e : Conflict). NotAfter (rank_of (LoopClash node octet bit)) (rank_of e)) (sym h.1)
-        (same_number node (3 ∷ octet ∷ 5 ∷ bit ∷ []) (3 ∷ octet ∷ 5 ∷ h.0 ∷ []) (same_number 3 (octet ∷ 5 ∷ bit ∷ []) (octet ∷ 5 ∷ h.0 ∷ [])
-        (same_number octet (5 ∷ bit ∷ []) (5 ∷ h.0 ∷ []) (same_number 5 (bit ∷ []) (h.0 ∷ []) (by_number bit h.0 [] [] up (λ same. tt))))))),
+        (first_behind (node ∷ 3 ∷ octet ∷ 5 ∷ []) (bit ∷ []) (h.0 ∷ []) (by_number bit h.0 [] [] up (λ same. tt)))),
   )
 
   -- the octet positions have been gone through
   pub loops_end : (count : ℕ) → 8 ≤ count → NoneBelow d (node ∷ 3 ∷ []) count → IsFirstUnder d (node ∷ 3 ∷ []) None
-  loops_end count all below = none_of d (node ∷ 3 ∷ []) (branch_clash node) each
-    where
-      past : (x : ℕ) → count ≤ x → IsFirstUnder d (node ∷ 3 ∷ x ∷ []) None
-      past x over =
-          loop_not_reached x (λ reached. let small = reached_small d reached in absurd (omega (arith, small, over, all)))
-
-      each : (x : ℕ) → IsFirstUnder d (node ∷ 3 ∷ x ∷ []) None
-      each x =
-          elim (order x count) [
-            | first_less lower ↦ below x lower
-            | equal_numbers same ↦ past x (omega arith)
-            | second_less higher ↦ past x (omega arith)
-          ]
+  loops_end count all below =
+      gone_through d (node ∷ 3 ∷ []) count (branch_clash node) below
+      (λ x over. loop_not_reached x (λ reached. let small = reached_small d reached in absurd (omega (arith, small, over, all))))
 
 -- ---- what must be last
 

@@ -88,6 +88,18 @@ module _ (d : DescV) where
       let next = next_number front under.0 c branch under.1 in
       none next.number c (under_more front next.rest next.number c next.is) holds
 
+  -- and so where the next numbers have been gone through, and there is none behind
+  pub gone_through : (front : List ℕ) (count : ℕ) → IsBranch front → NoneBelow front count → ((x : ℕ) → count ≤ x → IsFirstUnder d (front ++ x ∷ []) None) → IsFirstUnder d front None
+  gone_through front count branch below past = none_of front branch each
+    where
+      each : (x : ℕ) → IsFirstUnder d (front ++ x ∷ []) None
+      each x =
+          elim (order x count) [
+            | first_less lower ↦ below x lower
+            | equal_numbers same ↦ past x (omega arith)
+            | second_less higher ↦ past x (omega arith)
+          ]
+
 -- ---- the numbers that ranks begin with
 
 pub branch_all : IsBranch []
@@ -154,21 +166,13 @@ module _ (d : DescV) where
 
   -- the nodes have been gone through
   pub nodes_end : (count : ℕ) → length d.nodes ≤ count → NoneBelow d [] count → IsFirstUnder d [] None
-  nodes_end count all below = none_of d [] branch_all each
+  nodes_end count all below = gone_through d [] count branch_all below past
     where
-      each : (x : ℕ) → IsFirstUnder d (x ∷ []) None
-      each x =
-          elim (order x count) [
-            | first_less lower ↦ below x lower
-            | equal_numbers same ↦ past x (omega arith)
-            | second_less higher ↦ past x (omega arith)
-          ]
-        where
-          past : (y : ℕ) → count ≤ y → IsFirstUnder d (y ∷ []) None
-          past y over c under holds =
-              let here = node_under y [] c under in
-              let inside = node_inside c holds in
-              absurd (omega (arith, all, over, here, inside))
+      past : (y : ℕ) → count ≤ y → IsFirstUnder d (y ∷ []) None
+      past y over c under holds =
+          let here = node_under y [] c under in
+          let inside = node_inside c holds in
+          absurd (omega (arith, all, over, here, inside))
 
   pub first_of_all : (r : Option Conflict) → IsFirstUnder d [] r → IsFirstOrNone d r
   first_of_all None h = λ c holds. h c (rank_of c, refl) holds
@@ -218,9 +222,6 @@ by_number x y xs ys most rest =
       | equal_numbers same ↦ inr (same, rest same)
       | second_less higher ↦ absurd (omega arith)
     ]
-
-pub same_number : (x : ℕ) (xs ys : List ℕ) → NotAfter xs ys → NotAfter (x ∷ xs) (x ∷ ys)
-same_number x xs ys rest = inr (refl, rest)
 
 -- the second number of a rank
 pub classes : (node x : ℕ) (c : Conflict) → IsUnder (node ∷ x ∷ []) c → ((x ≡ 1) ⊎ (x ≡ 2)) ⊎ (x ≡ 3)

@@ -89,7 +89,7 @@ module _ (d : DescV) (look : LookV) (parts : List ℕ) (octet other : ℕ) (keys
       by_entry : (e : Entry) → Tells d parts other held t.none e → Tells d parts octet held t.none e
       by_entry Refuse h = without_here h
       by_entry Wait h = without_here h
-      by_entry (Take j bits) h = ((λ enough. begins_here (h.0 enough)), (λ few. without_here (h.1 few)))
+      by_entry (Take bits j) h = ((λ enough. begins_here (h.0 enough)), (λ few. without_here (h.1 few)))
 
 -- ---- one table more
 

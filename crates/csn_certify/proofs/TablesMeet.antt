@@ -11,7 +11,7 @@ use Rattle.csn_certify.specs.Overlaps.{AreBegun, Meets, MeetUnder}
 use Rattle.csn_certify.proofs.Pieces.{begun_both}
 use Rattle.csn_certify.proofs.KeyOrder.{with_meets}
 
-swapped : (v w : List ℕ) → AreBegun v w → AreBegun w v
+pub swapped : (v w : List ℕ) → AreBegun v w → AreBegun w v
 swapped v w (inl long) = inr long
 swapped v w (inr long) = inl long
 
@@ -73,9 +73,9 @@ key_meets left right word is l (inr r) =
       under_w = inr (r.next ∷ r.back, refl);
     }
 
--- what is under a longer word is under the word
-pub under_front : (left right word : List ℕ) (bit : ℕ) → MeetUnder left right (word ++ bit ∷ []) → MeetUnder left right word
-under_front left right word bit m =
+-- the same keys, where they are under another word
+under_other : (left right word other : List ℕ) (m : MeetUnder left right word) → AreBegun other m.v → AreBegun other m.w → MeetUnder left right other
+under_other left right word other m under_v under_w =
     record {
       v = m.v;
       w = m.w;
@@ -86,9 +86,14 @@ under_front left right word bit m =
       key_v = m.key_v;
       key_w = m.key_w;
       begun = m.begun;
-      under_v = shorter m.v m.under_v;
-      under_w = shorter m.w m.under_w;
+      under_v = under_v;
+      under_w = under_w;
     }
+
+-- what is under a longer word is under the word
+pub under_front : (left right word : List ℕ) (bit : ℕ) → MeetUnder left right (word ++ bit ∷ []) → MeetUnder left right word
+under_front left right word bit m =
+    under_other left right (word ++ bit ∷ []) word m (shorter m.v m.under_v) (shorter m.w m.under_w)
   where
     shorter : (x : List ℕ) → AreBegun (word ++ bit ∷ []) x → AreBegun word x
     shorter x (inl long) = begun_both word (bit ∷ []) x long.0 [] [] {b = word ++ bit ∷ []} {c = x ++ long.0} refl refl (ap (λ l. l ++ []) long.1)
@@ -132,19 +137,9 @@ next_bit left right word none_l none_r m =
   where
     under : (bit : ℕ) (x y : List ℕ) → m.v ≡ word ++ bit ∷ x → m.w ≡ word ++ bit ∷ y → MeetUnder left right (word ++ bit ∷ [])
     under bit x y is_v is_w =
-        record {
-          v = m.v;
-          w = m.w;
-          mark_v = m.mark_v;
-          mark_w = m.mark_w;
-          is_v = m.is_v;
-          is_w = m.is_w;
-          key_v = m.key_v;
-          key_w = m.key_w;
-          begun = m.begun;
-          under_v = inr (x, is_v ∙ sym (append_assoc word (bit ∷ []) x));
-          under_w = inr (y, is_w ∙ sym (append_assoc word (bit ∷ []) y));
-        }
+        under_other left right word (word ++ bit ∷ []) m
+        (inr (x, is_v ∙ sym (append_assoc word (bit ∷ []) x)))
+        (inr (y, is_w ∙ sym (append_assoc word (bit ∷ []) y)))
 
     by_bit : (bit : ℕ) (x y : List ℕ) → bit ≤ 1 → m.v ≡ word ++ bit ∷ x → m.w ≡ word ++ bit ∷ y → MeetUnder left right (word ++ 0 ∷ []) ⊎ MeetUnder left right (word ++ 1 ∷ [])
     by_bit zero x y small is_v is_w = inl (under 0 x y is_v is_w)

@@ -18,7 +18,7 @@ use Rattle.csn_certify.specs.PickTables.{HasEntries, entry_of}
 abbrev pub started : Entry → Entry
 started Refuse = Wait
 started Wait = Wait
-started (Take j bits) = Take j bits
+started (Take bits j) = Take bits j
 
 -- a word of at least so many bits that goes on from this one and only begins a key is one behind which all words of
 -- one size are keys
@@ -36,10 +36,10 @@ IsFresh marks word =
 -- what the keys of alternative j make of the entry of a word
 pub data IsFilled (marks : List ℕ) (j : ℕ) (held : List ℕ) (old new : Entry) : Type 0 where
   with_key :
-      (bits : ℕ) → BeginsWithKey marks held → bits ≤ length held → new ≡ Take j bits
+      (bits : ℕ) → BeginsWithKey marks held → bits ≤ length held → new ≡ Take bits j
       → IsFilled marks j held old new
   with_full :
-      (bits : ℕ) → ¬ BeginsWithKey marks held → IsFull marks held bits → new ≡ Take j bits
+      (bits : ℕ) → ¬ BeginsWithKey marks held → IsFull marks held bits → new ≡ Take bits j
       → IsFilled marks j held old new
   with_start :
       ¬ BeginsWithKey marks held → StartsKey marks held → ((bits : ℕ) → ¬ IsFull marks held bits) → new ≡ started old
@@ -50,7 +50,7 @@ pub data IsFilled (marks : List ℕ) (j : ℕ) (held : List ℕ) (old new : Entr
 
 -- the alternative is taken, by so many bits
 abbrev pub IsTaken : ℕ → ℕ → List ℕ → Entry → Entry → Type 0
-IsTaken j bits held old new = new ≡ Take j bits
+IsTaken j bits held old new = new ≡ Take bits j
 
 -- the entries of words that go on from this one have changed by the relation, and no others
 abbrev pub FillsUnder : List ℕ → ℕ → (List ℕ → Entry → Entry → Type 0) → List Entry → List Entry → Type 0

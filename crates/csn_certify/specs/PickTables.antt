@@ -25,7 +25,7 @@ pub record PickTableV : Type 0 where
 abbrev pub content_of : Entry → Option (Option (ℕ × ℕ))
 content_of Refuse = None
 content_of Wait = Some None
-content_of (Take j bits) = Some (Some (j, bits))
+content_of (Take bits j) = Some (Some (bits, j))
 
 abbrev pub content_entry : Option (Option (ℕ × ℕ)) → Entry
 content_entry None = Refuse
@@ -35,7 +35,7 @@ content_entry (Some (Some p)) = Take p.0 p.1
 abbrev pub content_back : (e : Entry) → content_entry (content_of e) ≡ e
 content_back Refuse = refl
 content_back Wait = refl
-content_back (Take j bits) = refl
+content_back (Take bits j) = refl
 
 abbrev pub entry_code : Coded Entry
 entry_code = code_by (Option (Option (ℕ × ℕ))) (coded_option (coded_option (coded× coded_ℕ coded_ℕ))) content_of content_entry content_back
@@ -104,7 +104,7 @@ AreWithin blocks tables = (at : ℕ) (t : KeptTable) → slice_get tables at ≡
 abbrev pub number_of : Entry → ℕ
 number_of Refuse = 1
 number_of Wait = 2
-number_of (Take j bits) = 256 * j + bits + 3
+number_of (Take bits j) = 256 * j + bits + 3
 
 abbrev pub digest_on : ℕ → List Entry → ℕ
 digest_on digest [] = digest
@@ -122,7 +122,7 @@ module _ (d : DescV) (parts : List ℕ) (octet : ℕ) where
   abbrev pub Tells : List ℕ → Option ℕ → Entry → Type 0
   Tells held none Refuse = AreWithoutKey d parts octet held none false
   Tells held none Wait = AreWithoutKey d parts octet held none true
-  Tells held none (Take j bits) =
+  Tells held none (Take bits j) =
       (bits ≤ length held → BeginsWithKey d 12 parts octet held j)
       × (length held < bits → AreWithoutKey d parts octet held none true)
 

@@ -87,8 +87,8 @@ impl Filling<'_> {
         ensures fills { FillsUnder word.now self.now.width (IsTaken self.now.alternative bits) entries.old entries.new }
     {
         let entry = Entry::Take {
-            alternative: self.alternative,
             bits,
+            alternative: self.alternative,
         };
         let place = word.place();
         for more in 0..self.width - word.len() + 1 {
@@ -140,7 +140,7 @@ impl Entry {
         match self {
             Entry::Refuse => Entry::Wait,
             Entry::Wait => Entry::Wait,
-            Entry::Take { alternative, bits } => Entry::Take { alternative, bits },
+            Entry::Take { bits, alternative } => Entry::Take { bits, alternative },
         }
     }
 }

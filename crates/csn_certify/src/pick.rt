@@ -66,7 +66,7 @@ impl Asked<'_> {
         match table.entry(self.held) {
             Entry::Refuse => self.without_key(node, table.none(), false),
             Entry::Wait => self.without_key(node, table.none(), true),
-            Entry::Take { alternative, bits } => {
+            Entry::Take { bits, alternative } => {
                 if bits <= self.held.len() {
                     Pick::Take(alternative)
                 } else {

@@ -17,7 +17,7 @@ pub(crate) enum Entry {
     Wait,
     /// They begin with a key of this alternative where there are so many of them, and are its beginning where
     /// there are fewer.
-    Take { alternative: u16, bits: u8 },
+    Take { bits: u8, alternative: u16 },
 }
 
 impl Entry {
@@ -28,7 +28,7 @@ impl Entry {
         match self {
             Entry::Refuse => 1,
             Entry::Wait => 2,
-            Entry::Take { alternative, bits } => 256 * (alternative as u64) + bits as u64 + 3,
+            Entry::Take { bits, alternative } => 256 * (alternative as u64) + bits as u64 + 3,
         }
     }
 }

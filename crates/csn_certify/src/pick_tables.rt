@@ -30,7 +30,7 @@ pub(crate) struct PickTables {
     blocks: Blocks,
     tables: Vec<KeptTable>,
     // for each node, and each octet position from 0 to 7, which table it has
-    numbers: Vec<usize>,
+    numbers: Vec<u32>,
 }
 
 impl Model for PickTables {
@@ -83,7 +83,7 @@ impl PickTables {
         requires there { (t : PickTableV) × (table_of self.now node octet ≡ Some t) }
         ensures { table_of self.now node octet ≡ Some result }
     {
-        self.of(self.numbers.as_slice()[place(node, octet)])
+        self.of(self.numbers.as_slice()[place(node, octet)] as usize)
     }
 
     /// The table with this number.
@@ -126,7 +126,7 @@ impl PickTables {
         node: u16,
         parts: &Parts,
         octet: u8,
-    ) -> Result<usize, NoMemory>
+    ) -> Result<u32, NoMemory>
         requires known { IsSurveyed known.now.desc.now known.now.look.now known.now.reach.now }
         requires choice { slice_get known.now.desc.now.nodes node ≡ Some (Choice parts.now) }
         requires octet { octet ≤ 7 }
@@ -150,7 +150,7 @@ impl PickTables {
     }
 
     /// The number of the table of a choice at an earlier octet position, where the alternatives have the same keys.
-    fn shared(&self, known: &Search, node: u16, parts: &Parts, octet: u8) -> Option<usize>
+    fn shared(&self, known: &Search, node: u16, parts: &Parts, octet: u8) -> Option<u32>
         requires known { IsSurveyed known.now.desc.now known.now.look.now known.now.reach.now }
         requires choice { slice_get known.now.desc.now.nodes node ≡ Some (Choice parts.now) }
         requires octet { octet ≤ 7 }
@@ -166,7 +166,7 @@ impl PickTables {
     }
 
     /// Puts a number at a place.
-    fn put(&mut self, place: usize, number: usize)
+    fn put(&mut self, place: usize, number: u32)
         requires { place < length self.old.numbers }
         ensures tables { self.new.tables ≡ self.old.tables }
         ensures numbers { self.new.numbers ≡ slice_set self.old.numbers place number }
@@ -175,20 +175,23 @@ impl PickTables {
     }
 
     /// Keeps the table of some entries, and answers its number.
-    fn keep(&mut self, alloc: Global, filled: Filled) -> Result<usize, NoMemory>
+    fn keep(&mut self, alloc: Global, filled: Filled) -> Result<u32, NoMemory>
         requires { HasEntries filled.width filled.entries.items }
         ensures number { IfOk result (λ number. (t : PickTableV) × (slice_get self.new.tables number ≡ Some t) × IsTableOf filled t) }
         ensures numbers { self.new.numbers ≡ self.old.numbers }
         ensures more { (more : List PickTableV) × (self.new.tables ≡ self.old.tables ++ more) }
     {
-        let index = self.blocks.keep_all(alloc, filled.entries.as_slice())?;
         let number = self.tables.len();
+        if number > u32::MAX as usize {
+            return Err(NoMemory);
+        }
+        let index = self.blocks.keep_all(alloc, filled.entries.as_slice())?;
         self.tables.push(KeptTable {
             none: filled.none,
             width: filled.width,
             index,
         })?;
-        Ok(number)
+        Ok(number as u32)
     }
 }
 
@@ -217,7 +220,7 @@ fn have_same_keys(known: &Search, parts: &Parts, octet: u8, other: u8) -> bool
 }
 
 /// As many numbers as there are nodes and octet positions.
-fn no_numbers(alloc: Global, count: u16) -> Result<Vec<usize>, NoMemory>
+fn no_numbers(alloc: Global, count: u16) -> Result<Vec<u32>, NoMemory>
     ensures { IfOk result (λ numbers. length numbers.items ≡ 8 * count) }
 {
     match vec![in alloc; 0; 8 * count as usize] {

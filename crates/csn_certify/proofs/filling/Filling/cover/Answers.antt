@@ -5,7 +5,7 @@ use Rattle.csn_certify.proofs.Covering.{level_is, cover_none, cover_more, cover_
 use Rattle.csn_certify.proofs.filling.Filling.cover.Goals as goal
 
 pub loop-more-init : goal.loop-more-init
-loop-more-init c = (c.requires.size, cover_none (place_of c.args.word.now) (Take c.args.self.now.alternative c.args.bits) c.args.entries.now)
+loop-more-init c = (c.requires.size, cover_none (place_of c.args.word.now) (Take c.args.bits c.args.self.now.alternative) c.args.entries.now)
 
 pub put_all-requires-clause-within : goal.put_all-requires-clause-within
 put_all-requires-clause-within c =
@@ -26,7 +26,7 @@ loop-more-preserved c =
     let short = c.requires.within in
     let level = level_is c.args.self.now.width more place c.args.word.now c.requires.word c.requires.size.short (omega (arith, size, test, short)) c.place-place.ensures.value in (
       record { short = c.requires.size.short; count = c.put_all.ensures.size ∙ c.loop-more.invariant.0.count },
-      cover_more (place_of c.args.word.now) more (place * 2 ^ more % 2 ^ 64) (place * 2 ^ more % 2 ^ 64 + 1 * 2 ^ more % 2 ^ 64) (Take c.args.self.now.alternative c.args.bits) c.args.entries.now c.loop-more.entries c.put_all.new.entries
+      cover_more (place_of c.args.word.now) more (place * 2 ^ more % 2 ^ 64) (place * 2 ^ more % 2 ^ 64 + 1 * 2 ^ more % 2 ^ 64) (Take c.args.bits c.args.self.now.alternative) c.args.entries.now c.loop-more.entries c.put_all.new.entries
           level.first_is level.end_is c.loop-more.invariant.1 c.put_all.ensures.put c.put_all.ensures.before c.put_all.ensures.behind,
     )
 

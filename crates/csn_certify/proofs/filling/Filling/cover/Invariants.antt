@@ -6,4 +6,4 @@ use Rattle.csn_certify.proofs.filling.Filling.cover.Given as goal
 
 abbrev pub invariant-loop-more : goal.invariant-loop-more
 invariant-loop-more l =
-    HasEntries l.self.width l.entries × Covered (place_of l.word) l.more (Take l.self.alternative l.bits) l.initial.entries l.entries
+    HasEntries l.self.width l.entries × Covered (place_of l.word) l.more (Take l.bits l.self.alternative) l.initial.entries l.entries

@@ -10,6 +10,9 @@ invariant_of-self c =
     let more = c.keep_all.ensures.more in
     all_still_within c.self.inside.blocks c.keep_all.new.self more.0 c.self.inside.tables.items more.1 c.self.invariant
 
+pub returns-then-number-clause-more : goal.returns-then-number-clause-more
+returns-then-number-clause-more c = ([], sym (append-nil c.args.self.now.tables))
+
 pub returns-in_err-index-clause-more : goal.returns-in_err-index-clause-more
 returns-in_err-index-clause-more c =
     let more = c.keep_all.ensures.more in (

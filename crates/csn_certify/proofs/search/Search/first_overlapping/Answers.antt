@@ -1,10 +1,9 @@
 use Rattle.std.proofs.Common.{◌≡◌, ℕ, ◌+◌, ◌-◌, ◌≤◌, length, subst, arith}
-use Rattle.csn_look.specs.KeyMarks.{KeysAre}
 use Rattle.csn_certify.specs.Conflicts.{IsNull}
 use Rattle.csn_certify.specs.Search.{IsLeastFrom}
-use Rattle.csn_certify.specs.Overlaps.{HasKeyFrom, Overlaps}
+use Rattle.csn_certify.specs.Overlaps.{Overlaps}
 use Rattle.csn_certify.proofs.SearchFacts.{part_inside, rows_inside, denied}
-use Rattle.csn_certify.proofs.OverlapSearch.{keys_none, least_none, keys_null, keys_more, null_overlaps, least_stays, least_then, least_else}
+use Rattle.csn_certify.proofs.OverlapSearch.{AreLater, keys_none, least_none, keys_null, keys_more, null_overlaps, least_stays, least_then, least_else}
 use Rattle.csn_certify.proofs.search.Search.first_overlapping.Goals.{then-tables_meet, else-tables_meet}
 use Rattle.csn_certify.proofs.search.Search.first_overlapping.Goals as goal
 
@@ -31,8 +30,7 @@ loop-i-preserved-then-is_null c =
     let o = c.args.octet in
     let i = c.loop-i.i - 1 in
     let next : c.loop-i.i ≡ i + 1 = omega (arith, c.loop-i-test.true) in
-    let before : KeysAre c.loop-i.later (HasKeyFrom d o parts (i + 1)) × IsLeastFrom (i + 1) (Overlaps d o parts) c.loop-i.first =
-    subst (λ (n : ℕ). KeysAre c.loop-i.later (HasKeyFrom d o parts n) × IsLeastFrom n (Overlaps d o parts) c.loop-i.first) next c.loop-i.invariant in
+    let before = subst (AreLater d o parts c.loop-i.later c.loop-i.first) next c.loop-i.invariant in
     let null = c.is_null.ensures.0 c.if-is_null.true in (
       keys_null d o parts i c.get-part.result c.get-part.ensures c.loop-i.later null before.0,
       least_stays d o parts i c.get-part.result c.get-part.ensures c.loop-i.first (null_overlaps d o parts i c.get-part.result c.get-part.ensures null) before.1,
@@ -45,8 +43,7 @@ loop-i-preserved c =
     let o = c.args.octet in
     let i = c.loop-i.i - 1 in
     let next : c.loop-i.i ≡ i + 1 = omega (arith, c.loop-i-test.true) in
-    let before : KeysAre c.loop-i.later (HasKeyFrom d o parts (i + 1)) × IsLeastFrom (i + 1) (Overlaps d o parts) c.loop-i.first =
-    subst (λ (n : ℕ). KeysAre c.loop-i.later (HasKeyFrom d o parts n) × IsLeastFrom n (Overlaps d o parts) c.loop-i.first) next c.loop-i.invariant in
+    let before = subst (AreLater d o parts c.loop-i.later c.loop-i.first) next c.loop-i.invariant in
     let real = denied c.is_null.result (IsNull d c.get-part.result) c.is_null.ensures c.if-is_null.false in
     let own = c.key_table-table.ensures.keys d c.requires.known.keys in (
       keys_more d o parts i c.get-part.result c.get-part.ensures c.loop-i.later c.key_table-table.result.now c.add_all.new.self real own c.in_ok-add_all.ensures.added before.0,
