@@ -8,6 +8,7 @@ use Rattle.csn_look.specs.Keys.{IsNotFirm, IsFirm}
 use Rattle.csn_look.specs.Starts.{InStart, NodeStarts, starts_at, starts_choice}
 use Rattle.csn_look.specs.Reached.{Reached}
 use Rattle.csn_look.proofs.Handing.ReachedParts.{reached_small}
+use Rattle.csn_claims.proofs.Pieces.{order, equal_numbers, first_less, second_less}
 use Rattle.csn_certify.specs.declared.conflict.Conflict.{Conflict}
 use Rattle.csn_certify.specs.declared.conflict.Conflict.TheVariants.{TwoEmpty, NotFirm, Overlap, EmptyClash, LoopClash, NotLast}
 use Rattle.csn_certify.specs.Conflicts.{IsNull, IsConflict, two_empty, choice_not_firm, empty_clash, rank_of, NotAfter}

@@ -12,6 +12,7 @@ use Rattle.csn_look.specs.Keys.{InKeys}
 use Rattle.csn_look.specs.Full.{IsFull}
 use Rattle.csn_look.proofs.Basics.Places.{word_take, Numbered, numbered}
 use Rattle.csn_look.proofs.Tables.Products.{word_join}
+use Rattle.csn_claims.proofs.Pieces.{begun_both}
 use Rattle.csn_certify.specs.declared.pick_table.Entry.{Entry}
 use Rattle.csn_certify.specs.declared.pick_table.Entry.TheVariants.{Refuse, Wait, Take}
 use Rattle.csn_certify.specs.Conflicts.{IsNull, IsBegunBy}
@@ -19,7 +20,6 @@ use Rattle.csn_certify.specs.Picks.{BeginsWithKey, BeginsKey}
 use Rattle.csn_certify.specs.Choosing.{IsNone, BeginsKeyOf, StandsTo, AreWithoutKey}
 use Rattle.csn_certify.specs.PickTables.{entry_of, Tells}
 use Rattle.csn_certify.specs.Filling.{started, IsDeep, IsFilled, with_key, with_full, with_start, with_none, FillsUnder, AreEmpty, HasMarks, IsFullOf, AreDeep, AreApart}
-use Rattle.csn_certify.proofs.Pieces.{begun_both}
 use Rattle.csn_certify.proofs.FillingFacts.{begins_itself, full_on, full_begins, full_fresh}
 use Rattle.csn_certify.proofs.MoreHeld.{key_on}
 use Rattle.csn_certify.proofs.Choices as choice

@@ -1,5 +1,5 @@
 -- Nothing may stand behind what must be last, and so a truncation takes its next component where bits lie ahead.
-use Rattle.std.proofs.Common.{◌≡◌, ℕ, ◌+◌, ◌%◌, ◌<◌, ◌↔◌, List, [], ◌∷◌, ◌++◌, length, refl, sym, ◌∙◌, ap, subst, arith, append-nil, length-append, Some, slice_get}
+use Rattle.std.proofs.Common.{◌≡◌, ℕ, ◌+◌, ◌%◌, ◌↔◌, List, [], ◌∷◌, ◌++◌, length, refl, sym, ◌∙◌, ap, subst, arith, append-nil, Some, slice_get}
 use Rattle.csn_desc.specs.declared.node.Node.{Node}
 use Rattle.csn_desc.specs.declared.node.Node.TheVariants.{Trunc}
 use Rattle.csn_desc.specs.TreeV.{TreeV, row, Trees, none, more}
@@ -11,10 +11,11 @@ use Rattle.csn_desc.specs.Laws.{StringsAreFollowed}
 use Rattle.csn_look.specs.Ends.{InEnds, PartsEnd, LeadEnd, ends_at, ends_trunc, parts_end, parts_next, lead_end}
 use Rattle.csn_look.specs.Ends as end
 use Rattle.csn_look.specs.Reached.{Reached, InFollow, MayStandBehind}
+use Rattle.csn_claims.proofs.Pieces.{some_bit}
+use Rattle.csn_claims.proofs.OneTree.{lead_some}
 use Rattle.csn_certify.specs.declared.conflict.Conflict.TheVariants.{NotLast}
 use Rattle.csn_certify.specs.Conflicts.{IsLast, not_last, Certified}
 use Rattle.csn_certify.specs.Ahead.{TakesComponent}
-use Rattle.csn_certify.proofs.Pieces.{some_bit}
 
 -- ---- nothing may stand behind what must be last
 
@@ -45,14 +46,9 @@ module _ (strings : StringsAreFollowed) (d : DescV) where
   components_followed some (follows_trunc h) = h
 
 module _ (d : DescV) where
-  -- some first parts of a truncation have a bit
-  pub lead_some : {parts : List ℕ} {o : ℕ} {v : Values} {b : List ℕ} {ts : Trees} → LeadMean d parts o v b ts → 0 < length b
-  lead_some (lead_last some h) = some
-  lead_some (lead_next b1 b2 cut h others) = let size = ap length cut in omega (arith, lead_some others, length-append b1 b2)
-
   pub no_components : {parts : List ℕ} {o : ℕ} {v : Values} {b : List ℕ} {t : TreeV} → NodeMeans d (Trunc parts) o v b t → b ≡ [] → t ≡ row none
   no_components (means_cut same) nothing = refl
-  no_components (means_trunc h) nothing = let size = ap length nothing in absurd (omega (arith, lead_some h))
+  no_components (means_trunc h) nothing = let size = ap length nothing in absurd (omega (arith, lead_some d h))
 
   -- a component, and the truncation of those behind it
   component_taken : {i o : ℕ} {after : List ℕ} {v : Values} {b : List ℕ} {ts : Trees} → LeadMean d (i ∷ after) o v b ts → TakesComponent d i after o v b ts

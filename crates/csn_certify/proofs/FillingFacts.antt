@@ -9,11 +9,11 @@ use Rattle.csn_look.specs.KeyMarks.{IsWord, has_key, IsKeyOf, BeginsWithKey, Sta
 use Rattle.csn_look.specs.Full.{IsFull}
 use Rattle.csn_look.proofs.Basics.Places.{word_front}
 use Rattle.csn_look.proofs.Tables.Products.{bits_back}
+use Rattle.csn_claims.proofs.Pieces.{begun_both}
 use Rattle.csn_certify.specs.declared.pick_table.Entry.{Entry}
 use Rattle.csn_certify.specs.Conflicts.{IsBegunBy}
 use Rattle.csn_certify.specs.PickTables.{entry_of}
 use Rattle.csn_certify.specs.Filling.{IsFresh, IsDeep, IsFilled, with_key, with_full, with_none, IsTaken, FillsUnder, FillsAt}
-use Rattle.csn_certify.proofs.Pieces.{begun_both}
 
 -- ---- words that go on from a word
 

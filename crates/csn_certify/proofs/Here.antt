@@ -2,11 +2,11 @@
 use Rattle.std.proofs.Common.{◌≡◌, ℕ, ◌+◌, ◌%◌, Bool, List, [], ◌∷◌, ◌++◌, length, ap, subst, arith, length-append, Some, slice_get}
 use Rattle.csn_desc.specs.declared.node.Count.{Count}
 use Rattle.csn_desc.specs.declared.node.Node.{Node}
-use Rattle.csn_desc.specs.declared.node.Node.TheVariants.{Seq, Choice, Times, Many, Trunc, Named}
+use Rattle.csn_desc.specs.declared.node.Node.TheVariants.{Seq, Choice, Times, Many, Named}
 use Rattle.csn_desc.specs.TreeV.{TreeV, Trees}
 use Rattle.csn_desc.specs.Nodes.{DescV}
 use Rattle.csn_desc.specs.Values.{Values, with_value}
-use Rattle.csn_desc.specs.Means.{NMeans, PartsMean, TimesMean, ManyMean, LeadMean, means_at, means_many}
+use Rattle.csn_desc.specs.Means.{NMeans, PartsMean, TimesMean, ManyMean, means_at, means_many}
 use Rattle.csn_desc.specs.Follows.{NFollow, PartsFollow, TimesFollow, ManyFollow, follows_at, follows_many}
 use Rattle.csn_desc.specs.Formed.{Formed, formed, IsDescription, FitWidths}
 use Rattle.csn_look.specs.Nullable.{Nullable}
@@ -15,7 +15,8 @@ use Rattle.csn_desc.specs.Means as mean
 use Rattle.csn_look.specs.Starts.{InStart, NodeStarts, starts_at, starts_many}
 use Rattle.csn_look.specs.Keys.{InKeys}
 use Rattle.csn_look.specs.Beginnings.{Begun, Near}
-use Rattle.csn_look.specs.Reached.{Reached, MayStandBehind}
+use Rattle.csn_look.specs.Reached.{Reached, InFollow}
+use Rattle.csn_claims.proofs.Clear as clear
 use Rattle.csn_certify.specs.Known.{Known}
 
 pub record Here (d : DescV) : Type 0 where
@@ -25,12 +26,13 @@ pub record Here (d : DescV) : Type 0 where
 pub here_of : Known → {d : DescV} → IsDescription d → Here d
 here_of known is = record { known = known; is = is }
 
--- behind bits b of node i, from the place o on, stand the bits x, of which the first may stand there
-pub record Stands (d : DescV) (i o : ℕ) (b x : List ℕ) : Type 0 where
-  pub behind : MayStandBehind d i ((o + length b) % 8) x
+-- where node i ends at the octet position o, the bit may stand next
+abbrev pub Follow : DescV → ℕ → ℕ → ℕ → Type 0
+Follow d i o bit = InFollow d i o (Some bit)
 
-pub end_stands : (d : DescV) (i o : ℕ) (b : List ℕ) → Stands d i o b []
-end_stands d i o b = record { behind = λ bit rest is. absurd (cc) }
+-- behind bits b of node i, from the place o on, stand the bits x, of which the first may stand there
+abbrev pub Stands : DescV → ℕ → ℕ → List ℕ → List ℕ → Type 0
+Stands d i o b x = clear.Stands (Follow d) i o b x
 
 -- a free repetition begins as its part does
 pub many_starts : (d : DescV) {node part octet a : ℕ} → slice_get d.nodes node ≡ Some (Many part) → InStart d node octet a → InStart d part octet a
@@ -113,14 +115,6 @@ module _ (d : DescV) (here : Here d) where
   pub seq_stands : {k i o : ℕ} {v : Values} {parts after b2 x : List ℕ} {ts : Trees} (before b1 : List ℕ) → slice_get d.nodes k ≡ Some (Seq parts) → parts ≡ before ++ i ∷ after → FitWidths d v → PartsMean d after (o + length b1) v b2 ts → Stands d k (o + length b1) b2 x → Stands d i o b1 (b2 ++ x)
   seq_stands {k} {i} {o} {v} {parts} {after} {b2} {x} {ts} before b1 at is widths h s =
       record { behind = here.known.sequence d k i (o + length b1) parts before after v b2 x ts here.is at is widths h s.behind }
-
-  pub lead_stands : {k i o : ℕ} {v : Values} {parts after b2 x : List ℕ} {ts : Trees} (before b1 : List ℕ) → slice_get d.nodes k ≡ Some (Trunc parts) → parts ≡ before ++ i ∷ after → FitWidths d v → LeadMean d after (o + length b1) v b2 ts → Stands d k (o + length b1) b2 x → Stands d i o b1 (b2 ++ x)
-  lead_stands {k} {i} {o} {v} {parts} {after} {b2} {x} {ts} before b1 at is widths h s =
-      record { behind = here.known.truncation d k i (o + length b1) parts before after v b2 x ts here.is at is widths h s.behind }
-
-  pub last_stands : {k i o : ℕ} {parts b x : List ℕ} (before after : List ℕ) → slice_get d.nodes k ≡ Some (Trunc parts) → parts ≡ before ++ i ∷ after → Stands d k o b x → Stands d i o b x
-  last_stands {k} {i} {o} {parts} {b} {x} before after at is s =
-      record { behind = here.known.truncation_last d k i ((o + length b) % 8) parts before after x at is s.behind }
 
   pub times_stands : {k i n o : ℕ} {count : Count} {v : Values} {b2 x : List ℕ} {ts : Trees} (b1 : List ℕ) → slice_get d.nodes k ≡ Some (Times count i) → FitWidths d v → TimesMean d n i (o + length b1) v b2 ts → Stands d k (o + length b1) b2 x → Stands d i o b1 (b2 ++ x)
   times_stands {k} {i} {n} {o} {count} {v} {b2} {x} {ts} b1 at widths h s =

@@ -6,10 +6,10 @@ use Rattle.csn_desc.proofs.BitFacts.{IsBits-front, IsBits-along}
 use Rattle.csn_look.specs.declared.word.Key.{Key}
 use Rattle.csn_look.specs.KeyMarks.{IsWord, has_key, KeysAre}
 use Rattle.csn_look.specs.KeyLists.{IsBefore, cut_first, shorter, lower, IsBeforeAll, IsRising}
+use Rattle.csn_claims.proofs.Pieces.{order, equal_numbers, first_less, second_less}
 use Rattle.csn_certify.specs.Conflicts.{text_of, NotAfter}
 use Rattle.csn_certify.specs.Search.{IsLeastFrom}
 use Rattle.csn_certify.specs.Overlaps.{AreBegun, Meets, MeetsAt}
-use Rattle.csn_certify.proofs.Pieces.{order, equal_numbers, first_less, second_less}
 use Rattle.csn_certify.proofs.Searching.{first_of_one}
 
 -- ---- words as texts

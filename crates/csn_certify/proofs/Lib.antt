@@ -9,9 +9,7 @@ pub mod TablesMeet
 pub mod OverlapSearch
 pub mod ShorterWords
 pub mod Here
-pub mod Pieces
-pub mod Decisions
-pub mod OneTree
+pub mod Clearing
 pub mod PickFacts
 pub mod PicksRight
 pub mod Turns

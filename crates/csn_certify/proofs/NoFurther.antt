@@ -18,12 +18,14 @@ use Rattle.csn_look.specs.Keys.{InKeys}
 use Rattle.csn_look.specs.Reached.{Reached, Turn}
 use Rattle.csn_look.specs.Beginnings.{Near, near_begun, near_within}
 use Rattle.csn_look.proofs.Meaning.ReachFacts.{turn_first, turn_next, turn_reached, parts_end_more, many_end_more, seq_reached, named_reached, many_reached}
+use Rattle.csn_claims.proofs.Pieces.{order, equal_numbers, first_less, second_less, begun_both}
+use Rattle.csn_claims.proofs.FollowFacts.{end_stands, stands_here, behind_first}
+use Rattle.csn_claims.proofs.Decisions.{nothing_behind, null_bits}
+use Rattle.csn_claims.proofs.OneTree.{one_tree}
 use Rattle.csn_certify.specs.declared.conflict.Conflict.TheVariants.{LoopClash}
 use Rattle.csn_certify.specs.Conflicts.{IsNull, loop_clash, Certified}
-use Rattle.csn_certify.proofs.Here.{Here, Stands, end_stands, fits_kept, ends, follows, many_follow_start, keys, near_keys, choice_reached, choice_stands, named_stands, seq_stands, times_stands, many_stands, seq_stands_followed, times_stands_followed, many_stands_followed}
-use Rattle.csn_certify.proofs.Pieces.{order, equal_numbers, first_less, second_less, begun_both}
-use Rattle.csn_certify.proofs.Decisions.{nothing_behind, stands_here, null_bits}
-use Rattle.csn_certify.proofs.OneTree.{one_tree, behind_first}
+use Rattle.csn_certify.proofs.Here.{Here, Follow, Stands, fits_kept, ends, follows, many_follow_start, keys, near_keys, choice_reached, choice_stands, named_stands, seq_stands, times_stands, many_stands, seq_stands_followed, times_stands_followed, many_stands_followed}
+use Rattle.csn_certify.proofs.Clearing.{clear_of}
 use Rattle.csn_certify.proofs.PickFacts.{null_followed, part_null, apart, no_clash}
 
 not_both : (b x : List ℕ) (a : ℕ) (r : List ℕ) → x ≡ a ∷ r → b ++ x ≡ [] → ⊥
@@ -70,7 +72,7 @@ module _ (d : DescV) (most : ℕ) (here : Here d) (certified : Certified d most)
   whole_further : {i o : ℕ} {v : Values} {b whole : List ℕ} {t u : TreeV} (a : ℕ) (r x rest : List ℕ) → x ≡ a ∷ r → Reached d i (o % 8) → FitWidths d v → NMeans d i o v b t → NMeans d i o v whole u → whole ≡ (b ++ x) ++ rest → Stands d i o b x → ⊥
   whole_further {i} {o} {b = b} {whole = whole} a r x rest is reached widths h other e s =
       let together : b ++ (x ++ rest) ≡ whole ++ [] = sym (append_assoc b x rest) ∙ sym e ∙ sym (append-nil whole) in
-      let same = one_tree d most here certified h (x ++ rest) [] reached widths other together (stands_more d a r x rest is s) (end_stands d i o whole) in
+      let same = one_tree d most (Follow d) (clear_of d most here certified) h (x ++ rest) [] reached widths other together (stands_more d a r x rest is s) (end_stands (Follow d) i o whole) in
       let size = ap length (same.words ∙ e) in
       let some = ap length is in
       omega (arith, length-append (b ++ x) rest, length-append b x)
@@ -84,7 +86,7 @@ module _ (d : DescV) (most : ℕ) (here : Here d) (certified : Certified d most)
           | inl null ↦
               let nothing = null_bits d null h in
               let ahead : c ≡ a ∷ r = e ∙ ap (λ l. l ++ x) nothing ∙ is in
-              no_clash d most here certified k o parts at a reached (λ same. differs (sym same)) at_j at_m null (follows d here a r ahead widths followed) (stands_here d most here certified a r nothing is s)
+              no_clash d most here certified k o parts at a reached (λ same. differs (sym same)) at_j at_m null (follows d here a r ahead widths followed) (stands_here (Follow d) a r nothing is s)
           | inr real_p ↦ by_near real real_p (near_keys d here most followed)
         ]
       ]
@@ -132,9 +134,9 @@ module _ (d : DescV) (most : ℕ) (here : Here d) (certified : Certified d most)
     node_further (means_many h) at a r x is reached widths (follows_many f) e s =
         many_further h at a r x is reached (end.many_end refl) widths f e s
     node_further (means_cut {parts = parts} nothing) at a r x is reached widths (follows_trunc f) e s =
-        let none = nothing_behind d most here certified (Trunc parts) x at tt reached widths (means_at (Trunc parts) at (means_cut nothing)) s in absurd (cc)
+        let none = nothing_behind d most (Follow d) (clear_of d most here certified) (Trunc parts) x at tt reached widths (means_at (Trunc parts) at (means_cut nothing)) s in absurd (cc)
     node_further (means_trunc {parts = parts} h) at a r x is reached widths (follows_trunc f) e s =
-        let none = nothing_behind d most here certified (Trunc parts) x at tt reached widths (means_at (Trunc parts) at (means_trunc h)) s in absurd (cc)
+        let none = nothing_behind d most (Follow d) (clear_of d most here certified) (Trunc parts) x at tt reached widths (means_at (Trunc parts) at (means_trunc h)) s in absurd (cc)
     node_further {b = b} (means_window {unit = unit} n counts wide h) at a r x is reached widths (follows_window m other_counts few f) e s =
         let same : n ≡ m = cc in
         let all : length b ≡ unit * m = wide ∙ ap (λ k. unit * k) same in
@@ -148,11 +150,11 @@ module _ (d : DescV) (most : ℕ) (here : Here d) (certified : Certified d most)
     parts_further (parts_end nothing) at before whole a r x is reached ended widths f e s = elim f [ ]
     parts_further (parts_next {parts = after} b1 b2 cut h others) at before whole a r x is reached ended widths (parts_here f) e s =
         let later = some_behind b2 x a r is in
-        no_further h later.0 later.1 (b2 ++ x) later.2 (seq_reached d after at whole reached ended) widths f (piece b1 b2 x cut e) (seq_stands d here before b1 at whole (fits_kept d here widths h) others (behind_first d b1 b2 cut s))
+        no_further h later.0 later.1 (b2 ++ x) later.2 (seq_reached d after at whole reached ended) widths f (piece b1 b2 x cut e) (seq_stands d here before b1 at whole (fits_kept d here widths h) others (behind_first (Follow d) b1 b2 cut s))
     parts_further {k = k} {o = o} {v = v} (parts_next {i = i} {parts = after} b1 b2 cut h others) at before whole a r x is reached ended widths (parts_later c1 c2 other_cut g f) e s =
-        let left = behind_first d b1 b2 cut s in
+        let left = behind_first (Follow d) b1 b2 cut s in
         let together = sym (piece b1 b2 x cut e) ∙ other_cut in
-        let same = one_tree d most here certified h (b2 ++ x) c2 (seq_reached d after at whole reached ended) widths g together (seq_stands d here before b1 at whole (fits_kept d here widths h) others left) (seq_stands_followed d here k before c1 at whole (fits_kept d here widths g) f) in
+        let same = one_tree d most (Follow d) (clear_of d most here certified) h (b2 ++ x) c2 (seq_reached d after at whole reached ended) widths g together (seq_stands d here before b1 at whole (fits_kept d here widths h) others left) (seq_stands_followed d here k before c1 at whole (fits_kept d here widths g) f) in
         let next = sym (cut_behind b1 (b2 ++ x) c1 c2 same.words together) in
         parts_further others at (before ++ i ∷ []) (whole ∙ sym (append_assoc before (i ∷ []) after)) a r x is reached (parts_end_more d ended (ends d here widths h)) (fits_kept d here widths h) (parts_along d i after o v b1 c1 same.words f) next left
 
@@ -161,11 +163,11 @@ module _ (d : DescV) (most : ℕ) (here : Here d) (certified : Certified d most)
     times_further (times_end over nothing) at a r x is reached turn widths (times_later m suc_m c1 c2 other_cut g f) e s = absurd (omega arith)
     times_further (times_next m over b1 b2 cut h others) at a r x is reached turn widths (times_here some f) e s =
         let later = some_behind b2 x a r is in
-        no_further h later.0 later.1 (b2 ++ x) later.2 (turn_reached d at reached over turn) widths f (piece b1 b2 x cut e) (times_stands d here b1 at widths others (behind_first d b1 b2 cut s))
+        no_further h later.0 later.1 (b2 ++ x) later.2 (turn_reached d at reached over turn) widths f (piece b1 b2 x cut e) (times_stands d here b1 at widths others (behind_first (Follow d) b1 b2 cut s))
     times_further {k = k} {o = o} (times_next m over b1 b2 cut h others) at a r x is reached turn widths (times_later l other_over c1 c2 other_cut g f) e s =
-        let left = behind_first d b1 b2 cut s in
+        let left = behind_first (Follow d) b1 b2 cut s in
         let together = sym (piece b1 b2 x cut e) ∙ other_cut in
-        let same = one_tree d most here certified h (b2 ++ x) c2 (turn_reached d at reached over turn) widths g together (times_stands d here b1 at widths others left) (times_stands_followed d here k c1 at widths f) in
+        let same = one_tree d most (Follow d) (clear_of d most here certified) h (b2 ++ x) c2 (turn_reached d at reached over turn) widths g together (times_stands d here b1 at widths others left) (times_stands_followed d here k c1 at widths f) in
         let next = sym (cut_behind b1 (b2 ++ x) c1 c2 same.words together) in
         let count_same : m ≡ l = omega arith in
         times_further others at a r x is reached (turn_next d over turn (ends d here widths h)) widths (times_along d o b1 c1 count_same same.words f) next left
@@ -173,14 +175,14 @@ module _ (d : DescV) (most : ℕ) (here : Here d) (certified : Certified d most)
     many_further : {k i from o : ℕ} {v : Values} {b : List ℕ} {ts : Trees} → ManyMean d i o v b ts → slice_get d.nodes k ≡ Some (Many i) → {c : List ℕ} (a : ℕ) (r x : List ℕ) → x ≡ a ∷ r → Reached d k from → ManyEnd d i from (o % 8) → FitWidths d v → ManyFollow d i o v c → c ≡ b ++ x → Stands d k o b x → ⊥
     many_further {k = k} {o = o} (many_end nothing) at a r x is reached ended widths f e s =
         let ahead = e ∙ ap (λ l. l ++ x) nothing ∙ is in
-        certified (LoopClash k (o % 8) a) (loop_clash at (many_reached d at reached ended) (many_follow_start d here k a r at ahead widths f) (stands_here d most here certified a r nothing is s))
+        certified (LoopClash k (o % 8) a) (loop_clash at (many_reached d at reached ended) (many_follow_start d here k a r at ahead widths f) (stands_here (Follow d) a r nothing is s))
     many_further (many_next b1 b2 cut some h others) at a r x is reached ended widths (many_here f) e s =
         let later = some_behind b2 x a r is in
-        no_further h later.0 later.1 (b2 ++ x) later.2 (many_reached d at reached ended) widths f (piece b1 b2 x cut e) (many_stands d here b1 at widths others (behind_first d b1 b2 cut s))
+        no_further h later.0 later.1 (b2 ++ x) later.2 (many_reached d at reached ended) widths f (piece b1 b2 x cut e) (many_stands d here b1 at widths others (behind_first (Follow d) b1 b2 cut s))
     many_further {k = k} {o = o} (many_next b1 b2 cut some h others) at a r x is reached ended widths (many_later c1 c2 other_cut other_some g f) e s =
-        let left = behind_first d b1 b2 cut s in
+        let left = behind_first (Follow d) b1 b2 cut s in
         let together = sym (piece b1 b2 x cut e) ∙ other_cut in
-        let same = one_tree d most here certified h (b2 ++ x) c2 (many_reached d at reached ended) widths g together (many_stands d here b1 at widths others left) (many_stands_followed d here k c1 at widths f) in
+        let same = one_tree d most (Follow d) (clear_of d most here certified) h (b2 ++ x) c2 (many_reached d at reached ended) widths g together (many_stands d here b1 at widths others left) (many_stands_followed d here k c1 at widths f) in
         let next = sym (cut_behind b1 (b2 ++ x) c1 c2 same.words together) in
         many_further others at a r x is reached (many_end_more d ended (ends d here widths h)) widths (many_along d o b1 c1 same.words f) next left
 

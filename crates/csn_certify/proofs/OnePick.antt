@@ -5,12 +5,12 @@ use Rattle.csn_desc.specs.declared.node.Node.TheVariants.{Choice, Many}
 use Rattle.csn_desc.specs.Nodes.{DescV}
 use Rattle.csn_look.specs.Starts.{InStart}
 use Rattle.csn_look.specs.Reached.{Reached}
+use Rattle.csn_claims.proofs.Pieces.{order, equal_numbers, first_less, second_less, begun_both}
 use Rattle.csn_certify.specs.declared.conflict.Conflict.TheVariants.{TwoEmpty, Overlap}
 use Rattle.csn_certify.specs.declared.pick.Pick.{Pick}
 use Rattle.csn_certify.specs.declared.pick.Pick.TheVariants.{Take, Leave, Wait, Refuse}
 use Rattle.csn_certify.specs.Conflicts.{Certified, two_empty, overlap}
 use Rattle.csn_certify.specs.Picks.{IsAsked, asked_choice, asked_many, BeginsWithKey, BeginsKey, TakesNone, Picks, pick_key, pick_none, pick_wait, pick_refuse, pick_bit, pick_again, pick_leave, pick_ended}
-use Rattle.csn_certify.proofs.Pieces.{order, equal_numbers, first_less, second_less, begun_both}
 
 module _ (d : DescV) (most : ℕ) where
   -- an answer at a choice with these alternatives

@@ -9,12 +9,12 @@ use Rattle.csn_look.specs.KeyMarks.{IsWord, has_key, KeysAre, Adds}
 use Rattle.csn_look.specs.LookKeys.{ListsKeys}
 use Rattle.csn_look.specs.Keys.{InKeys}
 use Rattle.csn_look.specs.Reached.{Reached}
+use Rattle.csn_claims.proofs.Pieces.{order, equal_numbers, first_less, second_less}
 use Rattle.csn_certify.specs.declared.conflict.Conflict.{Conflict}
 use Rattle.csn_certify.specs.declared.conflict.Conflict.TheVariants.{TwoEmpty, NotFirm, Overlap, EmptyClash, LoopClash, NotLast}
 use Rattle.csn_certify.specs.Conflicts.{IsNull, IsConflict, overlap, text_of, rank_of, NotAfter}
 use Rattle.csn_certify.specs.Search.{IsUnder, IsFirstUnder, IsLeastFrom}
 use Rattle.csn_certify.specs.Overlaps.{AreBegun, Meets, MeetsAt, MeetUnder, HasKey, IsFirstBegun, IsPart, HasKeyFrom, Overlaps}
-use Rattle.csn_certify.proofs.Pieces.{order, equal_numbers, first_less, second_less}
 use Rattle.csn_certify.proofs.SearchFacts.{denied}
 use Rattle.csn_certify.proofs.Searching.{IsBranch, NoneBelow, found_at, least_number, first_behind}
 use Rattle.csn_certify.proofs.ConflictKinds.{ChoiceFits, choice_fits}

@@ -16,12 +16,13 @@ use Rattle.csn_look.specs.Starts.{InStart}
 use Rattle.csn_look.specs.Keys.{InKeys}
 use Rattle.csn_look.specs.Reached.{Reached, InFollow}
 use Rattle.csn_look.specs.Beginnings.{Near, near_begun, near_within}
+use Rattle.csn_claims.proofs.Pieces.{order, equal_numbers, first_less, second_less, null_or, begun_both, some_bit, no_front}
+use Rattle.csn_claims.proofs.FollowFacts.{stands_here}
+use Rattle.csn_claims.proofs.Decisions.{null_bits}
 use Rattle.csn_certify.specs.declared.conflict.Conflict.TheVariants.{TwoEmpty, NotFirm, Overlap, EmptyClash, LoopClash}
 use Rattle.csn_certify.specs.Conflicts.{IsNull, IsBegunBy, two_empty, choice_not_firm, overlap, empty_clash, loop_clash, Certified}
 use Rattle.csn_certify.specs.Picks.{BeginsWithKey, BeginsKey, StandsBehind, behind_bit, behind_end, TakesNone}
-use Rattle.csn_certify.proofs.Here.{Here, Stands, nullable, starts, follows, many_start, keys, near_keys, has_key, key_start}
-use Rattle.csn_certify.proofs.Pieces.{order, equal_numbers, first_less, second_less, null_or, begun_both, some_bit, no_front}
-use Rattle.csn_certify.proofs.Decisions.{null_bits, stands_here}
+use Rattle.csn_certify.proofs.Here.{Here, Follow, Stands, nullable, starts, follows, many_start, keys, near_keys, has_key, key_start}
 
 -- numbers are the same where it cannot be that they differ
 pub same_number : (m j : ℕ) → (m ≢ j → ⊥) → m ≡ j
@@ -129,7 +130,7 @@ module _ (d : DescV) (most : ℕ) (here : Here d) (certified : Certified d most)
           let starts_so = key_start d here most o a r is h.key in
           let ahead : x ≡ a ∷ (r ++ (h.begins.0 ++ more)) =
           ap (λ l. l ++ x) (sym nothing) ∙ e ∙ ap (λ l. l ++ more) h.begins.1 ∙ append_assoc h.word h.begins.0 more ∙ ap (λ l. l ++ (h.begins.0 ++ more)) is in
-          no_clash a reached (λ same. differs (sym same)) at_m h.is_part null starts_so (stands_here d most here certified a (r ++ (h.begins.0 ++ more)) nothing ahead s)
+          no_clash a reached (λ same. differs (sym same)) at_m h.is_part null starts_so (stands_here (Follow d) a (r ++ (h.begins.0 ++ more)) nothing ahead s)
 
   -- bits that have a tree at an alternative, where a key of the alternative j is held: it is that one
   pub key_decides : {q j : ℕ} {v : Values} {held b : List ℕ} {t : TreeV} (m : ℕ) (x more : List ℕ) → Reached d k (o % 8) → BeginsWithKey d most parts (o % 8) held j → slice_get parts m ≡ Some q → NMeans d q o v b t → b ++ x ≡ held ++ more → Stands d k o b x → m ≡ j
@@ -282,7 +283,7 @@ module _ (d : DescV) (most : ℕ) (here : Here d) (certified : Certified d most)
           let nothing = null_bits d null meaning in
           let ahead : x ≡ a ∷ (l ++ more) = ap (λ l. l ++ x) (sym nothing) ∙ e ∙ ap (λ l. l ++ more) is in
           let P : List ℕ → Type 0 = λ l. StandsBehind d most k (o % 8) l ended in
-          let follow = stands_here d most here certified a (l ++ more) nothing ahead s in
+          let follow = stands_here (Follow d) a (l ++ more) nothing ahead s in
           no_none m (record { part = q; is_part = at_m; is_null = null; behind = subst P (sym is) (behind_bit follow) })
 
   -- and none are followed, where the block goes on
@@ -308,7 +309,7 @@ module _ (d : DescV) (most : ℕ) (here : Here d) (certified : Certified d most)
   -- where the next bit begins the part, a repetition does not end
   pub goes_on : {k i o : ℕ} {b x : List ℕ} (a : ℕ) (r : List ℕ) → slice_get d.nodes k ≡ Some (Many i) → Reached d i (o % 8) → InStart d i (o % 8) a → b ++ x ≡ a ∷ r → Stands d k o b x → 0 < length b
   goes_on {k} {o = o} {b = []} a r at reached start e s =
-      absurd (certified (LoopClash k (o % 8) a) (loop_clash at reached start (stands_here d most here certified a r refl e s)))
+      absurd (certified (LoopClash k (o % 8) a) (loop_clash at reached start (stands_here (Follow d) a r refl e s)))
   goes_on {b = z ∷ b} a r at reached start e s = omega arith
 
 module _ (d : DescV) (here : Here d) where

@@ -10,12 +10,12 @@ use Rattle.csn_desc.specs.Formed.{FitWidths}
 use Rattle.csn_desc.proofs.Nodewise.{meaning_at}
 use Rattle.csn_look.specs.Starts.{InStart}
 use Rattle.csn_look.specs.Reached.{Reached}
+use Rattle.csn_claims.proofs.Pieces.{no_front}
 use Rattle.csn_certify.specs.declared.pick.Pick.TheVariants.{Take, Leave, Refuse}
 use Rattle.csn_certify.specs.Conflicts.{Certified}
 use Rattle.csn_certify.specs.Picks.{Picks, BeginsWithKey, BeginsKey, TakesNone, pick_key, pick_none, pick_refuse, pick_again, pick_leave, pick_ended}
 use Rattle.csn_certify.specs.Ahead.{LiesAhead}
 use Rattle.csn_certify.proofs.Here.{Here, Stands}
-use Rattle.csn_certify.proofs.Pieces.{no_front}
 use Rattle.csn_certify.proofs.PickFacts.{ChoiceFormed, key_decides, key_decides_followed, none_decides, none_decides_followed, refused_means, refused_follows, goes_on, stops}
 
 -- ---- trees of the kinds of node

@@ -7,6 +7,7 @@ use Rattle.csn_look.specs.Nullable.{Nullable}
 use Rattle.csn_look.specs.Keys.{IsNotFirm, IsFirm}
 use Rattle.csn_look.specs.Reached.{Reached}
 use Rattle.csn_look.proofs.Handing.ReachedParts.{reached_small, end_small}
+use Rattle.csn_claims.proofs.Pieces.{order, equal_numbers, first_less, second_less}
 use Rattle.csn_certify.specs.declared.conflict.Conflict.{Conflict}
 use Rattle.csn_certify.specs.declared.conflict.Conflict.TheVariants.{TwoEmpty, NotFirm, Overlap, EmptyClash, LoopClash, NotLast}
 use Rattle.csn_certify.specs.Conflicts.{IsConflict, many_not_firm, times_not_firm, loop_clash, not_last, rank_of, NotAfter}

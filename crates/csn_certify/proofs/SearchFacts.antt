@@ -34,10 +34,10 @@ use Rattle.csn_look.proofs.Basics.Octets.{has_union, has_none}
 use Rattle.csn_look.proofs.Handing.ReachedParts.{reached_small, parts_below}
 use Rattle.csn_look.proofs.Sets.LookFacts.{follow_has}
 use Rattle.csn_look.proofs.Sets.Telling.{both, together, is_so}
+use Rattle.csn_claims.proofs.Pieces.{order, equal_numbers, first_less, second_less}
 use Rattle.csn_certify.specs.Search.{IsLeastFrom, IsClashing, IsFollowed, MayEndAt, IsNullAt}
 use Rattle.csn_certify.specs.Conflicts.{IsNull}
 use Rattle.std.proofs.lemmas.Option.{slice_get_within}
-use Rattle.csn_certify.proofs.Pieces.{order, equal_numbers, first_less, second_less}
 
 -- a part is a node
 pub part_inside : (d : DescV) (node : ℕ) (parts : List ℕ) (j p : ℕ) → IsDescription d → slice_get d.nodes node ≡ Some (Choice parts) → slice_get parts j ≡ Some p → p < length d.nodes

@@ -4,11 +4,11 @@ use Rattle.std.specs.Prelude.{Result, Ok, Err, IfOk}
 use Rattle.std.proofs.lemmas.List.{append-nil}
 use Rattle.std.proofs.lemmas.Option.{slice_get_within}
 use Rattle.csn_desc.specs.Nodes.{DescV}
+use Rattle.csn_claims.proofs.Pieces.{order, equal_numbers, first_less, second_less}
 use Rattle.csn_certify.specs.declared.conflict.Conflict.{Conflict}
 use Rattle.csn_certify.specs.declared.conflict.Conflict.TheVariants.{TwoEmpty, NotFirm, Overlap, EmptyClash, LoopClash, NotLast}
 use Rattle.csn_certify.specs.Conflicts.{IsConflict, two_empty, choice_not_firm, many_not_firm, times_not_firm, overlap, empty_clash, loop_clash, not_last, rank_of, NotAfter}
 use Rattle.csn_certify.specs.Search.{IsUnder, IsFirstUnder, IsFirstOrNone, IsLeastFrom}
-use Rattle.csn_certify.proofs.Pieces.{order, equal_numbers, first_less, second_less}
 
 -- ---- ranks
 

@@ -7,8 +7,8 @@ use Rattle.csn_bits.proofs.Packing.{IsBits-append}
 use Rattle.csn_look.specs.KeyMarks.{IsWord, has_key, BeginsWithKey, StartsKey}
 use Rattle.csn_look.proofs.Tables.Products.{bits_back}
 use Rattle.csn_desc.proofs.BitFacts.{IsBits-front, IsBits-along}
+use Rattle.csn_claims.proofs.Pieces.{begun_both}
 use Rattle.csn_certify.specs.Overlaps.{AreBegun, Meets, MeetUnder}
-use Rattle.csn_certify.proofs.Pieces.{begun_both}
 use Rattle.csn_certify.proofs.KeyOrder.{with_meets}
 
 pub swapped : (v w : List ℕ) → AreBegun v w → AreBegun w v

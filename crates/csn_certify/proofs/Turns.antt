@@ -12,12 +12,12 @@ use Rattle.csn_desc.specs.Formed.{FitWidths}
 use Rattle.csn_desc.specs.Laws.{StringsAreFollowed}
 use Rattle.csn_desc.proofs.Nodewise.{follow_at}
 use Rattle.csn_look.specs.Starts.{InStart}
+use Rattle.csn_claims.proofs.Pieces.{some_bit}
 use Rattle.csn_certify.specs.declared.conflict.Conflict.TheVariants.{NotFirm}
 use Rattle.csn_certify.specs.declared.pick.Pick.TheVariants.{Leave}
 use Rattle.csn_certify.specs.Conflicts.{many_not_firm, times_not_firm, Certified}
 use Rattle.csn_certify.specs.Picks.{Picks, pick_leave, pick_ended}
 use Rattle.csn_certify.proofs.Here.{Here, many_starts, nullable, follows}
-use Rattle.csn_certify.proofs.Pieces.{some_bit}
 
 -- ---- each has a bit
 

@@ -3,31 +3,16 @@
 use Rattle.std.specs.Prelude.{◌≡◌, ◌≢◌, ℕ, suc, ◌<◌, ◌⊎◌, ⊤, Bool, List, [], ◌∷◌, ◌++◌, map, slice_get, Some}
 use Rattle.csn_desc.specs.declared.node.Count.{Count}
 use Rattle.csn_desc.specs.declared.node.Node.{Node}
-use Rattle.csn_desc.specs.declared.node.Node.TheVariants.{Null, Pad, Rest, Choice, Times, Many, Trunc}
+use Rattle.csn_desc.specs.declared.node.Node.TheVariants.{Choice, Times, Many}
 use Rattle.csn_desc.specs.Nodes.{DescV}
 use Rattle.csn_look.specs.Nullable.{Nullable}
 use Rattle.csn_look.specs.Ends.{InEnds}
 use Rattle.csn_look.specs.Starts.{InStart}
 use Rattle.csn_look.specs.Keys.{InKeys, IsNotFirm}
 use Rattle.csn_look.specs.Reached.{Reached, InFollow}
+pub use Rattle.csn_claims.specs.Conflicts.{IsBegunBy, IsLast, IsNull}
 use Rattle.csn_certify.specs.declared.conflict.Conflict.{Conflict}
 use Rattle.csn_certify.specs.declared.conflict.Conflict.TheVariants.{TwoEmpty, NotFirm, Overlap, EmptyClash, LoopClash, NotLast}
-
--- one word begins with the other, or they are equal
-abbrev pub IsBegunBy : List ℕ → List ℕ → Type 0
-IsBegunBy long short = (rest : List ℕ) × (long ≡ short ++ rest)
-
--- nodes that end with what is read
-abbrev pub IsLast : Node → Type 0
-IsLast Rest = ⊤
-IsLast Pad = ⊤
-IsLast (Trunc parts) = ⊤
-IsLast _ = ⊥
-
-module _ (d : DescV) where
-  -- node i takes no bits
-  abbrev pub IsNull : ℕ → Type 0
-  IsNull i = slice_get d.nodes i ≡ Some Null
 
 module _ (d : DescV) (most : ℕ) where
   -- the description has this conflict

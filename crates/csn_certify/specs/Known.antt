@@ -1,9 +1,10 @@
 -- What the laws of csn_desc and csn_look say of values, of meant and followed bits and of what stands behind parts, in
 -- one record, which lemmas take. No public contract cites it.
-use Rattle.csn_desc.specs.Laws.{ValuesStayThere, ValuesStayFitting, NoValuesFit, CountsAreNumbers}
-use Rattle.csn_look.specs.Laws.{NoBitsAreOfNullable, MeantBitsEnd, MeantBitsStart, FollowedBitsStart, MeantBitsBeginWithKeys, FollowedBitsBeginKeys, NodesHaveKeys, KeysStart, BehindPartsOfSequences, FollowedBehindPartsOfSequences, BehindPartsOfTruncations, BehindLastOfTruncations, BehindTurns, FollowedBehindTurns, BehindFreeTurns, FollowedBehindFreeTurns, BehindAlternatives, BehindLabelledParts, ChoicesReach}
+use Rattle.csn_desc.specs.Laws.{NodesAreWellFormed, ValuesStayThere, ValuesStayFitting, NoValuesFit, CountsAreNumbers}
+use Rattle.csn_look.specs.Laws.{NoBitsAreOfNullable, MeantBitsEnd, MeantBitsStart, FollowedBitsStart, MeantBitsBeginWithKeys, FollowedBitsBeginKeys, NodesHaveKeys, KeysStart, BehindPartsOfSequences, FollowedBehindPartsOfSequences, BehindTurns, FollowedBehindTurns, BehindFreeTurns, FollowedBehindFreeTurns, BehindAlternatives, BehindLabelledParts, ChoicesReach}
 
 pub record Known : Type 0 where
+  pub formed : NodesAreWellFormed
   pub there : ValuesStayThere
   pub fitting : ValuesStayFitting
   pub no_values : NoValuesFit
@@ -18,8 +19,6 @@ pub record Known : Type 0 where
   pub key_start : KeysStart
   pub sequence : BehindPartsOfSequences
   pub sequence_followed : FollowedBehindPartsOfSequences
-  pub truncation : BehindPartsOfTruncations
-  pub truncation_last : BehindLastOfTruncations
   pub times : BehindTurns
   pub times_followed : FollowedBehindTurns
   pub many : BehindFreeTurns

@@ -7,6 +7,7 @@ ghost use Rattle.csn_certify.specs.Laws.{FirstConflictIsOne, CertifiedHasNoConfl
 fn known()
     ensures { Known }
 {
+    csn_desc::laws::nodes_are_well_formed();
     csn_desc::laws::values_are_kept();
     csn_look::laws::no_bits_are_of_nullable();
     csn_look::laws::bits_end();

@@ -5,7 +5,7 @@ use Rattle.csn_desc.specs.declared.node.Node.{Node}
 use Rattle.csn_desc.specs.Nodes.{DescV}
 use Rattle.csn_cert.specs.CertificateV.{NodeV}
 use Rattle.csn_claims.specs.Nullable.{NodeNullable, AllNullable, all_end, all_next, nullable_null, nullable_rest, nullable_many, nullable_trunc, nullable_field, nullable_times, nullable_no_times, nullable_window, nullable_seq, nullable_choice, nullable_named}
-use Rattle.csn_claims.specs.Ends.{MayCount, may_fixed, may_counted, PartsEnd, parts_end, parts_next, TimesEnd, times_end, times_next, ManyEnd, many_end, many_next, LeadEnd, lead_end, lead_next, NodeEnds, ends_lits, ends_spare, ends_null, ends_pad, ends_rest, ends_field, ends_window, ends_seq, ends_choice, ends_times, ends_counted, ends_many, ends_trunc, ends_named}
+use Rattle.csn_claims.specs.Ends.{PartsEnd, parts_end, parts_next, TimesEnd, times_end, times_next, ManyEnd, many_end, many_next, LeadEnd, lead_end, lead_next, NodeEnds, ends_lits, ends_spare, ends_null, ends_pad, ends_rest, ends_field, ends_window, ends_seq, ends_choice, ends_times, ends_counted, ends_many, ends_trunc, ends_named}
 use Rattle.csn_claims.specs.Starts.{PartsStart, starts_here, starts_later, NodeStarts, starts_lits, starts_spare, starts_pad, starts_field, starts_rest, starts_seq, starts_trunc, starts_choice, starts_times, starts_many, starts_window, starts_named}
 use Rattle.csn_claims.specs.Reached.{PartReached, reached_seq, reached_trunc, reached_choice, reached_window, reached_named, reached_times, reached_counted, reached_many, PartFollow, follow_later, follow_seq, follow_kept, follow_trunc, follow_times_again, follow_times, follow_many_again, follow_many, follow_choice, follow_named, follow_window}
 use Rattle.csn_look.specs.Nullable as null
@@ -36,10 +36,6 @@ module _ (d : DescV) (c : List NodeV) (claims : ClaimsLookAhead d c) where
 
   -- ---- ends
 
-  may_count : {count : Count} {n : ℕ} → MayCount d count n → end.MayCount d count n
-  may_count (may_fixed is) = end.may_fixed is
-  may_count (may_counted width value wide less is) = end.may_counted width value wide less is
-
   parts_end_known : {parts : List ℕ} {o p : ℕ} → PartsEnd (claims_of c) parts o p → end.PartsEnd d parts o p
   parts_end_known (parts_end same) = end.parts_end same
   parts_end_known {o = o} (parts_next {i = i} middle h others) = end.parts_next middle (ends_known d c claims i o middle h) (parts_end_known others)
@@ -62,8 +58,8 @@ module _ (d : DescV) (c : List NodeV) (claims : ClaimsLookAhead d c) where
   node_ends (ends_null same) = end.ends_null same
   node_ends (ends_pad less) = end.ends_pad less
   node_ends (ends_rest less) = end.ends_rest less
-  node_ends (ends_field n may same) = end.ends_field n (may_count may) same
-  node_ends (ends_window n may same) = end.ends_window n (may_count may) same
+  node_ends (ends_field n may same) = end.ends_field n may same
+  node_ends (ends_window n may same) = end.ends_window n may same
   node_ends (ends_seq h) = end.ends_seq (parts_end_known h)
   node_ends {o = o} {p = p} (ends_choice {i = i} j at h) = end.ends_choice j at (ends_known d c claims i o p h)
   node_ends (ends_times h) = end.ends_times (times_end_known h)

@@ -1,10 +1,8 @@
-pub mod ShapeFacts
 pub mod Reaching
 pub mod Pieces
-pub mod NullableFacts
-pub mod EndsFacts
-pub mod StartFacts
-pub mod KeyFacts
+pub mod Containing
+pub mod Clear
 pub mod FollowFacts
 pub mod Decisions
 pub mod OneTree
+pub mod Held

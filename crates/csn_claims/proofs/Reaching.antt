@@ -1,28 +1,15 @@
 -- Where the parts of a node that is claimed to begin are claimed to begin, one part or turn after another.
-use Rattle.std.proofs.Common.{◌≡◌, ℕ, zero, suc, ◌<◌, List, [], ◌∷◌, ◌++◌, refl, ap, subst, arith, Some, slice_get}
+use Rattle.std.proofs.Common.{◌≡◌, ℕ, suc, ◌<◌, List, [], ◌∷◌, ◌++◌, refl, ◌∙◌, ap, subst, arith, append_assoc, Some, slice_get}
 use Rattle.std.specs.Prelude.{IsTrue}
 use Rattle.csn_desc.specs.declared.node.Count.{Count}
 use Rattle.csn_desc.specs.declared.node.Count.TheVariants.{Fixed, Counted}
 use Rattle.csn_desc.specs.declared.node.Node.TheVariants.{Seq, Choice, Times, Many, Trunc, Window, Named}
 use Rattle.csn_desc.specs.Nodes.{DescV}
-use Rattle.csn_desc.specs.Values.{Values, count_of}
+use Rattle.csn_look.proofs.Meaning.FollowFacts.{cuts}
 use Rattle.csn_claims.specs.Claims.{Claims}
 use Rattle.csn_claims.specs.Ends.{PartsEnd, TimesEnd, ManyEnd, parts_end, parts_next, times_end, times_next, many_end, many_next}
 use Rattle.csn_claims.specs.Reached.{reached_seq, reached_trunc, reached_choice, reached_window, reached_named, reached_times, reached_counted, reached_many}
 use Rattle.csn_claims.specs.Holding.{Holds}
-
--- a part with its number, and the parts on either side
-pub record Cuts (parts : List ℕ) (i : ℕ) : Type 0 where
-  pub before : List ℕ
-  pub after : List ℕ
-  pub is : parts ≡ before ++ i ∷ after
-
-pub cuts : (parts : List ℕ) (j i : ℕ) → slice_get parts j ≡ Some i → Cuts parts i
-cuts [] j i at = absurd (cc)
-cuts (p ∷ parts) zero i at = let same : p ≡ i = cc in record { before = []; after = parts; is = ap (λ k. k ∷ parts) same }
-cuts (p ∷ parts) (suc j) i at =
-    let later = cuts parts j i at in
-    record { before = p ∷ later.before; after = later.after; is = ap (λ l. p ∷ l) later.is }
 
 module _ (claims : Claims) where
   -- each of these parts is claimed to begin where those before it may end
@@ -33,12 +20,21 @@ module _ (claims : Claims) where
   pub record TurnsReached (n i o : ℕ) : Type 0 where
     pub each : (m p : ℕ) → m < n → TimesEnd claims m i o p → IsTrue (claims.reached i p)
 
+  -- and each of any number of turns
+  pub record FreeReached (i o : ℕ) : Type 0 where
+    pub each : (p : ℕ) → ManyEnd claims i o p → IsTrue (claims.reached i p)
+
   pub first_part : {i : ℕ} {parts : List ℕ} {o : ℕ} → PartsReached (i ∷ parts) o → IsTrue (claims.reached i o)
   first_part {i} {parts} {o} h = h.each [] i parts o refl (parts_end refl)
 
   pub later_parts : {i : ℕ} {parts : List ℕ} {o p : ℕ} → PartsReached (i ∷ parts) o → IsTrue (claims.ends i o p) → PartsReached parts p
   later_parts {i} {parts} {o} {p} h ends =
       record { each = λ before j after q is e. h.each (i ∷ before) j after q (ap (λ l. i ∷ l) is) (parts_next p ends e) }
+
+  -- those before one of them
+  pub front_parts : {from : ℕ} {parts before : List ℕ} (i : ℕ) (after : List ℕ) → parts ≡ before ++ i ∷ after → PartsReached parts from → PartsReached before from
+  front_parts i after split h =
+      record { each = λ b j a p is e. h.each b j (a ++ i ∷ after) p (split ∙ ap (λ l. l ++ i ∷ after) is ∙ append_assoc b (j ∷ a) (i ∷ after)) e }
 
   pub first_turn : {n i o : ℕ} → 0 < n → TurnsReached n i o → IsTrue (claims.reached i o)
   first_turn {n} {i} {o} some h = h.each 0 o some (times_end refl refl)
@@ -47,9 +43,11 @@ module _ (claims : Claims) where
   later_turns {n} {i} {o} {p} {m} over h ends =
       record { each = λ k q less e. h.each (suc k) q (omega arith) (times_next k p refl ends e) }
 
-  pub many_of_times : {n i o p : ℕ} → TimesEnd claims n i o p → ManyEnd claims i o p
-  many_of_times (times_end over is) = many_end is
-  many_of_times (times_next m middle over ends others) = many_next middle ends (many_of_times others)
+  pub first_free : {i o : ℕ} → FreeReached i o → IsTrue (claims.reached i o)
+  first_free {i} {o} h = h.each o (many_end refl)
+
+  pub later_free : {i o p : ℕ} → FreeReached i o → IsTrue (claims.ends i o p) → FreeReached i p
+  later_free {i} {o} {p} h ends = record { each = λ q e. h.each q (many_next p ends e) }
 
   pub many_end_more : {i from o p : ℕ} → ManyEnd claims i from o → IsTrue (claims.ends i o p) → ManyEnd claims i from p
   many_end_more {i} {from} {o} {p} (many_end same) h =
@@ -78,13 +76,13 @@ module _ (d : DescV) (most : ℕ) (claims : Claims) (holds : Holds d most claims
   named_reached {k} {o} {i} {label} at reached =
       holds.reached k o i o (Named label i) [] [] (record { at = at; split = refl }) reached (reached_named refl)
 
-  pub many_reached : {k from o i : ℕ} → slice_get d.nodes k ≡ Some (Many i) → IsTrue (claims.reached k from) → ManyEnd claims i from o → IsTrue (claims.reached i o)
-  many_reached {k} {from} {o} {i} at reached e =
-      holds.reached k from i o (Many i) [] [] (record { at = at; split = refl }) reached (reached_many e)
+  pub free_reached : {k o i : ℕ} → slice_get d.nodes k ≡ Some (Many i) → IsTrue (claims.reached k o) → FreeReached claims i o
+  free_reached {k} {o} {i} at reached = record { each = λ p e. holds.reached k o i p (Many i) [] [] (record { at = at; split = refl }) reached (reached_many e) }
 
-  pub turns_reached : {k o i n : ℕ} (count : Count) (v : Values) → slice_get d.nodes k ≡ Some (Times count i) → count_of v count ≡ Some n → IsTrue (claims.reached k o) → TurnsReached claims n i o
-  turns_reached {k} {o} {i} {n} (Fixed all) v at counts reached =
-      let same : all ≡ n = cc in
-      record { each = λ m p less e. holds.reached k o i p (Times (Fixed all) i) [] [] (record { at = at; split = refl }) reached (reached_times m (omega arith) e) }
-  turns_reached {k} {o} {i} {n} (Counted m field c) v at counts reached =
-      record { each = λ l p less e. holds.reached k o i p (Times (Counted m field c) i) [] [] (record { at = at; split = refl }) reached (reached_counted (many_of_times claims e)) }
+  pub counted_reached : {k o i m field c : ℕ} → slice_get d.nodes k ≡ Some (Times (Counted m field c) i) → IsTrue (claims.reached k o) → FreeReached claims i o
+  counted_reached {k} {o} {i} {m} {field} {c} at reached =
+      record { each = λ p e. holds.reached k o i p (Times (Counted m field c) i) [] [] (record { at = at; split = refl }) reached (reached_counted e) }
+
+  pub turns_reached : {k o i n : ℕ} → slice_get d.nodes k ≡ Some (Times (Fixed n) i) → IsTrue (claims.reached k o) → TurnsReached claims n i o
+  turns_reached {k} {o} {i} {n} at reached =
+      record { each = λ m p less e. holds.reached k o i p (Times (Fixed n) i) [] [] (record { at = at; split = refl }) reached (reached_times m less e) }

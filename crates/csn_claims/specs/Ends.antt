@@ -1,23 +1,13 @@
 -- Where bits of a node may end, from where those of its parts are claimed to. (This project's own choice.)
-use Rattle.std.specs.Prelude.{◌≡◌, ℕ, suc, ◌+◌, ◌*◌, ◌%◌, ◌^◌, ◌<◌, List, [], ◌∷◌, length, slice_get, Some, IsTrue}
+use Rattle.std.specs.Prelude.{◌≡◌, ℕ, suc, ◌+◌, ◌*◌, ◌%◌, ◌<◌, List, [], ◌∷◌, length, slice_get, Some, IsTrue}
 use Rattle.csn_desc.specs.declared.symbol.Symbol.{Symbol}
 use Rattle.csn_desc.specs.declared.node.Count.{Count}
 use Rattle.csn_desc.specs.declared.node.Count.TheVariants.{Fixed, Counted}
 use Rattle.csn_desc.specs.declared.node.Node.{Node}
 use Rattle.csn_desc.specs.declared.node.Node.TheVariants.{Lits, Spare, Pad, Null, Field, Rest, Seq, Choice, Times, Many, Trunc, Window, Named}
 use Rattle.csn_desc.specs.Nodes.{DescV}
-use Rattle.csn_desc.specs.Formed.{value_width}
+use Rattle.csn_look.specs.Ends.{MayCount}
 use Rattle.csn_claims.specs.Claims.{Claims}
-
-module _ (d : DescV) where
-  -- a count may be n: the constant, or what some value of its field makes it
-  pub data MayCount : Count → ℕ → Type 0 where
-    may_fixed : {k n : ℕ} → n ≡ k → MayCount (Fixed k) n
-    may_counted :
-        {m field c n : ℕ}
-        (width value : ℕ) → value_width d.nodes field ≡ Some width → value < 2 ^ width
-        → n ≡ m * value + c
-        → MayCount (Counted m field c) n
 
 module _ (claims : Claims) where
   -- one part after another

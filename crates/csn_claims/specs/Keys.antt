@@ -1,7 +1,7 @@
 -- The keys of a node at an octet position, from those that are claimed of its parts: the words that bits of it begin
 -- with, of at most `most` bits. A key is whole where it is all of some bits of the node, and cut where these may go
 -- on or are not looked at. (This project's own choice.)
-use Rattle.std.specs.Prelude.{◌≡◌, ℕ, suc, ◌+◌, ◌*◌, ◌%◌, ◌<◌, ◌≤◌, Bool, true, false, List, [], ◌∷◌, ◌++◌, length, take, slice_get, Some, IsTrue}
+use Rattle.std.specs.Prelude.{◌≡◌, ℕ, suc, ◌+◌, ◌*◌, ◌%◌, Bool, true, false, List, [], ◌∷◌, ◌++◌, length, slice_get, Some, IsTrue}
 use Rattle.csn_bits.specs.Octets.{IsBits}
 use Rattle.csn_desc.specs.declared.symbol.Symbol.{Symbol}
 use Rattle.csn_desc.specs.declared.symbol.Symbol.TheVariants.{Low}
@@ -11,19 +11,8 @@ use Rattle.csn_desc.specs.declared.node.Node.{Node}
 use Rattle.csn_desc.specs.declared.node.Node.TheVariants.{Lits, Spare, Pad, Null, Field, Rest, Seq, Choice, Times, Many, Trunc, Window, Named}
 use Rattle.csn_desc.specs.Nodes.{DescV}
 use Rattle.csn_desc.specs.Spelled.{spelled, IsSpare}
+use Rattle.csn_look.specs.Keys.{Cut}
 use Rattle.csn_claims.specs.Claims.{Claims}
-
--- the word x, whole or not, is what is left of the word w with its mark: w where it has at most `most`
--- bits, and else its first `most` bits, cut
-pub data Cut : ℕ → List ℕ → Bool → List ℕ → Bool → Type 0 where
-  kept :
-      {most : ℕ} {w x : List ℕ} {whole mark : Bool}
-      → length w ≤ most → x ≡ w → mark ≡ whole
-      → Cut most w whole x mark
-  cut :
-      {most : ℕ} {w x : List ℕ} {whole mark : Bool}
-      → most < length w → x ≡ take most w → mark ≡ false
-      → Cut most w whole x mark
 
 module _ (most : ℕ) (claims : Claims) where
   -- of one part after another: a cut key of the first part, or a whole one and behind it a key of the

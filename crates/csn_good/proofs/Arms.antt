@@ -8,8 +8,9 @@ use Rattle.csn_desc.specs.declared.node.Node.{Node}
 use Rattle.csn_desc.specs.declared.node.Node.TheVariants.{Lits, Spare, Pad, Null, Field, Rest, Seq, Choice, Times, Many, Trunc, Window, Named}
 use Rattle.csn_desc.specs.Nodes.{DescV, parts_of}
 use Rattle.csn_desc.specs.Formed.{value_width}
+use Rattle.csn_look.specs.Ends.{MayCount, may_fixed, may_counted}
 use Rattle.csn_claims.specs.Claims.{Claims}
-use Rattle.csn_claims.specs.Ends.{MayCount, may_fixed, may_counted, NodeEnds, PartsEnd, ManyEnd, LeadEnd, ends_lits, ends_spare, ends_null, ends_pad, ends_rest, ends_field, ends_window, ends_seq, ends_choice, ends_times, ends_counted, ends_many, ends_trunc, ends_named}
+use Rattle.csn_claims.specs.Ends.{NodeEnds, PartsEnd, ManyEnd, LeadEnd, ends_lits, ends_spare, ends_null, ends_pad, ends_rest, ends_field, ends_window, ends_seq, ends_choice, ends_times, ends_counted, ends_many, ends_trunc, ends_named}
 use Rattle.csn_good.specs.Octets.{has_octet, OctetsAre, OfSome, SomeEnds, TurnsEnd, PartsWithin}
 
 pub along : {n m : Node} (P : Node → Type 0) → n ≡ m → P m → P n

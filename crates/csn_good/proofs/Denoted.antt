@@ -10,7 +10,8 @@ use Rattle.csn_desc.proofs.BitFacts.{IsBits-spelled}
 use Rattle.csn_cert.specs.declared.pattern.Mark.TheVariants.{Any}
 use Rattle.csn_cert.specs.PatternV.{PatternV}
 use Rattle.csn_cert.specs.CertificateV.{NodeV}
-use Rattle.csn_claims.specs.Keys.{Cut, kept, cut, NodeKeys, PartsKeys, TimesKeys, keys_lits, keys_spare, keys_field, keys_pad, keys_null, keys_rest, keys_many, keys_trunc, keys_window, keys_counted_field, keys_counted_times, keys_seq, keys_times, keys_choice, keys_named, parts_none, parts_cut, parts_whole, times_none, times_cut, times_whole}
+use Rattle.csn_look.specs.Keys.{Cut, kept, cut}
+use Rattle.csn_claims.specs.Keys.{NodeKeys, PartsKeys, TimesKeys, keys_lits, keys_spare, keys_field, keys_pad, keys_null, keys_rest, keys_many, keys_trunc, keys_window, keys_counted_field, keys_counted_times, keys_seq, keys_times, keys_choice, keys_named, parts_none, parts_cut, parts_whole, times_none, times_cut, times_whole}
 use Rattle.csn_good.specs.ClaimedSets.{mark_bits, denotes, patterns_at, claims_of}
 use Rattle.csn_good.specs.Patterns.{mark_of, shortened, spare_mark, unread, NodePatterns, PartsPatterns, TimesPatterns, patterns_lits, patterns_spare, patterns_field, patterns_pad, patterns_null, patterns_rest, patterns_many, patterns_trunc, patterns_window, patterns_counted_field, patterns_counted_times, patterns_seq, patterns_times, patterns_choice, patterns_named}
 use Rattle.csn_good.specs.Patterns as made

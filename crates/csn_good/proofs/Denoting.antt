@@ -14,7 +14,7 @@ use Rattle.csn_desc.proofs.BitFacts.{symbol_bit-le-one}
 use Rattle.csn_cert.specs.declared.pattern.Mark.{Mark}
 use Rattle.csn_cert.specs.declared.pattern.Mark.TheVariants.{Zero, One, Any}
 use Rattle.csn_cert.specs.PatternV.{PatternV}
-use Rattle.csn_claims.specs.Keys.{Cut, kept, cut}
+use Rattle.csn_look.specs.Keys.{Cut, kept, cut}
 use Rattle.csn_good.specs.ClaimedSets.{marks_bit, mark_bits, denotes}
 use Rattle.csn_good.specs.Patterns.{mark_of, shortened, spare_mark, CoverMarks, Covers}
 

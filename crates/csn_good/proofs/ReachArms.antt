@@ -6,10 +6,10 @@ use Rattle.csn_desc.specs.declared.node.Count.TheVariants.{Fixed, Counted}
 use Rattle.csn_desc.specs.declared.node.Node.{Node}
 use Rattle.csn_desc.specs.declared.node.Node.TheVariants.{Seq, Choice, Times, Many, Trunc, Window, Named}
 use Rattle.csn_desc.specs.Nodes.{parts_of}
+use Rattle.csn_look.proofs.Meaning.FollowFacts.{cuts}
 use Rattle.csn_claims.specs.Claims.{Claims}
 use Rattle.csn_claims.specs.Ends.{PartsEnd, ManyEnd, parts_end, parts_next}
 use Rattle.csn_claims.specs.Reached.{PartReached, reached_seq, reached_trunc, reached_choice, reached_window, reached_named, reached_times, reached_counted, reached_many}
-use Rattle.csn_claims.proofs.Reaching.{cuts}
 use Rattle.csn_good.specs.Octets.{has_octet, OctetsAre, OfSome, TurnBegins}
 use Rattle.csn_good.specs.Told.{PartsReach, EachReached, OrderReached}
 use Rattle.csn_good.proofs.SetArms.{many_small, times_small}

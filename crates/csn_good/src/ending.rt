@@ -3,7 +3,8 @@
 ghost use Rattle.std.specs.Prelude.{◌≡◌, ◌+◌, ◌*◌, ◌%◌, ◌^◌, ◌<◌, ◌≤◌, ℕ, length, slice_get};
 ghost use Rattle.csn_desc.specs.Nodes.{parts_of};
 ghost use Rattle.csn_desc.specs.Formed.{value_width, width_of};
-ghost use Rattle.csn_claims.specs.Ends.{MayCount, NodeEnds};
+ghost use Rattle.csn_look.specs.Ends.{MayCount};
+ghost use Rattle.csn_claims.specs.Ends.{NodeEnds};
 ghost use Rattle.csn_good.specs.ClaimedSets.{claims_of};
 ghost use Rattle.csn_good.specs.Octets.{OctetsAre, OfSome, SomeEnds, TurnsEnd, PartsWithin};
 

@@ -3,6 +3,7 @@ use Rattle.csn_certify.proofs.laws.known.Goals as goal
 pub returns : goal.returns
 returns c =
     record {
+      formed = c.nodes_are_well_formed.ensures;
       there = c.values_are_kept.ensures.there;
       fitting = c.values_are_kept.ensures.fitting;
       no_values = c.values_are_kept.ensures.none;
@@ -17,8 +18,6 @@ returns c =
       key_start = c.keys_are_of_bits.ensures.start;
       sequence = c.bits_stand_behind_parts.ensures.sequence;
       sequence_followed = c.bits_stand_behind_parts.ensures.sequence_followed;
-      truncation = c.bits_stand_behind_parts.ensures.truncation;
-      truncation_last = c.bits_stand_behind_parts.ensures.truncation_last;
       times = c.bits_stand_behind_parts.ensures.times;
       times_followed = c.bits_stand_behind_parts.ensures.times_followed;
       many = c.bits_stand_behind_parts.ensures.many;

@@ -1,6 +1,6 @@
 use Rattle.std.proofs.Common.{◌≡◌, ℕ, ◌+◌, ◌*◌, ◌%◌, sym, subst, ◌∙◌}
 use Rattle.csn_desc.specs.declared.node.Count.{Count}
-use Rattle.csn_claims.specs.Ends.{MayCount}
+use Rattle.csn_look.specs.Ends.{MayCount}
 use Rattle.csn_good.specs.Octets.{OctetsAre}
 use Rattle.csn_good.proofs.Arms.{fixed_units, counted_units}
 use Rattle.csn_good.proofs.ending.ends_of_count.Goals as goal
