@@ -28,3 +28,4 @@ pub mod ChooserFacts
 pub mod TableFacts
 pub mod Answered
 pub mod ExampleFacts
+pub mod CountedValues

@@ -12,3 +12,4 @@ pub mod Ahead
 pub mod Laws
 pub mod Known
 pub mod Examples
+pub mod CountedValues

@@ -14,14 +14,16 @@ use Rattle.csn_desc.specs.Formed.{is_counted, shows_earlier, with_seen, Formed, 
 use Rattle.std.proofs.lemmas.Option.{slice_get_within}
 use Rattle.std.proofs.lemmas.List.{take_at, drop_at, take-append-le}
 use Rattle.csn_desc.proofs.ValuesKept.{fits_kept}
+use Rattle.csn_certify.specs.CountedValues.{fields_of}
+use Rattle.csn_certify.proofs.CountedValues.{has_number, formed_head, fields_behind}
 use Rattle.csn_encode.specs.declared.misfit.MisfitWhy.{MisfitWhy}
 use Rattle.csn_encode.specs.declared.misfit.MisfitWhy.TheVariants.{WrongLabel, WrongCount, NoSuchAlternative, WindowLength}
 use Rattle.csn_encode.specs.declared.numbers.Number.{Number}
 use Rattle.csn_encode.specs.declared.draft.Draft.{Draft}
 use Rattle.csn_encode.specs.Misfits.{kept_count, HavePieces, pieces_end, pieces_next, MissesNode, wrong_seq, wrong_times, wrong_trunc, idle_trunc, wrong_window, no_alternative, wrong_label, Misses, misses_at, MissesIn, misses_here, misses_named, misses_choice, misses_window, misses_seq, misses_trunc, misses_times, misses_many, MissesParts, parts_here, parts_later, MissesRepeats, repeats_here, repeats_later}
-use Rattle.csn_encode.specs.Writing.{fields_of, joined, KeepsCount, IsReady, Stands, StandsAtPart, StandsAtParts, Added, Missed, AddsNode, MissesNodeBy, Adds, MissesBy, MissesBelow, AddsParts}
+use Rattle.csn_encode.specs.Writing.{joined, KeepsCount, IsReady, Stands, StandsAtPart, StandsAtParts, Added, Missed, AddsNode, MissesNodeBy, Adds, MissesBy, MissesBelow, AddsParts}
 use Rattle.csn_desc.proofs.Nodewise.{choice_formed}
-use Rattle.csn_encode.proofs.Counting.{has_number, formed_head, counted_few, number_room, numbers_behind, fields_behind, formed_few}
+use Rattle.csn_encode.proofs.Counting.{counted_few, number_room, numbers_behind, formed_few}
 use Rattle.csn_encode.proofs.Rows.{drop_here, nothing_behind, joined-append, kept_behind, pieces_count, pieces_parts, pieces_trunc, times_many, times_as, count-trees_of}
 
 -- ---- of any meaning

@@ -21,11 +21,13 @@ use Rattle.csn_desc.proofs.ValuesKept.{fits_kept}
 use Rattle.csn_desc.proofs.BitFacts.{length-spelled}
 use Rattle.csn_certify.specs.Conflicts.{Certified}
 use Rattle.csn_certify.specs.Laws.{FreeTurnsHaveBits}
+use Rattle.csn_certify.specs.CountedValues.{fields_of}
+use Rattle.csn_certify.proofs.CountedValues.{has_number, fields_behind}
 use Rattle.csn_encode.specs.declared.misfit.MisfitWhy.{MisfitWhy}
 use Rattle.csn_encode.specs.declared.misfit.MisfitWhy.TheVariants.{WrongKind, WrongLabel, WrongCount, WrongWidth, WrongSpare, NoSuchAlternative, WindowLength, TooManyBits}
 use Rattle.csn_encode.specs.Misfits.{tree_count, kept_count, HavePieces, pieces_end, pieces_next, MissesNode, wrong_kind, wrong_label, wrong_seq, wrong_times, wrong_trunc, idle_trunc, wrong_field, wide_spare, no_pad, wrong_spare, wrong_pad, no_alternative, wrong_window, past_lits, past_field, past_rest, past_spare, past_pad, Misses, misses_at, MissesIn, misses_here, misses_named, misses_choice, misses_window, misses_seq, misses_trunc, misses_times, misses_many, MissesParts, parts_here, parts_later, MissesRepeats, repeats_here, repeats_later}
-use Rattle.csn_encode.specs.Writing.{fields_of, joined}
-use Rattle.csn_encode.proofs.Counting.{has_number, number_there, fields_behind}
+use Rattle.csn_encode.specs.Writing.{joined}
+use Rattle.csn_encode.proofs.Counting.{number_there}
 use Rattle.csn_encode.proofs.Rows.{pieces_parts, pieces_trunc, times_many}
 
 -- bits that end within a block mean it, or it is missed

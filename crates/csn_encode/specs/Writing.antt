@@ -1,20 +1,20 @@
 -- How the tree of a node is written behind bits that are written already. (This project's own choice.)
-use Rattle.std.specs.Prelude.{◌≡◌, ℕ, suc, ◌<◌, ◌≤◌, Bool, true, if◌then◌else◌, List, [], ◌∷◌, ◌++◌, length, map, Some}
+use Rattle.std.specs.Prelude.{◌≡◌, ℕ, suc, ◌<◌, ◌≤◌, Bool, if◌then◌else◌, List, [], ◌∷◌, ◌++◌, length}
 use Rattle.csn_bits.specs.Octets.{most_bits}
 use Rattle.csn_bits.specs.Numbers.{number_of}
 use Rattle.csn_desc.specs.declared.reading.Reading.{Reading}
 use Rattle.csn_desc.specs.declared.reading.Reading.TheVariants.{Sent}
 use Rattle.csn_desc.specs.declared.symbol.Symbol.{Symbol}
 use Rattle.csn_desc.specs.declared.node.Count.{Count}
-use Rattle.csn_desc.specs.declared.node.Count.TheVariants.{Fixed, Counted}
 use Rattle.csn_desc.specs.declared.node.Node.{Node}
 use Rattle.csn_desc.specs.TreeV.{TreeV, Trees}
 use Rattle.csn_desc.specs.Nodes.{DescV}
-use Rattle.csn_desc.specs.Values.{Values, value_of}
+use Rattle.csn_desc.specs.Values.{Values}
 use Rattle.csn_desc.specs.Spelled.{IsSpare}
 use Rattle.csn_desc.specs.Means.{NMeans, NodeMeans}
 use Rattle.csn_desc.specs.Formed.{is_counted, Formed, PartsFormed, FitWidths, IsDescription}
 use Rattle.csn_certify.specs.Conflicts.{Certified}
+use Rattle.csn_certify.specs.CountedValues.{fields_of, HasNumber}
 use Rattle.csn_encode.specs.declared.misfit.MisfitWhy.{MisfitWhy}
 use Rattle.csn_encode.specs.declared.misfit.MisfitWhy.TheVariants.{WrongSpare, TooManyBits}
 use Rattle.csn_encode.specs.declared.numbers.Number.{Number}
@@ -22,10 +22,6 @@ use Rattle.csn_encode.specs.declared.draft.Draft.{Draft}
 use Rattle.csn_encode.specs.declared.fault.Stop.{Stop}
 use Rattle.csn_encode.specs.declared.fault.Stop.TheVariants.{Misfit, NoMemory}
 use Rattle.csn_encode.specs.Misfits.{IsPast, HavePieces, kept_count, MissesIn, Misses}
-
--- the labelled parts that have values, the last one first
-abbrev pub fields_of : Values → List ℕ
-fields_of v = map (λ value. value.0) v
 
 -- the bits of some pieces one after another
 abbrev pub joined : List (List ℕ) → List ℕ
@@ -43,16 +39,10 @@ module _ (d : DescV) where
       then numbers_of earlier ++ record { field = last.0; value = number_of last.1 } ∷ []
       else numbers_of earlier
 
-  -- a count is a number by these values, and counts stand on its field, which has up to 16 bits
-  abbrev pub HasNumber : Values → Count → Type 0
-  HasNumber v (Fixed n) = n ≤ 65536
-  HasNumber v (Counted m field c) =
-      (is_counted d.nodes field ≡ true) × (c ≤ 65535) × (number : ℕ) × (value_of v field ≡ Some number) × (number < 65536)
-
   -- the numbers that are kept are those by which a count is a number
   pub record KeepsCount (v : Values) (numbers : List Number) (count : Count) : Type 0 where
     pub kept : numbers ≡ numbers_of v
-    pub has : HasNumber v count
+    pub has : HasNumber d v count
 
   -- ---- where the writing stands
 

@@ -17,30 +17,32 @@ use Rattle.csn_certify.specs.Conflicts.{Certified}
 use Rattle.csn_certify.specs.Picks.{Picks}
 use Rattle.csn_certify.specs.Ahead.{LiesAhead}
 use Rattle.csn_look.specs.Reached.{MayStandBehind}
+use Rattle.csn_certify.specs.CountedValues.{fields_of}
+use Rattle.csn_certify.proofs.CountedValues.{fields_have_values, fields_behind}
 use Rattle.csn_judge.specs.Left.{Left, choice_left, parts_left, turns_left, behind, Completes, completes_choice, completes_none, completes_parts, completes_turns, completes_free, completes_cut, Begins, begins_whole, begins_all, begins_choice, begins_window, begins_parts, begins_turns, begins_lead_none}
 use Rattle.csn_judge.specs.Remains.{Within, Rest, rest_next, Goes, goes_end, goes_next, goes_here}
-use Rattle.csn_judge.specs.Inside.{seen_of, IsReady, Inside, IsLeftOf, of_all, of_field, of_literal, of_spare, of_pad, of_pad_begun, of_rest, of_read, of_choice, of_window, of_parts, of_turns, of_free, of_cut, of_lead, IsStack, stack_end, stack_node}
+use Rattle.csn_judge.specs.Inside.{IsReady, Inside, IsLeftOf, of_all, of_field, of_literal, of_spare, of_pad, of_pad_begun, of_rest, of_read, of_choice, of_window, of_parts, of_turns, of_free, of_cut, of_lead, IsStack, stack_end, stack_node}
 use Rattle.csn_judge.proofs.Parts.{Moving, follow_whole}
 use Rattle.csn_judge.proofs.Standing.{rest_stands, goes_stands, choice_width}
 use Rattle.csn_judge.proofs.LookAhead.{reaches}
 use Rattle.csn_judge.proofs.Closing.{Full, goes_within}
 use Rattle.csn_judge.proofs.Refusing.{alive, bits_alive, symbols_alive, spare_alive, pad_alive, rest_alive, choice_begun, stuck}
-use Rattle.csn_judge.proofs.Stacks.{seen_have_values, seen_behind, parts_formed, first_formed}
+use Rattle.csn_judge.proofs.Stacks.{parts_formed, first_formed}
 use Rattle.std.proofs.lemmas.List.{length-take}
 use Rattle.csn_judge.specs.Known.{Known}
 
 module _ (d : DescV) (moving : Moving) (empties : EmptyBitsAreFollowed) where
   -- a well-formed node follows no bits
-  pub node_empty : {i round : ℕ} (o : ℕ) (v : Values) → Formed d.nodes (seen_of v) round i → NFollow d i o v []
-  node_empty {i} {round} o v well = empties d (seen_of v) round i o v well (seen_have_values v)
+  pub node_empty : {i round : ℕ} (o : ℕ) (v : Values) → Formed d.nodes (fields_of v) round i → NFollow d i o v []
+  node_empty {i} {round} o v well = empties d (fields_of v) round i o v well (fields_have_values v)
 
   -- the next of some parts
-  next_empty : (i from : ℕ) {j round : ℕ} {ps : List ℕ} (v : Values) (done : List ℕ) → PartsFormed d.nodes true (with_seen d.nodes true i (seen_of v)) round (j ∷ ps) → NFollow d j (length done) (behind d i from v done) []
+  next_empty : (i from : ℕ) {j round : ℕ} {ps : List ℕ} (v : Values) (done : List ℕ) → PartsFormed d.nodes true (with_seen d.nodes true i (fields_of v)) round (j ∷ ps) → NFollow d j (length done) (behind d i from v done) []
   next_empty i from {j} {round} v done well =
       let P : List ℕ → Type 0 = λ l. Formed d.nodes l round j in
-      node_empty (length done) (behind d i from v done) (subst P (sym (seen_behind d i (drop from done) v)) (first_formed d well))
+      node_empty (length done) (behind d i from v done) (subst P (sym (fields_behind d i (drop from done) v)) (first_formed d well))
 
-  parts_empty : {i from round : ℕ} (parts : List ℕ) {v : Values} (done : List ℕ) → PartsFormed d.nodes true (with_seen d.nodes true i (seen_of v)) round parts → Begins d (parts_left i from parts v) done []
+  parts_empty : {i from round : ℕ} (parts : List ℕ) {v : Values} (done : List ℕ) → PartsFormed d.nodes true (with_seen d.nodes true i (fields_of v)) round parts → Begins d (parts_left i from parts v) done []
   parts_empty [] done well = begins_whole (Leave ∷ []) (completes_parts tree.none (parts_end refl) (walk.parts_end refl) refl)
   parts_empty {i} {from} (j ∷ ps) {v = v} done well = begins_parts (parts_here (next_empty i from v done well))
 
@@ -50,7 +52,7 @@ module _ (d : DescV) (moving : Moving) (empties : EmptyBitsAreFollowed) where
 
   begins_none : (outer : List Left) {next : ℕ} {left : Left} {i from round : ℕ} {v : Values} {done : List ℕ} → IsReady d i from round v → IsLeftOf d next left i from round v done → Within (left ∷ outer) (length done) → Begins d left done []
   begins_none outer {v = v} {done = done} ready (of_all {i = i} {round = round} {w = w} same place just) within =
-      let P : Values → Type 0 = λ x. Formed d.nodes (seen_of x) round i in
+      let P : Values → Type 0 = λ x. Formed d.nodes (fields_of x) round i in
       begins_all (node_empty (length done) w (subst P (sym same) ready.formed))
   begins_none outer {done = done} ready (of_field {n = n} all at counts place order upto) within = bits_alive d n done
   begins_none outer {done = done} ready (of_literal {run = run} earlier at place upto) within = symbols_alive d run done
@@ -60,12 +62,12 @@ module _ (d : DescV) (moving : Moving) (empties : EmptyBitsAreFollowed) where
   begins_none outer {done = done} ready (of_rest at order upto) within = rest_alive d done
   begins_none outer ready (of_read read upto) within = begins_whole (Leave ∷ []) (completes_none refl refl)
   begins_none outer {done = done} ready (of_choice {i = i} {round = round} {w = w} at same place just) within =
-      let P : Values → Type 0 = λ x. Formed d.nodes (seen_of x) round i in
+      let P : Values → Type 0 = λ x. Formed d.nodes (fields_of x) round i in
       choice_begun d moving at (node_empty (length done) w (subst P (sym same) ready.formed))
   begins_none outer ready (of_window n at counts end read upto) within = begins_window refl within.0
   begins_none outer {done = done} ready (of_parts {after = after} parts earlier at split so_far order none fits well read upto) within = parts_empty after done well
   begins_none outer {done = done} ready (of_turns {round = round} {n = n} {part = part} {w = w} at same turn order none upto turned) within =
-      let P : Values → Type 0 = λ x. Formed d.nodes (seen_of x) (suc round) part in
+      let P : Values → Type 0 = λ x. Formed d.nodes (fields_of x) (suc round) part in
       turns_empty n part w done (node_empty (length done) w (subst P (sym same) (first_formed d (parts_formed d at ready.formed))))
   begins_none outer ready (of_free at same so_far order upto turned) within = begins_whole (Leave ∷ []) (completes_free tree.none (many_end refl) (walk.repeats_end refl) refl)
   begins_none outer ready (of_cut at same place just) within = begins_whole (Leave ∷ []) (completes_cut refl refl)
@@ -88,7 +90,7 @@ module _ (d : DescV) (most : ℕ) (is : IsDescription d) (certified : Certified 
     -- it follows the bits with which it waits
     pub wait_goes : {held : List ℕ} (ended : Bool) → Picks d most k (length done % 8) held ended Wait → Within outer (length done + length held) → Goes d (choice_left parts v ∷ outer) done held
     wait_goes {held} ended picks within =
-        goes_here (choice_begun d moving how.at (known.waits d most k (length outer) (length done) (seen_of v) v held ended how.ready.formed (seen_have_values v) picks)) (tt, within)
+        goes_here (choice_begun d moving how.at (known.waits d most k (length outer) (length done) (fields_of v) v held ended how.ready.formed (fields_have_values v) picks)) (tt, within)
 
     lies : (h later : List ℕ) {b1 : List ℕ} {t : TreeV} (b2 : List ℕ) (m : ℕ) → NodeMeans d (Choice parts) (length done) v b1 t → MayStandBehind d k (length (done ++ b1) % 8) (take (m - length (done ++ b1)) b2) → b1 ++ take (m - length (done ++ b1)) b2 ≡ h ++ later → LiesAhead d k (length done) v (h ++ later) t
     lies h later {b1} b2 m means stands e =

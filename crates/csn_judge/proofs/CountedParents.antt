@@ -11,11 +11,10 @@ use Rattle.csn_desc.specs.Values.{Values, is_named}
 use Rattle.csn_desc.specs.Formed.{is_counted, counts_on, node_counts_on, shows_earlier, with_seen, Spans, PartsSpan, spans, span_end, span_next, IsCount, IsHead, Formed, PartsFormed, formed, formed_next, IsDescription}
 use Rattle.csn_desc.proofs.Numbering.{part_from, span_inside}
 use Rattle.csn_desc.proofs.Parents.{one_parent}
+use Rattle.csn_certify.proofs.CountedValues.{contains_cases, counter, formed_head}
 use Rattle.csn_judge.specs.Left.{Left}
 use Rattle.csn_judge.specs.Inside.{Inside, inside_none, inside_choice, inside_label, inside_window, inside_parts, inside_turns, inside_free, inside_lead}
 use Rattle.csn_judge.specs.Shown.{BeganAt, began_part, began_lead}
-use Rattle.csn_judge.proofs.Stacks.{contains_cases}
-use Rattle.csn_judge.proofs.TurningCounted.{counter}
 
 module _ (nodes : List Node) where
   -- node i is a part of a node whose later parts see the earlier ones
@@ -104,12 +103,6 @@ module _ (nodes : List Node) where
   node_sees seen k (Trunc parts) counts is = absurd (cc)
   node_sees seen k (Named label part) counts is = absurd (cc)
 
-  head_along : {seen : List ℕ} {round i : ℕ} (n : Node) → slice_get nodes i ≡ Some n → Formed nodes seen round i → IsHead nodes seen (head_of n)
-  head_along {seen} n at (formed m here few head parts counted later) =
-      let same : m ≡ n = cc in
-      let P : Node → Type 0 = λ x. IsHead nodes seen (head_of x) in
-      subst P same head
-
   part_rises : {K end : ℕ} (n : Node) (place i : ℕ) → slice_get nodes K ≡ Some n → Spans nodes K end → slice_get (parts_of n) place ≡ Some i → K < i
   part_rises {K} {end} n place i at (spans m look parts) get =
       let same : m ≡ n = cc in
@@ -121,7 +114,7 @@ module _ (d : DescV) (is : IsDescription d) where
   counted_shown i counted =
       let c = counter (node_counts_on i) d.nodes counted in
       let p = placed d.nodes c.at is.numbered is.well_formed (none_shown d.nodes) (omega arith) (slice_get_within d.nodes c.at c.node c.look) in
-      p.shown i (node_sees d.nodes p.seen i c.node c.holds (head_along d.nodes c.node c.look p.is))
+      p.shown i (node_sees d.nodes p.seen i c.node c.holds (formed_head d c.node c.look p.is))
 
   other_parent : {i : ℕ} (k j : ℕ) {n : Node} → is_counted d.nodes i ≡ true → slice_get d.nodes k ≡ Some n → slice_get (parts_of n) j ≡ Some i → shows_earlier n ≡ false → ⊥
   other_parent {i} k j {n} counted at part hides =

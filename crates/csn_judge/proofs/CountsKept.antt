@@ -1,22 +1,16 @@
 -- Counts, by the values that are kept.
-use Rattle.std.proofs.Common.{◌≡◌, ℕ, zero, suc, ◌+◌, ◌*◌, ◌^◌, ◌<◌, ◌≤◌, ◌==◌, ◌||◌, Bool, true, false, if◌then◌else◌, eqb-true, List, [], ◌∷◌, ◌++◌, reverse, refl, sym, ◌∙◌, ap, subst, arith, Option, Some, None, slice_get}
-use Rattle.std.specs.Prelude.{IsSome, IsSomeAnd}
-use Rattle.std.specs.List.{list_any}
+use Rattle.std.proofs.Common.{◌≡◌, ℕ, ◌+◌, ◌*◌, ◌<◌, ◌≤◌, ◌==◌, Bool, true, false, if◌then◌else◌, eqb-true, List, [], ◌∷◌, ◌++◌, reverse, refl, sym, ◌∙◌, ap, subst, Some}
 use Rattle.std.specs.Option.{option_map}
 use Rattle.std.proofs.lemmas.List.{reverse-append}
-use Rattle.std.proofs.Math.Nat.{pow-le-pow_right}
-use Rattle.std.proofs.lemmas.Bool.{eq-eqb}
 use Rattle.csn_bits.specs.Numbers.{number_of}
 use Rattle.csn_desc.specs.declared.node.Count.{Count}
-use Rattle.csn_desc.specs.declared.node.Count.TheVariants.{Fixed, Counted}
-use Rattle.csn_desc.specs.declared.node.Node.{Node}
+use Rattle.csn_desc.specs.declared.node.Count.TheVariants.{Counted}
 use Rattle.csn_desc.specs.Nodes.{DescV}
 use Rattle.csn_desc.specs.Values.{Values, value_of, count_of}
-use Rattle.csn_desc.specs.Formed.{counts_on, node_counts_on, is_counted, value_width, IsCount}
+use Rattle.csn_desc.specs.Formed.{is_counted}
+use Rattle.csn_certify.specs.CountedValues.{HasNumber}
 use Rattle.csn_judge.specs.declared.values.Value.{Value}
-use Rattle.csn_judge.specs.Inside.{seen_of, IsReady}
-use Rattle.csn_judge.specs.Shown.{number_in, kept_of, HasNumber}
-use Rattle.csn_judge.proofs.Stacks.{seen_have_values}
+use Rattle.csn_judge.specs.Shown.{number_in, kept_of}
 
 -- the last value is the first from behind
 last_first : (earlier : List Value) (last : Value) → reverse (earlier ++ last ∷ []) ≡ last ∷ reverse earlier
@@ -78,46 +72,3 @@ module _ (d : DescV) where
 
   pub counted_on : (v : Values) (count : Count) (m field c : ℕ) → count ≡ Counted m field c → HasNumber d v count → is_counted d.nodes field ≡ true
   counted_on v count m field c is has = let P : Count → Type 0 = λ k. HasNumber d v k in (subst P is has).0
-
-  -- ---- a count of a node is a number
-
-  -- a node that counts on a field makes it counted
-  any_at : (p : Node → Bool) (l : List Node) (i : ℕ) (n : Node) → slice_get l i ≡ Some n → p n ≡ true → list_any p l ≡ true
-  any_at p [] i n at holds = absurd (cc)
-  any_at p (a ∷ l) zero n at holds =
-      let same : a ≡ n = cc in
-      ap (λ b. b || list_any p l) (ap p same ∙ holds)
-  any_at p (a ∷ l) (suc i) n at holds = by (p a) (any_at p l i n at holds)
-    where
-      by : (b : Bool) → list_any p l ≡ true → (b || list_any p l) ≡ true
-      by true later = refl
-      by false later = later
-
-  narrow : (value width : ℕ) → value < 2 ^ width → width ≤ 16 → value < 65536
-  narrow value width less few =
-      let wide : 2 ^ width ≤ 2 ^ 16 = pow-le-pow_right {n = 2} (omega arith) few in
-      let all : 2 ^ 16 ≡ 65536 = refl in
-      omega (arith, less, wide, all)
-
-  -- a count of a node that begins is a number by the values that it sees
-  pub has_number : {round i from : ℕ} {v : Values} (n : Node) (count : Count) → IsReady d i from round v → slice_get d.nodes i ≡ Some n
-      → IsCount d.nodes (seen_of v) count → ((field : ℕ) → counts_on field count ≡ true → node_counts_on field n ≡ true) → HasNumber d v count
-  has_number n (Fixed k) ready at is on = is.1
-  has_number {i = i} {v = v} n (Counted m field c) ready at is on =
-      let there = value_at (value_of v field) refl (seen_have_values v field is.2) in
-      let width = some_width (value_width d.nodes field) refl is.3 in (
-        any_at (node_counts_on field) d.nodes i n at (on field (eq-eqb field field refl)),
-        is.1,
-        there.0,
-        there.1,
-        narrow there.0 width.0 (ready.widths.fit field there.0 width.0 there.1 width.1) width.3,
-      )
-    where
-      value_at : (found : Option ℕ) → value_of v field ≡ found → IsSome found → (number : ℕ) × (value_of v field ≡ Some number)
-      value_at None e some = absurd (cc)
-      value_at (Some number) e some = (number, e)
-
-      some_width : (found : Option ℕ) → value_width d.nodes field ≡ found → IsSomeAnd found (λ width. (1 ≤ width) × (width ≤ 16))
-          → (width : ℕ) × (value_width d.nodes field ≡ Some width) × (1 ≤ width) × (width ≤ 16)
-      some_width None e some = absurd (some)
-      some_width (Some width) e some = (width, e, some.0, some.1)

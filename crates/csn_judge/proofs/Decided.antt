@@ -10,13 +10,15 @@ use Rattle.csn_look.specs.Keys.{InKeys}
 use Rattle.csn_certify.specs.declared.pick.Pick.{Pick}
 use Rattle.csn_certify.specs.declared.pick.Pick.TheVariants.{Take, Wait, Refuse}
 use Rattle.csn_certify.specs.Picks.{BeginsWithKey, StandsBehind, behind_bit, TakesNone, Picks, pick_key, pick_none, pick_wait, pick_refuse, pick_again, pick_leave}
+use Rattle.csn_certify.specs.CountedValues.{fields_of}
+use Rattle.csn_certify.proofs.CountedValues.{fields_have_values}
 use Rattle.csn_judge.specs.Known.{Known}
 use Rattle.csn_judge.specs.Left.{Left, choice_left}
 use Rattle.csn_judge.specs.Remains.{Within}
-use Rattle.csn_judge.specs.Inside.{seen_of, IsStack, stack_node, of_all, of_choice}
+use Rattle.csn_judge.specs.Inside.{IsStack, stack_node, of_all, of_choice}
 use Rattle.csn_judge.proofs.Choosing.{node_empty}
 use Rattle.csn_judge.proofs.LookAhead.{Decides, within_less}
-use Rattle.csn_judge.proofs.Stacks.{Begun, begun_of, alternative_begun, first_next, seen_have_values}
+use Rattle.csn_judge.proofs.Stacks.{Begun, begun_of, alternative_begun, first_next}
 use Rattle.csn_judge.proofs.Turning.{moving}
 
 module _ (d : DescV) where
@@ -157,7 +159,7 @@ module _ (d : DescV) where
         fronts y r cut longer =
             let P : List ℕ → Type 0 = λ l. InKeys d 12 part (length done % 8) l mark in
             let formed_part = (alternative_begun d 12 known.description known.certified j at here begun).ready.formed in
-            known.keys d 12 (seen_of v) (suc (length outer)) part (length done) v y r mark formed_part (seen_have_values v) (subst P cut key)
+            known.keys d 12 (fields_of v) (suc (length outer)) part (length done) v y r mark formed_part (fields_have_values v) (subst P cut key)
 
     pub decided : Picks d 12 k (length done % 8) (bit ∷ rest) false (Take j) → Decided k part j parts v outer done (bit ∷ rest) known
     decided picks = elim (takes_of at picks) [ inl key ↦ by_key key | inr none ↦ by_none none.0 none.1 ]

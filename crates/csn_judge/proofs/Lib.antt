@@ -39,4 +39,5 @@ pub mod TurningOn
 pub mod GoingOn
 pub mod PayingParts
 pub mod JudgingFacts
+pub mod NewJudges
 pub mod CountsKept

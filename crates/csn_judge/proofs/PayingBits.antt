@@ -1,5 +1,5 @@
 -- Steps are paid for by the bits that are taken.
-use Rattle.std.proofs.Common.{inl, ◌≡◌, ℕ, ◌+◌, ◌-◌, ◌*◌, ◌<◌, ◌≤◌, nat_lt, Bool, true, false, if◌then◌else◌, List, ◌∷◌, length, refl, ◌∙◌, ap, arith, length-append, slice_get, Some}
+use Rattle.std.proofs.Common.{inl, ◌≡◌, ℕ, ◌+◌, ◌-◌, ◌*◌, ◌<◌, ◌≤◌, nat_lt, Bool, true, false, if◌then◌else◌, List, ◌∷◌, length, refl, sym, subst, ◌∙◌, ap, arith, length-append, slice_get, Some}
 use Rattle.std.proofs.Math.Nat.{mul-add, le-mul_of_pos_right}
 use Rattle.std.proofs.lemmas.Bool.{ltb-true, ltb-false}
 use Rattle.csn_desc.specs.declared.moves.Move.{Move}
@@ -149,12 +149,14 @@ counted_credit {nodes} {part} i behind frames pace bits light within rises =
     by a b c w less same light = omega (arith, less, same, light)
 
 -- a field is entered with its label, which is lighter too
-pub labelled_credit : {nodes part : ℕ} (i m : ℕ) (frames : List Frame) (pace : Pace) (bits : ℕ) → part < nodes → pace.next ≤ part
-    → credit_of nodes (frame.Leaf part (leaf.Field m) ∷ frame.Named i ∷ frames) (begun_by part pace) bits + 1 ≤ credit_of nodes (frame.Begin i ∷ frames) pace bits
-labelled_credit {nodes} {part} i m frames pace bits within rises =
+pub labelled_credit : {nodes part : ℕ} {begun : Pace} (i m : ℕ) (frames : List Frame) (pace : Pace) (bits : ℕ) → begun ≡ begun_by part pace → part < nodes → pace.next ≤ part
+    → credit_of nodes (frame.Leaf part (leaf.Field m) ∷ frame.Named i ∷ frames) begun bits + 1 ≤ credit_of nodes (frame.Begin i ∷ frames) pace bits
+labelled_credit {nodes} {part} i m frames pace bits is within rises =
     let less = begun_credit (frame.Begin i) (frame.Named i) frames pace bits within (inl rises) in
     let same = lighter (weights_of (frame.Named i ∷ frames)) (4 * (nodes - (begun_by part pace).next)) (if (begun_by part pace).again then 0 else 4 * nodes) (6 * nodes * bits) in
-    by (credit_of nodes (frame.Begin part ∷ frame.Named i ∷ frames) (begun_by part pace) bits) (credit_of nodes (frame.Leaf part (leaf.Field m) ∷ frame.Named i ∷ frames) (begun_by part pace) bits) (credit_of nodes (frame.Begin i ∷ frames) pace bits) less same
+    let P : Pace → Type 0 = λ p. credit_of nodes (frame.Leaf part (leaf.Field m) ∷ frame.Named i ∷ frames) p bits + 1 ≤ credit_of nodes (frame.Begin i ∷ frames) pace bits in
+    subst P (sym is)
+    (by (credit_of nodes (frame.Begin part ∷ frame.Named i ∷ frames) (begun_by part pace) bits) (credit_of nodes (frame.Leaf part (leaf.Field m) ∷ frame.Named i ∷ frames) (begun_by part pace) bits) (credit_of nodes (frame.Begin i ∷ frames) pace bits) less same)
   where
     lighter : (w next again bits : ℕ) → 3 + w + next + again + bits ≡ 2 + (1 + w + next + again + bits)
     lighter w next again bits = omega arith

@@ -1,17 +1,14 @@
 -- The nodes that are open stay where they are: what is kept by each step.
-use Rattle.std.proofs.Common.{◌≡◌, ℕ, zero, suc, ◌+◌, ◌*◌, ◌%◌, ◌<◌, ◌≤◌, ◌==◌, ◌⊎◌, inl, inr, Bool, true, false, if◌then◌else◌, List, [], ◌∷◌, ◌++◌, length, drop, refl, sym, ◌∙◌, ap, subst, arith, append_assoc, mul-suc, Option, Some, None, option_map, slice_get, Contains}
-use Rattle.std.specs.Prelude.{IsSome}
-use Rattle.std.specs.List.{slice_index_or}
+use Rattle.std.proofs.Common.{◌≡◌, ℕ, zero, suc, ◌+◌, ◌*◌, ◌%◌, ◌<◌, ◌≤◌, ◌⊎◌, inl, inr, Bool, true, false, List, [], ◌∷◌, ◌++◌, length, drop, refl, sym, ◌∙◌, ap, subst, arith, append_assoc, mul-suc, Option, Some, None, option_map, slice_get}
 use Rattle.csn_bits.specs.Octets.{IsBits}
-use Rattle.csn_bits.specs.Numbers.{number_of}
 use Rattle.csn_desc.specs.declared.symbol.Symbol.{Symbol}
 use Rattle.csn_desc.specs.declared.node.Count.{Count}
 use Rattle.csn_desc.specs.declared.node.Count.TheVariants.{Fixed, Counted}
 use Rattle.csn_desc.specs.declared.node.Node.{Node}
 use Rattle.csn_desc.specs.declared.node.Node.TheVariants.{Lits, Spare, Pad, Null, Field, Rest, Seq, Choice, Times, Many, Trunc, Window, Named}
-use Rattle.csn_desc.specs.Nodes.{DescV, head_of, parts_of}
-use Rattle.csn_desc.specs.Values.{Values, value_of, count_of, with_value, is_named}
-use Rattle.csn_desc.specs.Formed.{width_of, shows_earlier, with_seen, Spans, PartsSpan, span_next, IsHead, Formed, PartsFormed, formed, formed_end, formed_next, HaveValues, FitWidths, IsDescription}
+use Rattle.csn_desc.specs.Nodes.{DescV, parts_of}
+use Rattle.csn_desc.specs.Values.{Values, value_of, count_of}
+use Rattle.csn_desc.specs.Formed.{width_of, shows_earlier, with_seen, Spans, PartsSpan, span_next, Formed, PartsFormed, formed, formed_end, formed_next, FitWidths, IsDescription}
 use Rattle.std.proofs.lemmas.Bool.Decides.{leb_tells}
 use Rattle.std.proofs.lemmas.Option.{slice_get_within}
 use Rattle.csn_desc.specs.Laws.{NodesAreWellFormed}
@@ -27,38 +24,13 @@ use Rattle.csn_look.proofs.Meaning.FollowFacts.{cuts}
 use Rattle.csn_look.proofs.Meaning.ShapeFacts.{CountIs, NodeIs, shaped, may_count}
 use Rattle.csn_certify.specs.declared.conflict.Conflict.TheVariants.{NotFirm}
 use Rattle.csn_certify.specs.Conflicts.{times_not_firm, many_not_firm, Certified}
+use Rattle.csn_certify.specs.CountedValues.{fields_of}
+use Rattle.csn_certify.proofs.CountedValues.{fields_behind}
 use Rattle.csn_judge.specs.Left.{Left, all_left, bits_left, symbols_left, spare_left, pad_left, rest_left, choice_left, none_left, window_left, parts_left, turns_left, free_left, cut_left, lead_left, behind}
-use Rattle.csn_judge.specs.Inside.{seen_of, IsReady, Inside, inside_none, inside_choice, inside_label, inside_window, inside_parts, inside_turns, inside_free, inside_lead, IsRead, IsFresh, fresh_as, fresh_turn, UpTo, of_all, of_field, of_literal, of_spare, of_pad, of_rest, of_read, of_choice, of_window, of_parts, of_turns, of_free, of_cut, of_lead, IsStack, stack_end, stack_node}
+use Rattle.csn_judge.specs.Inside.{IsReady, Inside, inside_none, inside_choice, inside_label, inside_window, inside_parts, inside_turns, inside_free, inside_lead, IsRead, IsFresh, fresh_as, fresh_turn, UpTo, of_all, of_field, of_literal, of_spare, of_pad, of_rest, of_read, of_choice, of_window, of_parts, of_turns, of_free, of_cut, of_lead, IsStack, stack_end, stack_node}
 use Rattle.csn_judge.proofs.Standing.{sequence_width, choice_width, times_width, many_width, truncation_width, window_width, label_width, fits_behind}
 
--- ---- values
-
-pub contains_cases : (y : ℕ) (xs : List ℕ) (x : ℕ) → Contains (y ∷ xs) x → (y ≡ x) ⊎ Contains xs x
-contains_cases y xs x h = at h.0 h.1 h.2
-  where
-    at : (k : ℕ) → k < length (y ∷ xs) → slice_index_or (y ∷ xs) k x ≡ x → (y ≡ x) ⊎ Contains xs x
-    at zero less same = inl same
-    at (suc k) less same = inr (k, omega arith, same)
-
--- each field that is seen has a value
-pub seen_have_values : (v : Values) → HaveValues v (seen_of v)
-seen_have_values [] field h = absurd (omega (arith, h.1))
-seen_have_values (last ∷ v) field h = found (λ seen. seen_have_values v field seen) (last.0 == field) refl (contains_cases last.0 (seen_of v) field h)
-  where
-    found : (Contains (seen_of v) field → IsSome (value_of v field)) → (same : Bool) → (last.0 == field) ≡ same → (last.0 ≡ field) ⊎ Contains (seen_of v) field → IsSome (if same then Some (number_of last.1) else value_of v field)
-    found earlier true e h = refl
-    found earlier false e (inl same) = absurd (grind (arith, e, same))
-    found earlier false e (inr h) = earlier h
-
 module _ (d : DescV) where
-  -- what is seen behind a part
-  pub seen_behind : (i : ℕ) (b : List ℕ) (v : Values) → seen_of (with_value d.nodes i b v) ≡ with_seen d.nodes true i (seen_of v)
-  seen_behind i b v = by (is_named d.nodes i)
-    where
-      by : (labelled : Bool) → seen_of (if labelled then (i, b) ∷ v else v) ≡ (if labelled then i ∷ seen_of v else seen_of v)
-      by true = refl
-      by false = refl
-
   -- ---- what a well-formed node is
 
   pub parts_formed : {i round : ℕ} {seen : List ℕ} {n : Node} → slice_get d.nodes i ≡ Some n → Formed d.nodes seen round i → PartsFormed d.nodes (shows_earlier n) seen (suc round) (parts_of n)
@@ -66,12 +38,6 @@ module _ (d : DescV) where
       let same : m ≡ n = cc in
       let P : Node → Type 0 = λ k. PartsFormed d.nodes (shows_earlier k) seen (suc round) (parts_of k) in
       subst P same parts
-
-  pub head_formed : {i round : ℕ} {seen : List ℕ} {n : Node} → slice_get d.nodes i ≡ Some n → Formed d.nodes seen round i → IsHead d.nodes seen (head_of n)
-  head_formed {seen = seen} {n = n} at (formed m here few head have bound parts) =
-      let same : m ≡ n = cc in
-      let P : Node → Type 0 = λ k. IsHead d.nodes seen (head_of k) in
-      subst P same head
 
   pub first_formed : {shows : Bool} {seen : List ℕ} {round i : ℕ} {parts : List ℕ} → PartsFormed d.nodes shows seen round (i ∷ parts) → Formed d.nodes seen round i
   first_formed (formed_next first rest) = first
@@ -293,19 +259,19 @@ module _ (d : DescV) (most : ℕ) (is : IsDescription d) (certified : Certified 
     pub cut : parts ≡ (before ++ part ∷ []) ++ (j ∷ ps)
     pub ended : PartsEnd d (before ++ part ∷ []) (from % 8) (length done % 8)
     pub fits : FitWidths d (behind d part at_part w done)
-    pub formed : PartsFormed d.nodes true (seen_of (behind d part at_part w done)) round (j ∷ ps)
+    pub formed : PartsFormed d.nodes true (fields_of (behind d part at_part w done)) round (j ∷ ps)
 
-  parts_on : {parts ps : List ℕ} {part at_part j from round : ℕ} {w : Values} {done : List ℕ} (before : List ℕ) → parts ≡ before ++ part ∷ (j ∷ ps) → PartsEnd d before (from % 8) (at_part % 8) → FitWidths d w → PartsFormed d.nodes true (with_seen d.nodes true part (seen_of w)) round (j ∷ ps) → IsRead d part at_part done → PartsOn parts before ps part at_part j from round w done
+  parts_on : {parts ps : List ℕ} {part at_part j from round : ℕ} {w : Values} {done : List ℕ} (before : List ℕ) → parts ≡ before ++ part ∷ (j ∷ ps) → PartsEnd d before (from % 8) (at_part % 8) → FitWidths d w → PartsFormed d.nodes true (with_seen d.nodes true part (fields_of w)) round (j ∷ ps) → IsRead d part at_part done → PartsOn parts before ps part at_part j from round w done
   parts_on {ps = ps} {part} {at_part} {j} {w = w} {done = done} before split so_far fits well read =
       record {
         cut = split ∙ sym (append_assoc before (part ∷ []) (j ∷ ps));
         ended = parts_end_more d so_far read.ends;
         fits = fits_behind d part (drop at_part done) w read.width fits;
-        formed = seen_along d (j ∷ ps) (sym (seen_behind d part (drop at_part done) w)) well;
+        formed = seen_along d (j ∷ ps) (sym (fields_behind d part (drop at_part done) w)) well;
       }
 
   -- the next part of a sequence
-  pub next_begun : {fresh : Option ℕ} {i part at_part j : ℕ} {ps : List ℕ} {w v0 : Values} {from : ℕ} {outer : List Left} {done : List ℕ} (parts before : List ℕ) → slice_get d.nodes i ≡ Some (Seq parts) → parts ≡ before ++ part ∷ (j ∷ ps) → PartsEnd d before (from % 8) (at_part % 8) → from ≤ at_part → (from ≡ at_part → AllNullable d before) → FitWidths d w → PartsFormed d.nodes true (with_seen d.nodes true part (seen_of w)) (suc (length outer)) (j ∷ ps) → IsRead d part at_part done → IsBits done → IsReady d i from (length outer) v0 → Inside d fresh outer i from v0 → Begun d fresh j (behind d part at_part w done) (parts_left j (length done) ps (behind d part at_part w done) ∷ outer) done
+  pub next_begun : {fresh : Option ℕ} {i part at_part j : ℕ} {ps : List ℕ} {w v0 : Values} {from : ℕ} {outer : List Left} {done : List ℕ} (parts before : List ℕ) → slice_get d.nodes i ≡ Some (Seq parts) → parts ≡ before ++ part ∷ (j ∷ ps) → PartsEnd d before (from % 8) (at_part % 8) → from ≤ at_part → (from ≡ at_part → AllNullable d before) → FitWidths d w → PartsFormed d.nodes true (with_seen d.nodes true part (fields_of w)) (suc (length outer)) (j ∷ ps) → IsRead d part at_part done → IsBits done → IsReady d i from (length outer) v0 → Inside d fresh outer i from v0 → Begun d fresh j (behind d part at_part w done) (parts_left j (length done) ps (behind d part at_part w done) ∷ outer) done
   next_begun {fresh} {i} {part} {at_part} {j} {ps} {w} {v0} {from} {outer} {done} parts before at split so_far order none fits well read good ready inner =
       let on = parts_on before split so_far fits well read in
       record {
@@ -346,7 +312,7 @@ module _ (d : DescV) (most : ℕ) (is : IsDescription d) (certified : Certified 
         inner = inside_lead i (length done) v (j ∷ ps) [] at refl (parts_end refl) (omega arith) b.ready.widths (rest_formed d parts) b.ready b.inner;
       }
 
-  pub next_component_begun : {fresh : Option ℕ} {i part at_part j : ℕ} {ps : List ℕ} {w v0 : Values} {from : ℕ} {outer : List Left} {done : List ℕ} (parts before : List ℕ) → slice_get d.nodes i ≡ Some (Trunc parts) → parts ≡ before ++ part ∷ (j ∷ ps) → PartsEnd d before (from % 8) (at_part % 8) → from ≤ at_part → FitWidths d w → PartsFormed d.nodes true (with_seen d.nodes true part (seen_of w)) (suc (length outer)) (j ∷ ps) → IsRead d part at_part done → IsBits done → IsReady d i from (length outer) v0 → Inside d fresh outer i from v0 → Begun d fresh j (behind d part at_part w done) (lead_left j (length done) ps (behind d part at_part w done) ∷ outer) done
+  pub next_component_begun : {fresh : Option ℕ} {i part at_part j : ℕ} {ps : List ℕ} {w v0 : Values} {from : ℕ} {outer : List Left} {done : List ℕ} (parts before : List ℕ) → slice_get d.nodes i ≡ Some (Trunc parts) → parts ≡ before ++ part ∷ (j ∷ ps) → PartsEnd d before (from % 8) (at_part % 8) → from ≤ at_part → FitWidths d w → PartsFormed d.nodes true (with_seen d.nodes true part (fields_of w)) (suc (length outer)) (j ∷ ps) → IsRead d part at_part done → IsBits done → IsReady d i from (length outer) v0 → Inside d fresh outer i from v0 → Begun d fresh j (behind d part at_part w done) (lead_left j (length done) ps (behind d part at_part w done) ∷ outer) done
   next_component_begun {fresh} {i} {part} {at_part} {j} {ps} {w} {v0} {from} {outer} {done} parts before at split so_far order fits well read good ready inner =
       let on = parts_on before split so_far fits well read in
       record {

@@ -3,6 +3,7 @@ use Rattle.std.proofs.Common.{inr, ◌≡◌, ℕ, suc, ◌+◌, ◌<◌, ◌≤
 use Rattle.std.proofs.lemmas.List.{reverse-append}
 use Rattle.std.proofs.lemmas.Option.{slice_get_within}
 use Rattle.std.proofs.lemmas.Bool.{ltb-true}
+use Rattle.std.proofs.lemmas.List.{length-reverse}
 use Rattle.csn_desc.specs.declared.moves.Move.{Move}
 use Rattle.csn_desc.specs.declared.moves.Move.TheVariants.{Leave}
 use Rattle.csn_desc.specs.declared.node.Node.{Node}
@@ -34,8 +35,8 @@ use Rattle.csn_judge.proofs.Stacks.{window_read, up_part, of_begun, turn_begun, 
 use Rattle.csn_judge.proofs.Wholes.{next_turn, no_turns}
 
 -- one frame more
-pub pushed : {A : Type 0} (items : List A) (top : A) → reverse (items ++ top ∷ []) ≡ top ∷ reverse items
-pushed items top = reverse-append items (top ∷ [])
+pub pushed : {A : Type 0} {others : List A} (items : List A) (top : A) → others ≡ items ++ top ∷ [] → reverse others ≡ top ∷ reverse items
+pushed {A} items top put = ap (λ (l : List A). reverse l) put ∙ reverse-append items (top ∷ [])
 
 module _ (d : DescV) where
   pub moving : Known d → Moving
@@ -81,6 +82,11 @@ module _ (d : DescV) where
   frames_room (shows_taken i is_of kept round) is = omega (arith, room is, round_length round)
   frames_room (shows_labelled i is_of kept round) is = omega (arith, room is, round_length round)
   frames_room (shows_window i ends is_of kept round) is = omega (arith, room is, round_length round)
+
+  -- so there is for the frames as the machine holds them, the innermost last
+  pub items_room : {next : ℕ} {fresh : Option ℕ} {top : Frame} {values : List Value} {stack : List Left} {done : List ℕ} (items : List Frame)
+      → Shows d (top ∷ reverse items) values stack done → IsStack d next fresh stack done → length items < 64
+  items_room items shows is = omega (arith, frames_room shows is, length-reverse items)
 
   -- behind a node the frames round it show what is left of theirs
   pub shown_behind : {frames : List Frame} {outer : List Left} {k : ℕ} {values : List Value} (done : List ℕ)

@@ -1,8 +1,6 @@
 -- Turns of the frames of labelled fields that counts stand on.
-use Rattle.std.proofs.Common.{inl, inr, ◌≡◌, ◌⊎◌, ℕ, zero, suc, ◌+◌, ◌-◌, ◌*◌, ◌^◌, ◌%◌, ◌<◌, ◌≤◌, ◌||◌, eqb-true, Bool, true, false, if◌then◌else◌, List, [], ◌∷◌, ◌++◌, length, drop, map, refl, sym, ◌∙◌, ap, subst, arith, append-nil, length-append, length-drop, Option, Some, None, slice_get, IsSomeAnd}
+use Rattle.std.proofs.Common.{inl, inr, ◌≡◌, ◌⊎◌, ℕ, zero, suc, ◌+◌, ◌-◌, ◌*◌, ◌^◌, ◌%◌, ◌<◌, ◌≤◌, Bool, true, false, if◌then◌else◌, List, [], ◌∷◌, ◌++◌, length, drop, map, refl, sym, ◌∙◌, ap, subst, arith, append-nil, length-append, length-drop, Option, Some, None, slice_get}
 use Rattle.std.specs.Prelude.{count_by, cond}
-use Rattle.std.proofs.lemmas.List.Sums.{sum_by-cons}
-use Rattle.std.specs.List.{list_any}
 use Rattle.std.specs.Option.{option_and_then}
 use Rattle.std.specs.Int.Bits.{bit_or}
 use Rattle.std.proofs.Math.Pow.{pow_mono}
@@ -13,13 +11,14 @@ use Rattle.csn_bits.specs.Octets.{IsBits}
 use Rattle.csn_bits.specs.Numbers.{number_of}
 use Rattle.csn_desc.specs.declared.moves.Move.{Move}
 use Rattle.csn_desc.specs.declared.moves.Move.TheVariants.{Bit, Leave}
-use Rattle.csn_desc.specs.declared.node.Count.{Count}
 use Rattle.csn_desc.specs.declared.node.Count.TheVariants.{Fixed, Counted as CountedBy}
 use Rattle.csn_desc.specs.declared.node.Node.{Node}
 use Rattle.csn_desc.specs.declared.node.Node.TheVariants.{Lits, Spare, Pad, Null, Field, Rest, Seq, Choice, Times, Many, Trunc, Window, Named}
-use Rattle.csn_desc.specs.Nodes.{DescV, head_of}
+use Rattle.csn_desc.specs.Nodes.{DescV}
 use Rattle.csn_desc.specs.Values.{Values, is_named, is_labelled}
-use Rattle.csn_desc.specs.Formed.{is_counted, counts_on, node_counts_on, value_width, width_of, labelled_part, IsCount, IsHead, Formed, formed}
+use Rattle.csn_desc.specs.Formed.{is_counted, value_width, width_of, labelled_part, Formed, formed}
+use Rattle.csn_certify.specs.CountedValues.{fields_of}
+use Rattle.csn_certify.proofs.CountedValues.{FewBits, few_bits, count_more}
 use Rattle.csn_judge.specs.declared.frame.Frame.{Frame}
 use Rattle.csn_judge.specs.declared.frame.Frame.TheVariants as frame
 use Rattle.csn_judge.specs.declared.frame.Counted.{Counted}
@@ -30,7 +29,7 @@ use Rattle.csn_judge.specs.declared.turn.Turn.TheVariants.{Moved, Waits, Refused
 use Rattle.csn_judge.specs.Known.{Known}
 use Rattle.csn_judge.specs.Coming.{Coming}
 use Rattle.csn_judge.specs.Left.{Left, bits_left, none_left}
-use Rattle.csn_judge.specs.Inside.{AreOwed, seen_of, IsReady, Inside, inside_choice, inside_label, inside_parts, inside_lead, IsStack, stack_end, stack_node}
+use Rattle.csn_judge.specs.Inside.{AreOwed, IsReady, Inside, inside_choice, inside_label, inside_parts, inside_lead, IsStack, stack_end, stack_node}
 use Rattle.csn_judge.specs.Shown.{limit_in, kept_of, seen_in, seen_behind, Round, BeganAt, began_part, began_lead, Shows, shows_counted}
 use Rattle.csn_bits.proofs.NumberFacts.{number_of-append, number_of-lt}
 use Rattle.csn_judge.specs.Told.{BitsTold, Tells, tells_none, tells_leave}
@@ -48,62 +47,14 @@ use Rattle.csn_bits.proofs.Packing.{IsBits-append}
 
 -- ---- a labelled field that some count stands on
 
-pub record Counter (p : Node → Bool) (nodes : List Node) : Type 0 where
-  pub at : ℕ
-  pub node : Node
-  pub look : slice_get nodes at ≡ Some node
-  pub holds : p node ≡ true
-
-pub counter : (p : Node → Bool) (nodes : List Node) → list_any p nodes ≡ true → Counter p nodes
-counter p [] none = absurd (cc)
-counter p (n ∷ nodes) some = by (p n) refl (λ h. counter p nodes h) some
-  where
-    by : (here : Bool) → p n ≡ here → (list_any p nodes ≡ true → Counter p nodes) → (here || list_any p nodes) ≡ true → Counter p (n ∷ nodes)
-    by true e rest some = record { at = 0; node = n; look = refl; holds = e }
-    by false e rest some = let later = rest some in record { at = suc later.at; node = later.node; look = later.look; holds = later.holds }
-
-abbrev FewBits : Option ℕ → Type 0
-FewBits width = IsSomeAnd width (λ w. (1 ≤ w) × (w ≤ 16))
-
-count_width : (nodes : List Node) (seen : List ℕ) (k : ℕ) (count : Count) → counts_on k count ≡ true → IsCount nodes seen count → FewBits (value_width nodes k)
-count_width nodes seen k (Fixed n) counts is = absurd (cc)
-count_width nodes seen k (CountedBy m field c) counts is =
-    let same : field ≡ k = eqb-true field k counts in
-    let P : ℕ → Type 0 = λ j. FewBits (value_width nodes j) in
-    subst P same is.3
-
-node_width : (nodes : List Node) (seen : List ℕ) (k : ℕ) (n : Node) → node_counts_on k n ≡ true → IsHead nodes seen (head_of n) → FewBits (value_width nodes k)
-node_width nodes seen k (Field unit count) counts is = count_width nodes seen k count counts is.1
-node_width nodes seen k (Times count part) counts is = count_width nodes seen k count counts is
-node_width nodes seen k (Window unit count part) counts is = count_width nodes seen k count counts is.1
-node_width nodes seen k (Lits run) counts is = absurd (cc)
-node_width nodes seen k (Spare symbol) counts is = absurd (cc)
-node_width nodes seen k Pad counts is = absurd (cc)
-node_width nodes seen k Null counts is = absurd (cc)
-node_width nodes seen k Rest counts is = absurd (cc)
-node_width nodes seen k (Seq parts) counts is = absurd (cc)
-node_width nodes seen k (Choice parts) counts is = absurd (cc)
-node_width nodes seen k (Many part) counts is = absurd (cc)
-node_width nodes seen k (Trunc parts) counts is = absurd (cc)
-node_width nodes seen k (Named label part) counts is = absurd (cc)
-
 module _ (d : DescV) where
-  formed_head : {seen : List ℕ} {round i : ℕ} (n : Node) → slice_get d.nodes i ≡ Some n → Formed d.nodes seen round i → IsHead d.nodes seen (head_of n)
-  formed_head {seen} n at (formed m here few head parts counted later) =
-      let same : m ≡ n = cc in
-      let P : Node → Type 0 = λ x. IsHead d.nodes seen (head_of x) in
-      subst P same head
-
   -- it has 1 to 16 bits
   pub counted_width : Known d → (k : ℕ) {part unit width : ℕ} (label : List ℕ) → is_counted d.nodes k ≡ true → slice_get d.nodes k ≡ Some (Named label part)
       → slice_get d.nodes part ≡ Some (Field unit (Fixed width)) → (1 ≤ unit * width) × (unit * width ≤ 16)
   counted_width known k {part} {unit} {width} label counted at look =
-      let c = counter (node_counts_on k) d.nodes counted in
-      let placed = known.well_formed d c.at c.node known.description c.look in
-      let few = node_width d.nodes placed.0 k c.node c.holds (formed_head c.node c.look placed.2) in
       let is : value_width d.nodes k ≡ Some (unit * width) = ap (λ n. option_and_then (λ p. width_of (slice_get d.nodes p)) (labelled_part n)) at ∙ ap (λ n. width_of n) look in
       let P : Option ℕ → Type 0 = λ w. FewBits w in
-      subst P is few
+      subst P is (few_bits d known.description k counted)
 
   -- ---- the values that it sees
 
@@ -121,25 +72,22 @@ module _ (d : DescV) where
       by (inside_choice k j parts at_choice here ready inner) began = began_ready began inner ready
       by (inside_label k at_label ready inner) began = began_ready began inner ready
 
-  count_more : (p : ℕ → Bool) (x : ℕ) (xs : List ℕ) → count_by p (x ∷ xs) ≡ cond (p x) 1 0 + count_by p xs
-  count_more p x xs = sum_by-cons (λ k. cond (p k) 1 0) x xs
-
-  length_kept : (v : Values) → length (kept_of d v) ≡ count_by (is_counted d.nodes) (seen_of v)
+  length_kept : (v : Values) → length (kept_of d v) ≡ count_by (is_counted d.nodes) (fields_of v)
   length_kept [] = refl
   length_kept (last ∷ earlier) = by (is_counted d.nodes last.0) refl (length_kept earlier)
     where
       kept_if : (counted : Bool) → List Value
       kept_if counted = if counted then kept_of d earlier ++ record { field = last.0; number = number_of last.1 } ∷ [] else kept_of d earlier
 
-      sum : (counted : Bool) → length (kept_of d earlier) ≡ count_by (is_counted d.nodes) (seen_of earlier) → length (kept_if counted) ≡ cond counted 1 0 + count_by (is_counted d.nodes) (seen_of earlier)
+      sum : (counted : Bool) → length (kept_of d earlier) ≡ count_by (is_counted d.nodes) (fields_of earlier) → length (kept_if counted) ≡ cond counted 1 0 + count_by (is_counted d.nodes) (fields_of earlier)
       sum true so_far = omega (arith, so_far, length-append (kept_of d earlier) (record { field = last.0; number = number_of last.1 } ∷ []))
       sum false so_far = omega (arith, so_far)
 
-      by : (counted : Bool) → is_counted d.nodes last.0 ≡ counted → length (kept_of d earlier) ≡ count_by (is_counted d.nodes) (seen_of earlier)
-          → length (kept_of d (last ∷ earlier)) ≡ count_by (is_counted d.nodes) (seen_of (last ∷ earlier))
+      by : (counted : Bool) → is_counted d.nodes last.0 ≡ counted → length (kept_of d earlier) ≡ count_by (is_counted d.nodes) (fields_of earlier)
+          → length (kept_of d (last ∷ earlier)) ≡ count_by (is_counted d.nodes) (fields_of (last ∷ earlier))
       by counted e so_far =
-          ap (λ b. length (kept_if b)) e ∙ sum counted so_far ∙ ap (λ b. cond b 1 0 + count_by (is_counted d.nodes) (seen_of earlier)) (sym e)
-          ∙ sym (count_more (is_counted d.nodes) last.0 (seen_of earlier))
+          ap (λ b. length (kept_if b)) e ∙ sum counted so_far ∙ ap (λ b. cond b 1 0 + count_by (is_counted d.nodes) (fields_of earlier)) (sym e)
+          ∙ sym (count_more (is_counted d.nodes) last.0 (fields_of earlier))
 
   formed_few : {seen : List ℕ} {round i : ℕ} → Formed d.nodes seen round i → is_counted d.nodes i ≡ true → count_by (is_counted d.nodes) seen < 64
   formed_few (formed m here few head parts counted later) is = counted is
@@ -421,12 +369,9 @@ module _ (d : DescV) where
 
   pub field_width : Known d → (i : ℕ) {part : ℕ} (label : List ℕ) → is_counted d.nodes i ≡ true → slice_get d.nodes i ≡ Some (Named label part) → FixedField part
   field_width known i {part} label counted at =
-      let c = counter (node_counts_on i) d.nodes counted in
-      let placed = known.well_formed d c.at c.node known.description c.look in
-      let few = node_width d.nodes placed.0 i c.node c.holds (formed_head d c.node c.look placed.2) in
       let is : value_width d.nodes i ≡ width_of (slice_get d.nodes part) = ap (λ n. option_and_then (λ p. width_of (slice_get d.nodes p)) (labelled_part n)) at in
       let P : Option ℕ → Type 0 = λ w. FewBits w in
-      by (slice_get d.nodes part) refl (subst P is few)
+      by (slice_get d.nodes part) refl (subst P is (few_bits d known.description i counted))
     where
       by : (node : Option Node) → slice_get d.nodes part ≡ node → FewBits (width_of node) → FixedField part
       by None e few = elim few [ ]

@@ -11,6 +11,7 @@ use Rattle.csn_desc.specs.declared.node.Node.TheVariants.{Lits, Spare, Pad, Null
 use Rattle.csn_desc.specs.Nodes.{DescV, head_of, parts_of}
 use Rattle.csn_desc.specs.Values.{Values, count_of}
 use Rattle.csn_desc.specs.Formed.{Formed, formed, HasParts}
+use Rattle.csn_certify.proofs.CountedValues.{formed_head, has_number}
 use Rattle.csn_judge.specs.declared.frame.Frame.{Frame}
 use Rattle.csn_judge.specs.declared.frame.Frame.TheVariants as frame
 use Rattle.csn_judge.specs.declared.leaf.Leaf.TheVariants as leaf
@@ -20,7 +21,7 @@ use Rattle.csn_judge.specs.Known.{Known}
 use Rattle.csn_judge.specs.Coming.{Coming}
 use Rattle.csn_judge.specs.Remains.{Passes}
 use Rattle.csn_judge.specs.Told.{tells_none, tells_enter, tells_leave}
-use Rattle.csn_judge.specs.Left.{Left, all_left, bits_left, symbols_left, spare_left, pad_left, rest_left, choice_left, none_left, window_left, turns_left, free_left, cut_left}
+use Rattle.csn_judge.specs.Left.{Left, all_left, bits_left, symbols_left, spare_left, pad_left, rest_left, choice_left, none_left, turns_left, free_left, cut_left}
 use Rattle.csn_judge.specs.Inside.{IsStack, AreOwed}
 use Rattle.csn_judge.specs.Shown.{kept_of, seen_in, limit_in, KeepsCount, HasNext, Cuts, shows_lits, shows_spare, shows_pad, shows_field, shows_rest, Round, round_seq, round_window, Shows, shows_begin, shows_leaf, shows_open, shows_turns, shows_free, shows_cut}
 use Rattle.csn_judge.specs.Turns.{fresh_at, begun_by, around_of, StateV, Stands, StandsSomewhere, GoesOn}
@@ -30,8 +31,7 @@ use Rattle.csn_judge.proofs.Choosing.{nothing_goes}
 use Rattle.csn_judge.proofs.Entering.{Enters, enters, enter_literal, enter_null, enter_choice, enter_turns, enter_free, enter_cut, enter_field, enter_spare, enter_pad, enter_rest}
 use Rattle.csn_judge.proofs.Parts.{enter_sequence}
 use Rattle.csn_judge.proofs.Wholes.{enter_window}
-use Rattle.csn_judge.proofs.Stacks.{head_formed, Begun, begun_of, just_begun, of_begun, first_next, field_stack, literal_stack, spare_stack, pad_stack, rest_stack, null_stack, choice_stack, turns_stack, free_stack, cut_stack, sequence_begun, window_begun}
-use Rattle.csn_judge.proofs.CountsKept.{has_number}
+use Rattle.csn_judge.proofs.Stacks.{Begun, begun_of, just_begun, of_begun, first_next, field_stack, literal_stack, spare_stack, pad_stack, rest_stack, null_stack, choice_stack, turns_stack, free_stack, cut_stack, sequence_begun, window_begun}
 use Rattle.csn_judge.proofs.Turning.{moving, risen, left_stack, shown_behind, kept_unnamed, unnamed, state, still, still_until}
 
 module _ (d : DescV) where
@@ -57,6 +57,14 @@ module _ (d : DescV) where
   unit_fits : (unit n : ℕ) → (unit ≡ 1) ⊎ (unit ≡ 8) → n < 16777216 → unit * n < 4294967296
   unit_fits unit n (inl one) small = omega (arith, small, ap (λ k. k * n) one)
   unit_fits unit n (inr eight) small = omega (arith, small, ap (λ k. k * n) eight)
+
+  module _ {S : Type 0} (takes : S → Move → Node → S → Type 0) where
+    -- a node has this form, and it was told that it is entered
+    abbrev pub IsEntered : S → ℕ → Node → S → Type 0
+    IsEntered before i form after = (slice_get d.nodes i ≡ Some form) × takes before (Enter i) form after
+
+    pub entered : {before after : S} {i : ℕ} {node form : Node} → node ≡ form → slice_get d.nodes i ≡ Some node → takes before (Enter i) node after → IsEntered before i form after
+    entered {before} {after} {i} is here told = (here ∙ ap (λ n. Some n) is, subst (λ (n : Node). takes before (Enter i) n after) is told)
 
   module _ {S : Type 0} (takes : S → Move → Node → S → Type 0) (before : S) (values : List Value) (pace : Pace) (coming : Coming) where
     -- a node that begins
@@ -110,22 +118,22 @@ module _ (d : DescV) where
       some_parts parts here = omega (arith, has_parts parts here (at_begin stands).begun.ready.formed)
 
       pub field_fits : (unit n : ℕ) (count : Count) → slice_get d.nodes i ≡ Some (Field unit count) → n < 16777216 → unit * n < 4294967296
-      field_fits unit n count here small = unit_fits unit n (head_formed d here (at_begin stands).begun.ready.formed).0 small
+      field_fits unit n count here small = unit_fits unit n (formed_head d _ here (at_begin stands).begun.ready.formed).0 small
 
       pub keeps_field : (unit : ℕ) (count : Count) → slice_get d.nodes i ≡ Some (Field unit count) → KeepsCount d values count
       keeps_field unit count here =
           let a = at_begin stands in
-          record { v = a.stands.v; kept = a.stands.kept; has = has_number d (Field unit count) count a.begun.ready here (head_formed d here a.begun.ready.formed).1 (λ field e. e) }
+          record { v = a.stands.v; kept = a.stands.kept; has = has_number d _ (Field unit count) count a.begun.ready.widths here (formed_head d _ here a.begun.ready.formed).1 (λ field e. e) }
 
       pub keeps_turns : (part : ℕ) (count : Count) → slice_get d.nodes i ≡ Some (Times count part) → KeepsCount d values count
       keeps_turns part count here =
           let a = at_begin stands in
-          record { v = a.stands.v; kept = a.stands.kept; has = has_number d (Times count part) count a.begun.ready here (head_formed d here a.begun.ready.formed) (λ field e. e) }
+          record { v = a.stands.v; kept = a.stands.kept; has = has_number d _ (Times count part) count a.begun.ready.widths here (formed_head d _ here a.begun.ready.formed) (λ field e. e) }
 
       pub keeps_window : (unit part : ℕ) (count : Count) → slice_get d.nodes i ≡ Some (Window unit count part) → KeepsCount d values count
       keeps_window unit part count here =
           let a = at_begin stands in
-          record { v = a.stands.v; kept = a.stands.kept; has = has_number d (Window unit count part) count a.begun.ready here (head_formed d here a.begun.ready.formed).1 (λ field e. e) }
+          record { v = a.stands.v; kept = a.stands.kept; has = has_number d _ (Window unit count part) count a.begun.ready.widths here (formed_head d _ here a.begun.ready.formed).1 (λ field e. e) }
 
       -- its first part is the node behind it
       pub first_rises : (j : ℕ) (parts : List ℕ) (node : Node) → slice_get d.nodes i ≡ Some node → parts_of node ≡ parts → slice_get parts 0 ≡ Some j → pace.next ≤ j
@@ -136,83 +144,85 @@ module _ (d : DescV) where
           omega (arith, a.just, same, first_next d 12 known.description known.certified here is)
 
       pub window_fits : (unit n part : ℕ) (count : Count) → slice_get d.nodes i ≡ Some (Window unit count part) → n < 16777216 → unit * n < 4294967296
-      window_fits unit n part count here small = unit_fits unit n (head_formed d here (at_begin stands).begun.ready.formed).0 small
+      window_fits unit n part count here small = unit_fits unit n (formed_head d _ here (at_begin stands).begun.ready.formed).0 small
 
     module _ {i : ℕ} {frames : List Frame} {after : S} {stack : List Left} {done : List ℕ} (known : Known d)
         (stands : Stands d (state d takes before values pace coming (frame.Begin i ∷ frames)) stack done) where
-      pub literal : (run : List Symbol) → slice_get d.nodes i ≡ Some (Lits run) → takes before (Enter i) (Lits run) after
+      pub literal : (run : List Symbol) → IsEntered takes before i (Lits run) after
           → GoesOn d takes (state d takes before values pace coming (frame.Begin i ∷ frames)) (state d takes before values pace coming (frame.Leaf i (leaf.Lits 0) ∷ frames)) before after stack done
-      literal run here told =
+      literal run (here, told) =
           let a = at_begin stands in
-          let some : 0 < length run = omega (arith, head_formed d here a.begun.ready.formed) in
+          let some : 0 < length run = omega (arith, formed_head d _ here a.begun.ready.formed) in
           enters_as (Lits run) (symbols_left run) a here told refl (shows_leaf (shows_lits run here some refl) (a.stands.kept ∙ ap (λ v. kept_of d v) a.stands.seen) a.stands.round)
           (literal_stack d 12 known.description known.certified here a.begun) refl a.owed (enter_literal d run a.stands.v done)
 
-      pub spare : (symbol : Symbol) → slice_get d.nodes i ≡ Some (Spare symbol) → takes before (Enter i) (Spare symbol) after
+      pub spare : (symbol : Symbol) → IsEntered takes before i (Spare symbol) after
           → GoesOn d takes (state d takes before values pace coming (frame.Begin i ∷ frames)) (state d takes before values pace coming (frame.Leaf i leaf.Spare ∷ frames)) before after stack done
-      spare symbol here told =
+      spare symbol (here, told) =
           let a = at_begin stands in
           enters_as (Spare symbol) (spare_left symbol) a here told refl (shows_leaf (shows_spare here) (a.stands.kept ∙ ap (λ v. kept_of d v) a.stands.seen) a.stands.round)
           (spare_stack d 12 known.description known.certified here a.begun) refl a.owed (enter_spare d symbol a.stands.v done)
 
-      pub pad : slice_get d.nodes i ≡ Some Pad → takes before (Enter i) Pad after
+      pub pad : IsEntered takes before i Pad after
           → GoesOn d takes (state d takes before values pace coming (frame.Begin i ∷ frames)) (state d takes before values pace coming (frame.Leaf i (leaf.Pad false) ∷ frames)) before after stack done
-      pad here told =
+      pad (here, told) =
           let a = at_begin stands in
           enters_as Pad (pad_left false) a here told refl (shows_leaf (shows_pad here) (a.stands.kept ∙ ap (λ v. kept_of d v) a.stands.seen) a.stands.round)
           (pad_stack d 12 known.description known.certified here a.begun) refl a.owed (enter_pad d a.stands.v done)
 
-      pub rest : slice_get d.nodes i ≡ Some Rest → takes before (Enter i) Rest after
+      pub rest : IsEntered takes before i Rest after
           → GoesOn d takes (state d takes before values pace coming (frame.Begin i ∷ frames)) (state d takes before values pace coming (frame.Leaf i leaf.Rest ∷ frames)) before after stack done
-      rest here told =
+      rest (here, told) =
           let a = at_begin stands in
           enters_as Rest rest_left a here told refl (shows_leaf (shows_rest here) (a.stands.kept ∙ ap (λ v. kept_of d v) a.stands.seen) a.stands.round)
           (rest_stack d 12 known.description known.certified here a.begun) refl a.owed (enter_rest d a.stands.v done)
 
-      pub field : (unit n m : ℕ) (count : Count) → slice_get d.nodes i ≡ Some (Field unit count) → takes before (Enter i) (Field unit count) after
-          → count_of (at_begin stands).stands.v count ≡ Some n → m ≡ unit * n
+      pub field : (unit n m : ℕ) (count : Count) → IsEntered takes before i (Field unit count) after
+          → ((v : Values) → values ≡ kept_of d v → count_of v count ≡ Some n) → m ≡ unit * n
           → GoesOn d takes (state d takes before values pace coming (frame.Begin i ∷ frames)) (state d takes before values pace coming (frame.Leaf i (leaf.Field m) ∷ frames)) before after stack done
-      field unit n m count here told counts size =
+      field unit n m count (here, told) number size =
           let a = at_begin stands in
+          let counts = number a.stands.v a.stands.kept in
           let P : ℕ → Type 0 = λ k. GoesOn d takes (state d takes before values pace coming (frame.Begin i ∷ frames)) (state d takes before values pace coming (frame.Leaf i (leaf.Field k) ∷ frames)) before after stack done in
           subst P (sym size)
           (enters_as (Field unit count) (bits_left (unit * n)) a here told refl (shows_leaf (shows_field unit count here) (a.stands.kept ∙ ap (λ v. kept_of d v) a.stands.seen) a.stands.round)
           (field_stack d 12 known.description known.certified here counts a.begun) refl a.owed (enter_field d unit count n a.stands.v done counts))
 
-      pub choice : (parts : List ℕ) → slice_get d.nodes i ≡ Some (Choice parts) → takes before (Enter i) (Choice parts) after
+      pub choice : (parts : List ℕ) → IsEntered takes before i (Choice parts) after
           → GoesOn d takes (state d takes before values pace coming (frame.Begin i ∷ frames)) (state d takes before values pace coming (frame.Open i ∷ frames)) before after stack done
-      choice parts here told =
+      choice parts (here, told) =
           let a = at_begin stands in
           enters_as (Choice parts) (choice_left parts a.stands.v) a here told refl (shows_open here a.stands.seen a.stands.kept a.stands.round)
           (choice_stack d 12 known.description known.certified here a.begun) refl a.owed (enter_choice d parts a.stands.v done)
 
-      pub turns : (n part : ℕ) (count : Count) → slice_get d.nodes i ≡ Some (Times count part) → takes before (Enter i) (Times count part) after
-          → count_of (at_begin stands).stands.v count ≡ Some n
+      pub turns : (n part : ℕ) (count : Count) → IsEntered takes before i (Times count part) after
+          → ((v : Values) → values ≡ kept_of d v → count_of v count ≡ Some n)
           → GoesOn d takes (state d takes before values pace coming (frame.Begin i ∷ frames)) (state d takes before values pace coming (frame.Times i part n ∷ frames)) before after stack done
-      turns n part count here told counts =
+      turns n part count (here, told) number =
           let a = at_begin stands in
+          let counts = number a.stands.v a.stands.kept in
           enters_as (Times count part) (turns_left n part a.stands.v) a here told refl (shows_turns (record { count = count; at = here; seen = a.stands.seen }) a.stands.kept a.stands.round)
           (turns_stack d 12 known.description known.certified here counts a.begun) refl a.owed (enter_turns d count part n i a.stands.v done known.have_moves here counts)
 
-      pub free : (part : ℕ) → slice_get d.nodes i ≡ Some (Many part) → takes before (Enter i) (Many part) after
+      pub free : (part : ℕ) → IsEntered takes before i (Many part) after
           → GoesOn d takes (state d takes before values pace coming (frame.Begin i ∷ frames)) (state d takes before values pace coming (frame.Many i part ∷ frames)) before after stack done
-      free part here told =
+      free part (here, told) =
           let a = at_begin stands in
           enters_as (Many part) (free_left part a.stands.v) a here told refl (shows_free (record { at = here; seen = a.stands.seen }) a.stands.kept a.stands.round)
           (free_stack d 12 known.description known.certified here a.begun) refl a.owed (enter_free d part i a.stands.v done known.have_moves here)
 
-      pub truncation : (parts : List ℕ) (count : ℕ) → slice_get d.nodes i ≡ Some (Trunc parts) → takes before (Enter i) (Trunc parts) after → count ≡ length values
+      pub truncation : (parts : List ℕ) (count : ℕ) → IsEntered takes before i (Trunc parts) after → count ≡ length values
           → GoesOn d takes (state d takes before values pace coming (frame.Begin i ∷ frames)) (state d takes before values pace coming (frame.Trunc i 0 count ∷ frames)) before after stack done
-      truncation parts count here told size =
+      truncation parts count (here, told) size =
           let a = at_begin stands in
           enters_as (Trunc parts) (cut_left parts a.stands.v) a here told refl (shows_cut here a.stands.seen a.stands.kept size a.stands.round)
           (cut_stack d 12 known.description known.certified here a.begun) refl a.owed (enter_cut d parts i a.stands.v done known.have_moves here)
 
       -- a sequence, whose first part begins
-      pub sequence : (parts : List ℕ) (j count : ℕ) → slice_get d.nodes i ≡ Some (Seq parts) → slice_get parts 0 ≡ Some j → takes before (Enter i) (Seq parts) after → count ≡ length values
+      pub sequence : (parts : List ℕ) (j count : ℕ) → IsEntered takes before i (Seq parts) after → slice_get parts 0 ≡ Some j → count ≡ length values
           → GoesOn d takes (state d takes before values pace coming (frame.Begin i ∷ frames)) (record { frames = frame.Begin j ∷ frame.Seq i 1 count ∷ frames; values = values; pace = begun_by j pace; coming = coming }) before after stack done
-      sequence [] j count here first told size = absurd (cc)
-      sequence (p ∷ ps) j count here first told size =
+      sequence [] j count (here, told) first size = absurd (cc)
+      sequence (p ∷ ps) j count (here, told) first size =
           let a = at_begin stands in
           let same : p ≡ j = cc in
           let P : List Left → Type 0 = λ l. GoesOn d takes (state d takes before values pace coming (frame.Begin i ∷ frames)) (record { frames = frame.Begin j ∷ frame.Seq i 1 count ∷ frames; values = values; pace = begun_by j pace; coming = coming }) before after l done in
@@ -236,12 +246,13 @@ module _ (d : DescV) where
           (tells_enter (Seq (j ∷ ps)) _ here_j told_j (tells_none refl refl)))
 
       -- a window, whose part begins
-      pub window : (unit n part bits : ℕ) (count : Count) (later : Coming) → slice_get d.nodes i ≡ Some (Window unit count part) → takes before (Enter i) (Window unit count part) after
-          → count_of (at_begin stands).stands.v count ≡ Some n → bits ≡ unit * n
+      pub window : (unit n part bits : ℕ) (count : Count) (later : Coming) → IsEntered takes before i (Window unit count part) after
+          → ((v : Values) → values ≡ kept_of d v → count_of v count ≡ Some n) → bits ≡ unit * n
           → later.bits ≡ coming.bits → later.ended ≡ coming.ended → later.place ≡ coming.place → later.limit ≡ min coming.limit (coming.place + bits)
           → GoesOn d takes (state d takes before values pace coming (frame.Begin i ∷ frames)) (record { frames = frame.Begin part ∷ frame.Window i coming.place bits coming.limit ∷ frames; values = values; pace = begun_by part pace; coming = later }) before after stack done
-      window unit n part bits count later here told counts size same_bits same_ended same_place limit =
+      window unit n part bits count later (here, told) number size same_bits same_ended same_place limit =
           let a = at_begin stands in
+          let counts = number a.stands.v a.stands.kept in
           let P : List Left → Type 0 = λ l. GoesOn d takes (state d takes before values pace coming (frame.Begin i ∷ frames)) (record { frames = frame.Begin part ∷ frame.Window i coming.place bits coming.limit ∷ frames; values = values; pace = begun_by part pace; coming = later }) before after l done in
           let end : coming.place + bits ≡ length done + unit * n = ap (λ o. o + bits) a.place ∙ ap (λ b. length done + b) size in
           let cuts : Cuts d i part coming.limit a.stands.outer = record { unit = unit; count = count; at = here; limit_is = a.limit } in
@@ -256,9 +267,9 @@ module _ (d : DescV) where
           (tells_enter (Window unit count part) _ here told (tells_none refl refl)))
 
       -- a node without bits is entered and left
-      pub null : (last : S) → slice_get d.nodes i ≡ Some Null → takes before (Enter i) Null after → takes after Leave Null last
+      pub null : (last : S) → IsEntered takes before i Null after → takes after Leave Null last
           → GoesOn d takes (state d takes before values pace coming (frame.Begin i ∷ frames)) (state d takes before values pace coming frames) before last stack done
-      null last here told left =
+      null last (here, told) left =
           let a = at_begin stands in
           let P : List Left → Type 0 = λ l. GoesOn d takes (state d takes before values pace coming (frame.Begin i ∷ frames)) (state d takes before values pace coming frames) before last l done in
           let Q : ℕ → Type 0 = λ n. IsStack d n (fresh_at pace (length done)) (none_left ∷ a.stands.outer) done in

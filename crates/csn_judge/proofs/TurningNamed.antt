@@ -32,7 +32,7 @@ use Rattle.csn_judge.proofs.Stacks.{begun_of, of_begun, just_begun, first_next, 
 use Rattle.csn_judge.proofs.Turning.{moving, risen, still, begun_within, room, round_length}
 use Rattle.csn_judge.proofs.TurningCounted.{counted_width}
 use Rattle.csn_judge.proofs.CountedParents.{counted_began}
-use Rattle.csn_judge.proofs.TurningEntry.{begin_stands, at_begin, field}
+use Rattle.csn_judge.proofs.TurningEntry.{begin_stands, field}
 use Rattle.csn_judge.proofs.TurningOn.{on_then}
 
 module _ (d : DescV) where
@@ -92,8 +92,7 @@ module _ (d : DescV) where
         → GoesOn d takes begin_state (record { frames = frame.Leaf part (leaf.Field m) ∷ frame.Named i ∷ frames; values = values; pace = begun_by part pace; coming = coming }) first after stack done
     field_goes_on {part} {unit} {n} {m} {count} {middle} label node known alone at look took field_at told counts size stands =
         let on = label_goes_on label node known alone at look took stands in
-        let b = at_begin d takes middle values (begun_by part pace) coming on.stands in
-        on_then d takes on (field d takes middle values (begun_by part pace) coming known on.stands unit n m count field_at told (counts b.stands.v b.stands.kept) size)
+        on_then d takes on (field d takes middle values (begun_by part pace) coming known on.stands unit n m count (field_at, told) counts size)
 
     -- the field on which counts stand is entered with it
     pub counted_goes_on : {part unit width : ℕ} {middle after : S} {stack : List Left} {done : List ℕ} (label : List ℕ) (node field : Node) → Known d → is_counted d.nodes i ≡ true → slice_get d.nodes i ≡ Some (Named label part)

@@ -1,6 +1,6 @@
 -- Where the nodes stand that are read: inside which open nodes, from which place on, and what they see. (This
 -- project's own choice.)
-use Rattle.std.specs.Prelude.{◌≡◌, ℕ, suc, ◌+◌, ◌*◌, ◌%◌, ◌<◌, ◌≤◌, ◌⊎◌, ⊤, true, false, List, [], ◌∷◌, ◌++◌, length, drop, map, slice_get, Option, Some, None}
+use Rattle.std.specs.Prelude.{◌≡◌, ℕ, suc, ◌+◌, ◌*◌, ◌%◌, ◌<◌, ◌≤◌, ◌⊎◌, ⊤, true, false, List, [], ◌∷◌, ◌++◌, length, drop, slice_get, Option, Some, None}
 use Rattle.csn_bits.specs.Octets.{IsBits}
 use Rattle.csn_desc.specs.declared.symbol.Symbol.{Symbol}
 use Rattle.csn_desc.specs.declared.node.Count.{Count}
@@ -8,22 +8,19 @@ use Rattle.csn_desc.specs.declared.node.Node.TheVariants.{Lits, Spare, Pad, Fiel
 use Rattle.csn_desc.specs.Nodes.{DescV}
 use Rattle.csn_desc.specs.Values.{Values, count_of}
 use Rattle.csn_desc.specs.Formed.{value_width, width_of, with_seen, Spans, Formed, PartsFormed, FitWidths}
+use Rattle.csn_certify.specs.CountedValues.{fields_of}
 use Rattle.csn_look.specs.Nullable.{Nullable, AllNullable}
 use Rattle.csn_look.specs.Ends.{InEnds, PartsEnd, ManyEnd}
 use Rattle.csn_look.specs.Reached.{Reached, Turn}
 use Rattle.csn_judge.specs.Remains.{Within}
 use Rattle.csn_judge.specs.Left.{Left, all_left, bits_left, symbols_left, spare_left, pad_left, rest_left, choice_left, none_left, window_left, parts_left, turns_left, free_left, cut_left, lead_left}
 
--- the nodes whose labels have values, the last one first
-abbrev pub seen_of : Values → List ℕ
-seen_of v = map (λ value. value.0) v
-
 module _ (d : DescV) where
   -- node i, inside so many others, may begin at the place `from` with these values
   pub record IsReady (i from round : ℕ) (v : Values) : Type 0 where
     pub reached : Reached d i (from % 8)
     pub widths : FitWidths d v
-    pub formed : Formed d.nodes (seen_of v) round i
+    pub formed : Formed d.nodes (fields_of v) round i
 
   -- a turn that begins at the place `from` goes back, or it is as it was round the repetition
   pub data IsFresh (was : Option ℕ) (from : ℕ) (fresh : Option ℕ) : Type 0 where
@@ -58,7 +55,7 @@ module _ (d : DescV) where
         (k start : ℕ) (v0 : Values) (parts before : List ℕ) → slice_get d.nodes k ≡ Some (Seq parts)
         → parts ≡ before ++ i ∷ after → PartsEnd d before (start % 8) (from % 8) → start ≤ from
         → (start ≡ from → AllNullable d before)
-        → FitWidths d v → PartsFormed d.nodes true (with_seen d.nodes true i (seen_of v)) (suc (length outer)) after
+        → FitWidths d v → PartsFormed d.nodes true (with_seen d.nodes true i (fields_of v)) (suc (length outer)) after
         → IsReady k start (length outer) v0 → Inside fresh outer k start v0
         → Inside fresh (parts_left i from after v ∷ outer) i from v
     inside_turns :
@@ -79,7 +76,7 @@ module _ (d : DescV) where
         {fresh : Option ℕ} {outer : List Left} {i from : ℕ} {after : List ℕ} {v : Values}
         (k start : ℕ) (v0 : Values) (parts before : List ℕ) → slice_get d.nodes k ≡ Some (Trunc parts)
         → parts ≡ before ++ i ∷ after → PartsEnd d before (start % 8) (from % 8) → start ≤ from
-        → FitWidths d v → PartsFormed d.nodes true (with_seen d.nodes true i (seen_of v)) (suc (length outer)) after
+        → FitWidths d v → PartsFormed d.nodes true (with_seen d.nodes true i (fields_of v)) (suc (length outer)) after
         → IsReady k start (length outer) v0 → Inside fresh outer k start v0
         → Inside fresh (lead_left i from after v ∷ outer) i from v
 
@@ -150,7 +147,7 @@ module _ (d : DescV) where
         {i from round part at : ℕ} {after : List ℕ} {v w : Values} {done : List ℕ}
         (parts before : List ℕ) → slice_get d.nodes i ≡ Some (Seq parts) → parts ≡ before ++ part ∷ after
         → PartsEnd d before (from % 8) (at % 8) → from ≤ at → (from ≡ at → AllNullable d before) → FitWidths d w
-        → PartsFormed d.nodes true (with_seen d.nodes true part (seen_of w)) (suc round) after
+        → PartsFormed d.nodes true (with_seen d.nodes true part (fields_of w)) (suc round) after
         → IsRead part at done → UpTo next part
         → IsLeftOf next (parts_left part at after w) i from round v done
     of_turns :
@@ -173,7 +170,7 @@ module _ (d : DescV) where
         {i from round part at : ℕ} {after : List ℕ} {v w : Values} {done : List ℕ}
         (parts before : List ℕ) → slice_get d.nodes i ≡ Some (Trunc parts) → parts ≡ before ++ part ∷ after
         → PartsEnd d before (from % 8) (at % 8) → from ≤ at → FitWidths d w
-        → PartsFormed d.nodes true (with_seen d.nodes true part (seen_of w)) (suc round) after
+        → PartsFormed d.nodes true (with_seen d.nodes true part (fields_of w)) (suc round) after
         → IsRead part at done → UpTo next part
         → IsLeftOf next (lead_left part at after w) i from round v done
 

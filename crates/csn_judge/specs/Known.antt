@@ -1,7 +1,7 @@
 -- What is known of the description by which blocks are judged, for the proofs of each step.
 use Rattle.csn_desc.specs.Nodes.{DescV}
 use Rattle.csn_desc.specs.Formed.{IsDescription}
-use Rattle.csn_desc.specs.Laws.{TreesHaveMoves, TreesHaveOneListOfMoves, EmptyBitsAreFollowed, NodesAreWellFormed}
+use Rattle.csn_desc.specs.Laws.{TreesHaveMoves, TreesHaveOneListOfMoves, EmptyBitsAreFollowed}
 use Rattle.csn_look.specs.Laws.{BeginningsOfKeysAreFollowed, BehindPartsOfSequences, FollowedBehindPartsOfSequences, BehindPartsOfTruncations, BehindLastOfTruncations, FollowedBehindPartsOfTruncations, BehindTurns, FollowedBehindTurns, BehindFreeTurns, FollowedBehindFreeTurns, BehindAlternatives, BehindLabelledParts}
 use Rattle.csn_certify.specs.Conflicts.{Certified}
 use Rattle.csn_certify.specs.Laws.{NoBitFollowsTheLast, NoBitFollowsComponents, ChoicesTakeTheOne, FollowedTakeTheOne, RepetitionsGoOn, RepetitionsStop, FollowedStop, FreeTurnsHaveBits, ChoicesRefuseNone, FollowedRefuseNone, WaitingIsFollowed, WaitingHoldsFew, WaitingEndsInRefusal, RefusedHasNoEmptyTree}
@@ -9,7 +9,6 @@ use Rattle.csn_certify.specs.Laws.{NoBitFollowsTheLast, NoBitFollowsComponents, 
 pub record Known (d : DescV) : Type 0 where
   pub description : IsDescription d
   pub certified : Certified d 12
-  pub well_formed : NodesAreWellFormed
   -- moves, and no bits
   pub have_moves : TreesHaveMoves
   pub one_list : TreesHaveOneListOfMoves

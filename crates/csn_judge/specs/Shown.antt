@@ -7,8 +7,9 @@ use Rattle.csn_desc.specs.declared.node.Node.{Node}
 use Rattle.csn_desc.specs.declared.node.Node.TheVariants.{Lits, Spare, Pad, Field, Rest, Seq, Choice, Times, Many, Trunc, Window, Named}
 use Rattle.csn_desc.specs.Nodes.{DescV}
 use Rattle.csn_bits.specs.Numbers.{number_of}
-use Rattle.csn_desc.specs.Values.{Values, value_of}
+use Rattle.csn_desc.specs.Values.{Values}
 use Rattle.csn_desc.specs.Formed.{is_counted}
+use Rattle.csn_certify.specs.CountedValues.{HasNumber}
 use Rattle.csn_judge.specs.declared.frame.Frame.{Frame}
 use Rattle.csn_judge.specs.declared.frame.Frame.TheVariants as frame
 use Rattle.csn_judge.specs.declared.frame.Counted.{Counted as CountedFrame}
@@ -46,17 +47,11 @@ module _ (d : DescV) where
       then kept_of earlier ++ record { field = last.0; number = number_of last.1 } ∷ []
       else kept_of earlier
 
-  -- a count is a number by these values, and counts stand on its field, which has up to 16 bits
-  abbrev pub HasNumber : Values → Count → Type 0
-  HasNumber v (Fixed n) = n ≤ 65536
-  HasNumber v (Counted m field c) =
-      (is_counted d.nodes field ≡ true) × (c ≤ 65535) × (number : ℕ) × (value_of v field ≡ Some number) × (number < 65536)
-
   -- the values that are kept are those by which a count is a number
   pub record KeepsCount (values : List Value) (count : Count) : Type 0 where
     pub v : Values
     pub kept : values ≡ kept_of v
-    pub has : HasNumber v count
+    pub has : HasNumber d v count
 
   -- what is seen behind a part that is read inside these open nodes
   abbrev pub seen_behind : List Left → List ℕ → Values

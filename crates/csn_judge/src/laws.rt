@@ -8,7 +8,6 @@ use csn_certify::Plan;
 pub(crate) fn known(plan: &Plan)
     ensures { Known plan.now }
 {
-    csn_desc::laws::nodes_are_well_formed();
     csn_desc::laws::trees_have_moves();
     csn_desc::laws::empty_bits_are_followed();
     csn_look::laws::bits_stand_behind_parts();

@@ -34,8 +34,7 @@ impl<'a> Machine<'a> {
             values: ArrayVec::new(),
             pace: Pace::new(),
         };
-        machine.pace.begin(0);
-        machine.frames.push(Frame::Begin { node: 0 });
+        machine.restart();
         machine
     }
 

@@ -1,34 +1,8 @@
-use Rattle.std.proofs.Common.{arith, refl, sym, ap, subst, reverse, [], ◌∷◌}
-use Rattle.csn_desc.specs.Nodes.{DescV}
-use Rattle.csn_judge.specs.Known.{Known}
-use Rattle.csn_judge.specs.Left.{all_left}
-use Rattle.csn_judge.specs.Judging.{judges_on}
-use Rattle.csn_judge.proofs.JudgingFacts.{new_stands, new_goes}
-use Rattle.csn_judge.proofs.Turning.{moving}
-use Rattle.csn_judge.proofs.Verdicts.{stands_new}
+use Rattle.csn_judge.proofs.NewJudges.{is_judge, judges_none}
 use Rattle.csn_judge.proofs.judge.Judge.new.Goals as goal
 
 pub invariant_of-result : goal.invariant_of-result
-invariant_of-result c =
-    let known = let P : DescV → Type 0 = λ d. Known d in subst P (sym c.new.ensures.plan) c.known.ensures in
-    record {
-      few = omega arith;
-      small = omega arith;
-      seen_is = λ e. refl;
-      inside = omega arith;
-      stands = λ e.
-          record {
-            known = known;
-            stack = all_left 0 [] ∷ [];
-            done = [];
-            stands = new_stands c.new.result.plan.now known _ (ap reverse c.new.ensures.frames) c.new.ensures.values c.new.ensures.pace refl;
-          };
-    }
+invariant_of-result c = is_judge c.new.result c.new.ensures.plan c.known.ensures c.new.ensures.frames c.new.ensures.values c.new.ensures.pace
 
 pub returns-clause-judges : goal.returns-clause-judges
-returns-clause-judges c =
-    let d : DescV = c.new.result.plan.now in
-    let known = let P : DescV → Type 0 = λ d. Known d in subst P (sym c.new.ensures.plan) c.known.ensures in
-    judges_on (all_left 0 [] ∷ []) [] refl refl refl
-    (new_stands d known _ (ap reverse c.new.ensures.frames) c.new.ensures.values c.new.ensures.pace refl)
-    (stands_new d (moving d known)) (new_goes d (c.empty_bits_are_followed.ensures.block d known.description)) (λ some. absurd (omega (arith, some)))
+returns-clause-judges c = judges_none c.new.result c.new.ensures.plan c.known.ensures c.new.ensures.frames c.new.ensures.values c.new.ensures.pace c.empty_bits_are_followed.ensures.block

@@ -1,5 +1,4 @@
 use Rattle.std.proofs.Common.{inl, ℕ, ◌++◌, ◌+◌, List, lit<, ◌%◌, ◌≡◌, ◌∷◌, ◌⊎◌, true, length, reverse, sym, ap, subst, ◌∙◌, arith, Some}
-use Rattle.std.proofs.lemmas.List.{length-reverse}
 use Rattle.std.proofs.lemmas.Option.{slice_get_within}
 use Rattle.csn_desc.specs.Nodes.{DescV}
 use Rattle.csn_certify.specs.Picks.{IsAsked}
@@ -12,26 +11,24 @@ use Rattle.csn_judge.specs.Turns.{begun_by, state_begun, state_then, turn_in}
 use Rattle.csn_judge.proofs.Paying.{begun_credit}
 use Rattle.csn_judge.proofs.PayingBits.{chosen_pays}
 use Rattle.csn_judge.proofs.PayingParts.{alternative_comes}
-use Rattle.csn_judge.proofs.Turning.{pushed, stays, GoesOn-along, frames_room}
+use Rattle.csn_judge.proofs.Turning.{pushed, stays, items_room}
 use Rattle.csn_judge.proofs.TurningOn.{turns_then, quietly}
 use Rattle.csn_judge.proofs.TurningSame.{turns_since, goes_since, stands_on, waits_unready}
-use Rattle.csn_judge.proofs.TurningChoices.{open_asked, taken_of, left_of, takes_open, waits_with_all, waits_with_more, alternative_room}
+use Rattle.csn_judge.proofs.TurningChoices.{open_asked, taken_of, left_of, takes_open, waits_with_all, waits_with_more}
 use Rattle.csn_judge.proofs.machine.Machine.choose.Goals.{else-ready-eq0-via-then-ready-eq0+else-not-is_closed, else-ready-eq0-via-else-ready-eq0}
 use Rattle.csn_judge.proofs.machine.Machine.choose.Goals as goal
 
 pub push-requires : goal.push-requires
-push-requires g c =
-    (lit< tt, omega (arith, frames_room c.args.self.now.plan.now c.requires.stands.stands.shows c.requires.stands.stands.stack_is, length-reverse c.args.self.now.frames.items))
+push-requires g c = (lit< tt, items_room c.args.self.now.plan.now c.args.self.now.frames.items c.requires.stands.stands.shows c.requires.stands.stands.stack_is)
 
 pub push-requires-in-Wait : goal.push-requires-in-Wait
-push-requires-in-Wait g c =
-    (lit< tt, omega (arith, frames_room c.args.self.now.plan.now c.requires.stands.stands.shows c.requires.stands.stands.stack_is, length-reverse c.args.self.now.frames.items))
+push-requires-in-Wait g c = (lit< tt, items_room c.args.self.now.plan.now c.args.self.now.frames.items c.requires.stands.stands.shows c.requires.stands.stands.stack_is)
 
 pub returns-then-not-is_closed-clause-turns : goal.returns-then-not-is_closed-clause-turns
 returns-then-not-is_closed-clause-turns g c =
     waits_unready c.args.self.now.plan.now g.T.Track.takes c.args.track.now c.args.self.now.values.items c.args.self.now.pace c.ready-ready.new.self 12 (omega arith) c.ready-ready.ensures.same (sym c.ready-ready.ensures.count ∙ c.if-ready-eq0.true) c.ready-ready.ensures.good c.ready-ready.ensures.within
     (λ closed. let yes = c.is_closed.ensures.1 closed in let no = c.if-not-is_closed.true in absurd (cc)) c.requires.stands.known
-    (ap (λ (l : List Frame). reverse l) c.push.ensures.items ∙ pushed c.args.self.now.frames.items (frame.Open c.args.i))
+    (pushed c.args.self.now.frames.items (frame.Open c.args.i) c.push.ensures.items)
 
 pub pick-requires-clause-node : goal.pick-requires-clause-node
 pick-requires-clause-node g c = slice_get_within _ _ _ c.requires.node
@@ -110,7 +107,7 @@ returns-else-has_more-clause-turns g c =
     let frames : List Frame = frame.Open c.args.i ∷ reverse c.args.self.now.frames.items in
     turns_since d g.T.Track.takes c.args.track.now c.args.track.now frames c.args.self.now.values.items c.args.self.now.pace c.ready-ready.ensures.same _ Waits
     (stays d g.T.Track.takes c.args.track.now c.args.self.now.values.items c.args.self.now.pace next Waits _ c.args.track.now
-    (ap (λ (l : List Frame). reverse l) c.push-in-Wait.ensures.items ∙ pushed c.args.self.now.frames.items (frame.Open c.args.i))
+    (pushed c.args.self.now.frames.items (frame.Open c.args.i) c.push-in-Wait.ensures.items)
     (waits_with_all d g.T.Track.takes c.args.track.now c.args.self.now.values.items c.args.self.now.pace next c.ready-ready.result c.in-Choice.parts
     (c.requires.node ∙ ap (λ n. Some n) c.in-Choice.is) c.ready-ready.ensures.good c.ready-ready.ensures.count c.ready-ready.ensures.held c.ready-ready.ensures.within
     (λ more. let yes = c.has_more.ensures.1 more in let no = c.if-has_more.false in absurd (cc))

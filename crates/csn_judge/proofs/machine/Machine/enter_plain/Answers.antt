@@ -1,5 +1,5 @@
 use Rattle.std.specs.Prelude.{⊤}
-use Rattle.std.proofs.Common.{inl, ◌≡◌, ◌+◌, ◌*◌, List, ◌∷◌, ◌++◌, length, reverse, Some, slice_get, refl, sym, ap, ◌∙◌, subst, arith, lit<}
+use Rattle.std.proofs.Common.{inl, ◌≡◌, ◌+◌, ◌*◌, List, ◌∷◌, ◌++◌, length, reverse, Some, refl, sym, ap, ◌∙◌, subst, arith}
 use Rattle.std.proofs.lemmas.List.{length-reverse}
 use Rattle.csn_desc.specs.declared.moves.Move.TheVariants.{Enter}
 use Rattle.csn_desc.specs.declared.node.Node.{Node}
@@ -110,29 +110,21 @@ returns-in-Turn-clause-turns g c =
 
 pub returns-in-Ended-clause-pays : goal.returns-in-Ended-clause-pays
 returns-in-Ended-clause-pays g c =
-    let n = length c.args.self.now.plan.now.nodes in
-    let frames = reverse c.args.self.now.frames.items in
-    let bits = length c.args.source.now.bits in
     let t = label_begins c.args.self.now.plan.now c.args.self.now.pace c.requires.stands.known c.requires.part.1 c.requires.stands.stands.shows c.requires.stands.stands.stack_is in
-    let paced : c.begin-2.new.self ≡ begun_by c.args.part c.args.self.now.pace = begun_again c.args.self.now.plan.now c.args.self.now.pace c.args.part c.begin-2.ensures in
-    let left = c.in-Field.unit * c.number_of.result in
-    let less = labelled_credit c.args.i left frames c.args.self.now.pace bits t.within t.rises in
-    let same = ap (λ p. credit_of n (frame.Leaf c.args.part (leaf.Field left) ∷ frame.Named c.args.i ∷ frames) p bits) paced in
+    let less = labelled_credit c.args.i (c.in-Field.unit * c.number_of.result) (reverse c.args.self.now.frames.items) c.args.self.now.pace (length c.args.source.now.bits)
+    (begun_again c.args.self.now.plan.now c.args.self.now.pace c.args.part c.begin-2.ensures) t.within t.rises in
     let paid = c.in-Ended.ensures.pays in
-    (omega (arith, less, same, paid.0, c.node-field.ensures.step), omega (arith, less, same, paid.1))
+    (omega (arith, less, paid.0, c.node-field.ensures.step), omega (arith, less, paid.1))
 
 pub returns-in-Turn-clause-pays : goal.returns-in-Turn-clause-pays
 returns-in-Turn-clause-pays g c =
     let n = length c.args.self.now.plan.now.nodes in
     let frames = reverse c.args.self.now.frames.items in
     let bits = length c.args.source.now.bits in
-    let t = label_begins c.args.self.now.plan.now c.args.self.now.pace c.requires.stands.known c.requires.part.1 c.requires.stands.stands.shows c.requires.stands.stands.stack_is in
-    let paced : c.begin-2.new.self ≡ begun_by c.args.part c.args.self.now.pace = begun_again c.args.self.now.plan.now c.args.self.now.pace c.args.part c.begin-2.ensures in
     let left = c.in-Field.unit * c.number_of.result in
-    let top : Frame = frame.Leaf c.args.part (leaf.Field left) in
-    let less = labelled_credit c.args.i left frames c.args.self.now.pace bits t.within t.rises in
-    let same = ap (λ p. credit_of n (top ∷ frame.Named c.args.i ∷ frames) p bits) paced in
-    let before = credit_of n (top ∷ frame.Named c.args.i ∷ frames) c.begin-2.new.self bits in
+    let before = credit_of n (frame.Leaf c.args.part (leaf.Field left) ∷ frame.Named c.args.i ∷ frames) c.begin-2.new.self bits in
     let after = credit_of n (reverse c.read_part.new.self.frames.items) c.read_part.new.self.pace (length c.read_part.new.source.bits) in
+    let t = label_begins c.args.self.now.plan.now c.args.self.now.pace c.requires.stands.known c.requires.part.1 c.requires.stands.stands.shows c.requires.stands.stands.stack_is in
+    let less = labelled_credit c.args.i left frames c.args.self.now.pace bits (begun_again c.args.self.now.plan.now c.args.self.now.pace c.args.part c.begin-2.ensures) t.within t.rises in
     entered_pays (credit_of n (frame.Begin c.args.i ∷ frames) c.args.self.now.pace bits) before after c.args.steps.now c.node-field.new.steps (c.node-field.new.steps + 1) c.in-Turn.turn
-    (omega (arith, less, same)) c.node-field.ensures.step (paid_with before after c.node-field.new.steps c.in-Turn.turn c.in-Turn.ensures.pays)
+    less c.node-field.ensures.step (paid_with before after c.node-field.new.steps c.in-Turn.turn c.in-Turn.ensures.pays)

@@ -10,7 +10,7 @@ use Rattle.csn_judge.specs.Left.{Left}
 use Rattle.csn_judge.specs.Inside.{IsStack}
 use Rattle.csn_judge.specs.Turns.{fresh_at}
 use Rattle.csn_judge.proofs.Paying.{begun_pays_on, left_pays_on, free_goes_back}
-use Rattle.csn_judge.proofs.Turning.{room, round_length, begun_within, pushed, GoesOn-along, frames_room}
+use Rattle.csn_judge.proofs.Turning.{room, round_length, begun_within, pushed, GoesOn-along, items_room}
 use Rattle.csn_judge.proofs.Stacks.{of_begun}
 use Rattle.csn_judge.proofs.TurningSame.{goes_since, stands_on, waits_unready}
 use Rattle.csn_judge.proofs.TurningFree.{free_stands, free_begins, free_asked, free_takes, free_leaves}
@@ -18,14 +18,13 @@ use Rattle.csn_judge.proofs.machine.Machine.many.Goals.{else-ready-eq0-via-then-
 use Rattle.csn_judge.proofs.machine.Machine.many.Goals as goal
 
 pub push-requires : goal.push-requires
-push-requires g c =
-    (lit< tt, omega (arith, frames_room c.args.self.now.plan.now c.requires.stands.shows c.requires.stands.stack_is, length-reverse c.args.self.now.frames.items))
+push-requires g c = (lit< tt, items_room c.args.self.now.plan.now c.args.self.now.frames.items c.requires.stands.shows c.requires.stands.stack_is)
 
 pub returns-then-not-is_closed-clause-turns : goal.returns-then-not-is_closed-clause-turns
 returns-then-not-is_closed-clause-turns g c =
     waits_unready c.args.self.now.plan.now g.T.Track.takes c.args.track.now c.args.self.now.values.items c.args.self.now.pace c.ready-ready.new.self 1 (omega arith) c.ready-ready.ensures.same (sym c.ready-ready.ensures.count ∙ c.if-ready-eq0.true) c.ready-ready.ensures.good c.ready-ready.ensures.within
     (λ closed. let yes = c.is_closed.ensures.1 closed in let no = c.if-not-is_closed.true in absurd (cc)) c.requires.known
-    (ap (λ (l : List Frame). reverse l) c.push.ensures.items ∙ pushed c.args.self.now.frames.items (frame.Many c.args.i c.args.part))
+    (pushed c.args.self.now.frames.items (frame.Many c.args.i c.args.part) c.push.ensures.items)
 
 pub pick-requires-clause-node : goal.pick-requires-clause-node
 pick-requires-clause-node g c =

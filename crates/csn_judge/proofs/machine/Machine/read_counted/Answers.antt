@@ -1,17 +1,15 @@
 use Rattle.std.proofs.Common.{ℕ, ◌≡◌, ◌+◌, ◌^◌, ◌≤◌, ◌∷◌, List, length, reverse, take, refl, ap, ◌∙◌, subst, lit<, arith}
 use Rattle.std.proofs.Math.Pow.{pow_mono}
-use Rattle.std.proofs.lemmas.List.{length-reverse}
 use Rattle.std.proofs.lemmas.Option.{slice_get_within}
 use Rattle.csn_bits.specs.Numbers.{number_of}
 use Rattle.csn_desc.specs.Nodes.{DescV}
-use Rattle.csn_judge.specs.declared.frame.Frame.{Frame}
 use Rattle.csn_judge.specs.declared.frame.Frame.TheVariants as frame
 use Rattle.csn_judge.specs.declared.turn.Turn.TheVariants.{Moved}
 use Rattle.csn_judge.specs.Credit.{credit_of, Pays}
 use Rattle.csn_judge.specs.Left.{Left}
 use Rattle.csn_judge.specs.Inside.{IsStack}
 use Rattle.csn_judge.specs.Turns.{fresh_at}
-use Rattle.csn_judge.proofs.Turning.{pushed, frames_room}
+use Rattle.csn_judge.proofs.Turning.{pushed, items_room}
 use Rattle.csn_judge.proofs.LeafReads.{IsReadied, given, told_of}
 use Rattle.csn_judge.proofs.TurningCounted.{counted_stands, counted_few, counted_ready, room_for_value, number_taken, counted_stopped, counted_on, counted_ends}
 use Rattle.csn_judge.proofs.PayingBits.{given_bits, taken_pays}
@@ -23,8 +21,7 @@ ready-ready-requires g c =
     omega (arith, (counted_few d c.requires.stands.known (counted_stands d c.requires.stands.stands.shows)).0)
 
 pub push-requires : goal.push-requires
-push-requires g c =
-    (lit< tt, omega (arith, frames_room c.args.self.now.plan.now c.requires.stands.stands.shows c.requires.stands.stands.stack_is, length-reverse c.args.self.now.frames.items))
+push-requires g c = (lit< tt, items_room c.args.self.now.plan.now c.args.self.now.frames.items c.requires.stands.stands.shows c.requires.stands.stands.stack_is)
 
 pub returns-then-ready-eq0-clause-turns : goal.returns-then-ready-eq0-clause-turns
 returns-then-ready-eq0-clause-turns g c =
@@ -32,7 +29,7 @@ returns-then-ready-eq0-clause-turns g c =
     let r : IsReadied c.args.counted.left c.ready-ready.result c.args.source.now c.ready-ready.new.self = record { same = c.ready-ready.ensures.same; good = c.ready-ready.ensures.good; count = c.ready-ready.ensures.count } in
     counted_stopped d g.T.Track.takes c.args.track.now c.args.self.now.values.items c.args.self.now.pace c.args.source.now c.ready-ready.new.self c.args.counted (reverse c.args.self.now.frames.items) c.args.field.now
     c.stopped.result c.stopped.ensures c.requires.stands.known r c.if-ready-eq0.true (counted_stands d c.requires.stands.stands.shows).some
-    (ap (λ (l : List Frame). reverse l) c.push.ensures.items ∙ pushed c.args.self.now.frames.items (frame.Counted c.args.counted))
+    (pushed c.args.self.now.frames.items (frame.Counted c.args.counted) c.push.ensures.items)
 
 pub take-bits-requires-clause-few : goal.take-bits-requires-clause-few
 take-bits-requires-clause-few g c =
@@ -52,8 +49,7 @@ overflow_cast-number g c =
     omega (arith, c.take-bits.ensures.small, pow_mono few, word)
 
 pub push-requires-then-ready-counted : goal.push-requires-then-ready-counted
-push-requires-then-ready-counted g c =
-    (lit< tt, omega (arith, frames_room c.args.self.now.plan.now c.requires.stands.stands.shows c.requires.stands.stands.stack_is, length-reverse c.args.self.now.frames.items))
+push-requires-then-ready-counted g c = (lit< tt, items_room c.args.self.now.plan.now c.args.self.now.frames.items c.requires.stands.stands.shows c.requires.stands.stands.stack_is)
 
 pub returns-then-ready-counted-clause-turns : goal.returns-then-ready-counted-clause-turns
 returns-then-ready-counted-clause-turns g c =
@@ -63,7 +59,7 @@ returns-then-ready-counted-clause-turns g c =
     counted_on d g.T.Track.takes c.args.track.now c.args.self.now.values.items c.args.self.now.pace c.args.source.now c.take-bits.new.source c.args.counted (reverse c.args.self.now.frames.items) c.args.field.now
     taken c.take-bits.new.track c.requires.stands.known c.requires.field (omega (arith, c.if-ready-eq0.false)) c.if-ready-counted.true c.bits.ensures
     (number_taken taken (c.take-bits.ensures.value ∙ ap (λ l. number_of (take c.ready-ready.result l)) c.ready-ready.ensures.same.bits) (omega (arith, c.ready-ready.ensures.count)))
-    (ap (λ (l : List Frame). reverse l) c.push-then-ready-counted.ensures.items ∙ pushed c.args.self.now.frames.items _)
+    (pushed c.args.self.now.frames.items _ c.push-then-ready-counted.ensures.items)
     (told_of g.T.Track.takes c.args.field.now c.args.track.now c.take-bits.new.track c.ready-ready.result c.ready-ready.ensures.same.bits c.take-bits.ensures.told)
 
 pub push-requires-2 : goal.push-requires-2
@@ -96,7 +92,7 @@ returns-then-ready-counted-clause-pays g c =
     let r : IsReadied c.args.counted.left c.ready-ready.result c.args.source.now c.ready-ready.new.self = record { same = c.ready-ready.ensures.same; good = c.ready-ready.ensures.good; count = c.ready-ready.ensures.count } in
     let within = slice_get_within d.nodes _ _ c.requires.field in
     taken_pays (length d.nodes) (length c.take-bits.new.source.bits) c.args.steps.now 1 (frame.Counted c.args.counted ∷ reverse c.args.self.now.frames.items) _ c.args.self.now.pace
-    (ap (λ (l : List Frame). reverse l) c.push-then-ready-counted.ensures.items ∙ pushed c.args.self.now.frames.items _) c.bits.ensures (given_bits (given r c.take-bits.ensures.taken)) (omega (arith, c.if-ready-eq0.false))
+    (pushed c.args.self.now.frames.items _ c.push-then-ready-counted.ensures.items) c.bits.ensures (given_bits (given r c.take-bits.ensures.taken)) (omega (arith, c.if-ready-eq0.false))
     (omega (arith, within)) (omega (arith, within))
 
 pub returns-clause-pays : goal.returns-clause-pays

@@ -39,7 +39,7 @@ returns-then-took-clause-turns g c =
     turns_some d g.T.Track.takes c.args.track.now c.args.self.now.values.items c.args.self.now.pace c.args.source.now c.read-read.new.source c.args.i (over c.args.behind (reverse c.args.self.now.frames.items)) c.args.node.now
     c.read-read.new.track (nat_lt c.place-before.result c.place.result) c.requires.node c.requires.stands.known c.bits.ensures
     (λ e. omega (arith, ltb-false c.place-before.result c.place.result e, c.place-before.ensures.place, c.place.ensures.place))
-    (ap (λ (l : List Frame). reverse l) c.push.ensures.items ∙ pushed c.put.new.frames.items (frame.Leaf c.args.i c.in-Some.leaf) ∙ ap (λ (l : List Frame). frame.Leaf c.args.i c.in-Some.leaf ∷ l) c.put.ensures)
+    (pushed c.put.new.frames.items (frame.Leaf c.args.i c.in-Some.leaf) c.push.ensures.items ∙ ap (λ (l : List Frame). frame.Leaf c.args.i c.in-Some.leaf ∷ l) c.put.ensures)
     (c.in-Some.ensures d (sym c.reading.ensures))
 
 pub returns-else-took-clause-turns : goal.returns-else-took-clause-turns
@@ -48,7 +48,7 @@ returns-else-took-clause-turns g c =
     turns_stopped d g.T.Track.takes c.args.track.now c.args.self.now.values.items c.args.self.now.pace c.args.source.now c.read-read.new.source c.args.i (over c.args.behind (reverse c.args.self.now.frames.items)) c.args.node.now
     c.read-read.new.track c.stopped.result (nat_lt c.place-before.result c.place.result) c.requires.node c.requires.stands.known c.bits.ensures (not_less c.place-before.result c.place.result c.if-took.false)
     (omega (arith, c.if-took.false, c.place-before.ensures.place, c.place.ensures.place)) c.place.ensures.fits c.place.ensures.nothing c.stopped.ensures
-    (ap (λ (l : List Frame). reverse l) c.push.ensures.items ∙ pushed c.put.new.frames.items (frame.Leaf c.args.i c.in-Some.leaf) ∙ ap (λ (l : List Frame). frame.Leaf c.args.i c.in-Some.leaf ∷ l) c.put.ensures)
+    (pushed c.put.new.frames.items (frame.Leaf c.args.i c.in-Some.leaf) c.push.ensures.items ∙ ap (λ (l : List Frame). frame.Leaf c.args.i c.in-Some.leaf ∷ l) c.put.ensures)
     (c.in-Some.ensures d (sym c.reading.ensures))
 
 pub returns-in-Refused-clause-turns : goal.returns-in-Refused-clause-turns
@@ -73,6 +73,6 @@ returns-then-took-clause-pays g c =
     c.requires.node c.requires.stands.known (c.in-Some.ensures d (sym c.reading.ensures)) c.requires.stands.stands in
     some_pays d g.T.Track.takes c.args.track.now c.read-read.new.track c.args.self.now.values.items c.args.self.now.pace c.args.source.now c.read-read.new.source c.args.i (over c.args.behind (reverse c.args.self.now.frames.items)) c.args.node.now
     (frame.Leaf c.args.i c.args.leaf) k (slice_get_within _ _ _ c.requires.node) refl
-    (ap (λ (l : List Frame). reverse l) c.push.ensures.items ∙ pushed c.put.new.frames.items (frame.Leaf c.args.i c.in-Some.leaf) ∙ ap (λ (l : List Frame). frame.Leaf c.args.i c.in-Some.leaf ∷ l) c.put.ensures)
+    (pushed c.put.new.frames.items (frame.Leaf c.args.i c.in-Some.leaf) c.push.ensures.items ∙ ap (λ (l : List Frame). frame.Leaf c.args.i c.in-Some.leaf ∷ l) c.put.ensures)
     (omega (arith, c.if-took.true, c.place-before.ensures.place, c.place.ensures.place))
     (c.bits.ensures ∙ ap (λ b. paced b c.args.self.now.pace) (ap (λ p. nat_lt p c.place.result) c.place-before.ensures.place ∙ ap (λ p. nat_lt c.args.source.now.place p) c.place.ensures.place))

@@ -1,23 +1,20 @@
-use Rattle.std.proofs.Common.{◌+◌, List, lit<, ◌%◌, reverse, sym, ap, subst, ◌∙◌, arith}
-use Rattle.std.proofs.lemmas.List.{length-reverse}
+use Rattle.std.proofs.Common.{◌+◌, lit<, ◌%◌, reverse, sym, ap, subst}
 use Rattle.std.proofs.lemmas.Option.{slice_get_within}
 use Rattle.csn_desc.specs.Nodes.{DescV}
 use Rattle.csn_certify.specs.Picks.{IsAsked}
-use Rattle.csn_judge.specs.declared.frame.Frame.{Frame}
 use Rattle.csn_judge.specs.declared.frame.Frame.TheVariants as frame
 use Rattle.csn_judge.specs.Turns.{tells_nothing}
-use Rattle.csn_judge.proofs.Turning.{pushed, stays, frames_room}
+use Rattle.csn_judge.proofs.Turning.{pushed, stays, items_room}
 use Rattle.csn_judge.proofs.TurningChoices.{open_stands, open_asked, stops_open, refuses_open}
 use Rattle.csn_judge.proofs.machine.Machine.refuse.Goals as goal
 
 pub push-requires : goal.push-requires
-push-requires g c =
-    (lit< tt, omega (arith, frames_room c.args.self.now.plan.now c.requires.stands.stands.shows c.requires.stands.stands.stack_is, length-reverse c.args.self.now.frames.items))
+push-requires g c = (lit< tt, items_room c.args.self.now.plan.now c.args.self.now.frames.items c.requires.stands.stands.shows c.requires.stands.stands.stack_is)
 
 pub returns-then-ready-eq0-clause-turns : goal.returns-then-ready-eq0-clause-turns
 returns-then-ready-eq0-clause-turns g c =
     stays c.args.self.now.plan.now tells_nothing tt c.args.self.now.values.items c.args.self.now.pace c.args.source.now c.stopped.result _ tt
-    (ap (λ (l : List Frame). reverse l) c.push.ensures.items ∙ pushed c.args.self.now.frames.items (frame.Open c.args.i))
+    (pushed c.args.self.now.frames.items (frame.Open c.args.i) c.push.ensures.items)
     (stops_open c.args.self.now.plan.now tells_nothing tt c.args.self.now.values.items c.args.self.now.pace c.args.source.now (reverse c.args.self.now.frames.items) c.stopped.result c.stopped.ensures
     c.requires.good (c.requires.closed c.if-ready-eq0.true) (c.requires.none c.if-ready-eq0.true) c.requires.stands.known)
 
