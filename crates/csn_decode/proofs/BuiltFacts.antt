@@ -1,17 +1,13 @@
 -- What a move makes of what there is of a tree.
-use Rattle.std.proofs.Common.{◌≡◌, ℕ, zero, suc, arith, Bool, true, false, List, [], ◌∷◌, ◌++◌, refl, sym, ap, subst, ◌∙◌, append_assoc, append-nil, Option, Some, None}
-use Rattle.std.specs.Prelude.{OnOk, OnErr, IfSome, ◌<◌, Result, Ok, Err, is_err}
+use Rattle.std.proofs.Common.{◌≡◌, ℕ, zero, suc, arith, Bool, true, false, List, [], ◌∷◌, refl, sym, ap, subst, append_assoc, append-nil, Some, None}
+use Rattle.std.specs.Prelude.{OnOk, OnErr, ◌<◌, Result, Ok, Err, is_err}
 use Rattle.csn_desc.specs.declared.moves.Move.{Move}
 use Rattle.csn_desc.specs.declared.moves.Move.TheVariants.{Bit}
 use Rattle.csn_desc.specs.declared.node.Node.{Node}
 use Rattle.csn_bits.specs.Numbers.{low_bits}
 use Rattle.csn_judge.specs.Told.{BitsTold}
-use Rattle.csn_desc.specs.declared.node.Node.TheVariants.{Lits, Spare, Pad, Null, Field, Rest, Seq, Choice, Times, Many, Trunc, Window, Named}
 use Rattle.csn_desc.specs.TreeV as tree
-use Rattle.csn_desc.specs.TreeV.{TreeV}
-use Rattle.csn_decode.specs.declared.open.Open.{Open}
-use Rattle.csn_decode.specs.declared.open.Inside.{Inside}
-use Rattle.csn_decode.specs.Built.{BuiltV, is_literal, with_bits, with_node, took_all, has_bits, bits_behind, bits_left, given, IsTree, Leaves, Grows, GrewFrom, Makes, unless}
+use Rattle.csn_decode.specs.Built.{BuiltV, is_literal, with_bits, took_all, Grows, Makes, unless}
 
 pub with_bits-none : (literal : Bool) (bits : List ℕ) → with_bits literal [] bits ≡ bits
 with_bits-none true bits = refl
@@ -30,12 +26,6 @@ took_more node bit more v = ap (λ l. record { nodes = v.nodes; bits = l; whole 
 -- while there is memory
 pub makes_on : (v u : BuiltV) (move : Move) (node : Node) → Grows v move node u → Makes (Some v) move node (Some u)
 makes_on v u move node grows = record { before = v; old_is = refl; grows = grows }
-
--- a move of the builder, which memory may be refused to
-pub makes_step : {E : Type 0} (r : Result (Unit {0}) E) (v u : BuiltV) (move : Move) (node : Node) → OnOk r (Grows v move node u)
-    → Makes (unless false v) move node (unless (is_err r) u)
-makes_step (Ok x) v u move node grows = makes_on v u move node grows
-makes_step (Err e) v u move node grows = tt
 
 -- some bits, while there is memory
 pub told_on : (node : Node) (bits : List ℕ) (v : BuiltV) → BitsTold Makes node bits (Some v) (Some (took_all node bits v))
@@ -69,50 +59,8 @@ building refused v off = ap (λ b. unless b v) off
 pub wanting : (refused : Bool) (v : BuiltV) → refused ≡ true → unless refused v ≡ None
 wanting refused v on = ap (λ b. unless b v) on
 
--- ---- a node ends
-
-tree_of_bits : (node : Node) (inside : Inside) (b : List ℕ) → has_bits node ≡ true → IsTree node inside b (tree.bits b)
-tree_of_bits (Spare symbol) inside b leaf = refl
-tree_of_bits Pad inside b leaf = refl
-tree_of_bits (Field unit count) inside b leaf = refl
-tree_of_bits Rest inside b leaf = refl
-tree_of_bits (Lits run) inside b leaf = absurd (cc)
-tree_of_bits Null inside b leaf = absurd (cc)
-tree_of_bits (Seq parts) inside b leaf = absurd (cc)
-tree_of_bits (Choice parts) inside b leaf = absurd (cc)
-tree_of_bits (Times count part) inside b leaf = absurd (cc)
-tree_of_bits (Many part) inside b leaf = absurd (cc)
-tree_of_bits (Trunc parts) inside b leaf = absurd (cc)
-tree_of_bits (Window unit count part) inside b leaf = absurd (cc)
-tree_of_bits (Named label part) inside b leaf = absurd (cc)
+-- ---- what a call answered
 
 pub if_ok : {R E : Type 0} (r : Result R E) {P Q : Type 0} → (P → Q) → OnOk r P → OnOk r Q
 if_ok (Ok x) f p = f p
 if_ok (Err e) f p = tt
-
-pub leaf_leaves : (node : Node) (last : Open) (old outer after new : BuiltV) (b : List ℕ) → has_bits node ≡ true → old ≡ with_node last outer
-    → after ≡ record { nodes = outer.nodes; bits = []; whole = outer.whole } → b ≡ outer.bits → new ≡ given last.node (tree.bits b) after → Leaves node old new
-leaf_leaves node last old outer after new b leaf opened after_is b_is behind =
-    let left : after ≡ bits_left node outer = after_is ∙ ap (λ x. record { nodes = outer.nodes; bits = bits_behind x outer.bits; whole = outer.whole }) (sym leaf) in
-    let P : List ℕ → Type 0 = λ l. IsTree node last.inside l (tree.bits b) in
-    record {
-      last = last;
-      outer = outer;
-      tree = tree.bits b;
-      opened = opened;
-      tree_is = subst P b_is (tree_of_bits node last.inside b leaf);
-      behind = behind ∙ ap (λ x. given last.node (tree.bits b) x) left;
-    }
-
-pub part_leaves : (node : Node) (last : Open) (old outer new : BuiltV) (t : TreeV) → has_bits node ≡ false → old ≡ with_node last outer
-    → ((b : List ℕ) → IsTree node last.inside b t) → new ≡ given last.node t outer → Leaves node old new
-part_leaves node last old outer new t leafless opened is behind =
-    let left : outer ≡ bits_left node outer = ap (λ x. record { nodes = outer.nodes; bits = bits_behind x outer.bits; whole = outer.whole }) (sym leafless) in
-    record {
-      last = last;
-      outer = outer;
-      tree = t;
-      opened = opened;
-      tree_is = is outer.bits;
-      behind = behind ∙ ap (λ x. given last.node t x) left;
-    }

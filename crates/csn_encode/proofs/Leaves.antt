@@ -1,12 +1,9 @@
 -- The bits of leaves: those that a symbol stands for, and the numbers that they write.
-use Rattle.std.proofs.Common.{◌≡◌, ℕ, zero, suc, ◌+◌, ◌-◌, ◌*◌, ◌^◌, ◌<◌, ◌≤◌, List, [], ◌∷◌, ◌++◌, length, length-drop, take, drop, get_or, refl, sym, ◌∙◌, ap, arith, Some, slice_get}
+use Rattle.std.proofs.Common.{◌≡◌, ℕ, zero, suc, ◌+◌, ◌-◌, ◌*◌, ◌<◌, ◌≤◌, List, [], ◌∷◌, ◌++◌, length, take, drop, get_or, refl, sym, ◌∙◌, ap, arith, Some, slice_get}
 use Rattle.std.specs.Prelude.{replicate}
-use Rattle.std.proofs.Math.Pow.{pow_mono}
 use Rattle.std.proofs.lemmas.List.{length-take-le, drop-append-le}
-use Rattle.csn_bits.specs.Octets.{IsBits}
 use Rattle.csn_bits.specs.Numbers.{number_of}
-use Rattle.csn_bits.proofs.NumberFacts.{number_of-push, number_of-lt}
-use Rattle.csn_bits.proofs.Packing.{IsBits-drop, IsBits-take}
+use Rattle.csn_bits.proofs.NumberFacts.{number_of-push}
 use Rattle.csn_desc.specs.declared.symbol.Symbol.{Symbol}
 use Rattle.csn_desc.specs.Spelled.{symbol_bit, spelled}
 
@@ -68,16 +65,6 @@ number-next bits from at x low less here =
     ap (λ l. number_of (drop from l)) (take_bit bits at x less here)
     ∙ ap (λ l. number_of l) (drop-append-le from (take at bits) (x ∷ []) (omega (arith, low, long)))
     ∙ number_of-push (drop from (take at bits)) x
-
-pub number-small : (bits : List ℕ) (from at : ℕ) → IsBits bits → length bits ≤ from + 16 → at ≤ length bits → number_of (drop from (take at bits)) < 65536
-number-small bits from at are few within =
-    let long : length (take at bits) ≡ at = length-take-le at bits within in
-    let size : length (drop from (take at bits)) ≡ length (take at bits) - from = length-drop from (take at bits) in
-    let less = number_of-lt (drop from (take at bits)) (IsBits-drop from (take at bits) (IsBits-take at bits are)) in
-    let short : length (drop from (take at bits)) ≤ 16 = omega (arith, long, size, few, within) in
-    let most : 2 ^ 16 ≡ 65536 = refl in
-    let wide : 2 ^ length (drop from (take at bits)) ≤ 2 ^ 16 = pow_mono short in
-    omega (arith, less, wide, most)
 
 pub no_number : (bits : List ℕ) (from : ℕ) → number_of (drop from (take from bits)) ≡ 0
 no_number bits zero = refl

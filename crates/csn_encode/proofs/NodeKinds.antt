@@ -10,10 +10,10 @@ use Rattle.csn_desc.specs.declared.symbol.Symbol.{Symbol}
 use Rattle.csn_desc.specs.declared.symbol.Symbol.TheVariants.{Low}
 use Rattle.csn_desc.specs.declared.node.Count.{Count}
 use Rattle.csn_desc.specs.declared.node.Node.{Node}
-use Rattle.csn_desc.specs.declared.node.Node.TheVariants.{Lits, Spare, Pad, Null, Field, Rest, Seq, Choice, Times, Many, Trunc, Named}
+use Rattle.csn_desc.specs.declared.node.Node.TheVariants.{Lits, Spare, Pad, Null, Field, Rest, Choice, Named}
 use Rattle.csn_desc.specs.declared.tree.Shape.{Shape}
 use Rattle.csn_desc.specs.declared.tree.Shape.TheVariants as shape
-use Rattle.csn_desc.specs.TreeV.{TreeV, empty, bits}
+use Rattle.csn_desc.specs.TreeV.{TreeV, Trees, empty, bits, row, alt, named, trees_of}
 use Rattle.csn_desc.specs.ShapeView.{shape_view}
 use Rattle.csn_desc.specs.Nodes.{DescV}
 use Rattle.csn_desc.specs.Spelled.{spelled, IsSpare}
@@ -65,14 +65,37 @@ differ xs ys r is e same =
     let clash : true ≡ false = sym e ∙ is ∙ ap not equal in
     absurd (cc)
 
--- ---- trees of another kind
+-- ---- trees
 
-pub no_seq : (parts : List ℕ) (s : Shape) → ((r : List TreeV) → s ≡ shape.Row r → ⊥) → has_kind (Seq parts) (shape_view s) ≡ false
-no_seq parts shape.Empty h = refl
-no_seq parts (shape.Bits b) h = refl
-no_seq parts (shape.Row r) h = absurd (h r refl)
-no_seq parts (shape.Alt j t) h = refl
-no_seq parts (shape.Named l t) h = refl
+-- the tree that is seen of a shape
+pub viewed : {t : TreeV} {s form : Shape} → shape_view s ≡ t → s ≡ form → t ≡ shape_view form
+viewed view is = sym view ∙ ap (λ x. shape_view x) is
+
+-- those of another kind, where bits of the node have trees of one kind
+
+pub no_empty : (n : Node) → ((b : List ℕ) → has_kind n (bits b) ≡ false) → ((ts : Trees) → has_kind n (row ts) ≡ false) → ((j : ℕ) (t : TreeV) → has_kind n (alt j t) ≡ false) → ((l : List ℕ) (t : TreeV) → has_kind n (named l t) ≡ false)
+    → (s : Shape) → (s ≡ shape.Empty → ⊥) → has_kind n (shape_view s) ≡ false
+no_empty n leaf rows alts labels shape.Empty h = absurd (h refl)
+no_empty n leaf rows alts labels (shape.Bits b) h = leaf b
+no_empty n leaf rows alts labels (shape.Row r) h = rows (trees_of r)
+no_empty n leaf rows alts labels (shape.Alt j t) h = alts j t.value
+no_empty n leaf rows alts labels (shape.Named l t) h = labels l t.value
+
+pub no_bits : (n : Node) → has_kind n empty ≡ false → ((ts : Trees) → has_kind n (row ts) ≡ false) → ((j : ℕ) (t : TreeV) → has_kind n (alt j t) ≡ false) → ((l : List ℕ) (t : TreeV) → has_kind n (named l t) ≡ false)
+    → (s : Shape) → ((b : List ℕ) → s ≡ shape.Bits b → ⊥) → has_kind n (shape_view s) ≡ false
+no_bits n nothing rows alts labels shape.Empty h = nothing
+no_bits n nothing rows alts labels (shape.Bits b) h = absurd (h b refl)
+no_bits n nothing rows alts labels (shape.Row r) h = rows (trees_of r)
+no_bits n nothing rows alts labels (shape.Alt j t) h = alts j t.value
+no_bits n nothing rows alts labels (shape.Named l t) h = labels l t.value
+
+pub no_row : (n : Node) → has_kind n empty ≡ false → ((b : List ℕ) → has_kind n (bits b) ≡ false) → ((j : ℕ) (t : TreeV) → has_kind n (alt j t) ≡ false) → ((l : List ℕ) (t : TreeV) → has_kind n (named l t) ≡ false)
+    → (s : Shape) → ((r : List TreeV) → s ≡ shape.Row r → ⊥) → has_kind n (shape_view s) ≡ false
+no_row n nothing leaf alts labels shape.Empty h = nothing
+no_row n nothing leaf alts labels (shape.Bits b) h = leaf b
+no_row n nothing leaf alts labels (shape.Row r) h = absurd (h r refl)
+no_row n nothing leaf alts labels (shape.Alt j t) h = alts j t.value
+no_row n nothing leaf alts labels (shape.Named l t) h = labels l t.value
 
 pub no_choice : (parts : List ℕ) (s : Shape) → ((j : ℕ) (t : Box TreeV) → s ≡ shape.Alt j t → ⊥) → has_kind (Choice parts) (shape_view s) ≡ false
 no_choice parts shape.Empty h = refl
@@ -81,75 +104,12 @@ no_choice parts (shape.Row r) h = refl
 no_choice parts (shape.Alt j t) h = absurd (h j t refl)
 no_choice parts (shape.Named l t) h = refl
 
-pub no_times : (count : Count) (part : ℕ) (s : Shape) → ((r : List TreeV) → s ≡ shape.Row r → ⊥) → has_kind (Times count part) (shape_view s) ≡ false
-no_times count part shape.Empty h = refl
-no_times count part (shape.Bits b) h = refl
-no_times count part (shape.Row r) h = absurd (h r refl)
-no_times count part (shape.Alt j t) h = refl
-no_times count part (shape.Named l t) h = refl
-
-pub no_many : (part : ℕ) (s : Shape) → ((r : List TreeV) → s ≡ shape.Row r → ⊥) → has_kind (Many part) (shape_view s) ≡ false
-no_many part shape.Empty h = refl
-no_many part (shape.Bits b) h = refl
-no_many part (shape.Row r) h = absurd (h r refl)
-no_many part (shape.Alt j t) h = refl
-no_many part (shape.Named l t) h = refl
-
-pub no_trunc : (parts : List ℕ) (s : Shape) → ((r : List TreeV) → s ≡ shape.Row r → ⊥) → has_kind (Trunc parts) (shape_view s) ≡ false
-no_trunc parts shape.Empty h = refl
-no_trunc parts (shape.Bits b) h = refl
-no_trunc parts (shape.Row r) h = absurd (h r refl)
-no_trunc parts (shape.Alt j t) h = refl
-no_trunc parts (shape.Named l t) h = refl
-
 pub no_named : (label : List ℕ) (part : ℕ) (s : Shape) → ((l : List ℕ) (t : Box TreeV) → s ≡ shape.Named l t → ⊥) → has_kind (Named label part) (shape_view s) ≡ false
 no_named label part shape.Empty h = refl
 no_named label part (shape.Bits b) h = refl
 no_named label part (shape.Row r) h = refl
 no_named label part (shape.Alt j t) h = refl
 no_named label part (shape.Named l t) h = absurd (h l t refl)
-
-pub no_lits : (run : List Symbol) (s : Shape) → (s ≡ shape.Empty → ⊥) → has_kind (Lits run) (shape_view s) ≡ false
-no_lits run shape.Empty h = absurd (h refl)
-no_lits run (shape.Bits b) h = refl
-no_lits run (shape.Row r) h = refl
-no_lits run (shape.Alt j t) h = refl
-no_lits run (shape.Named l t) h = refl
-
-pub no_null : (s : Shape) → (s ≡ shape.Empty → ⊥) → has_kind Null (shape_view s) ≡ false
-no_null shape.Empty h = absurd (h refl)
-no_null (shape.Bits b) h = refl
-no_null (shape.Row r) h = refl
-no_null (shape.Alt j t) h = refl
-no_null (shape.Named l t) h = refl
-
-pub no_spare : (symbol : Symbol) (s : Shape) → ((b : List ℕ) → s ≡ shape.Bits b → ⊥) → has_kind (Spare symbol) (shape_view s) ≡ false
-no_spare symbol shape.Empty h = refl
-no_spare symbol (shape.Bits b) h = absurd (h b refl)
-no_spare symbol (shape.Row r) h = refl
-no_spare symbol (shape.Alt j t) h = refl
-no_spare symbol (shape.Named l t) h = refl
-
-pub no_padding : (s : Shape) → ((b : List ℕ) → s ≡ shape.Bits b → ⊥) → has_kind Pad (shape_view s) ≡ false
-no_padding shape.Empty h = refl
-no_padding (shape.Bits b) h = absurd (h b refl)
-no_padding (shape.Row r) h = refl
-no_padding (shape.Alt j t) h = refl
-no_padding (shape.Named l t) h = refl
-
-pub no_field : (unit : ℕ) (count : Count) (s : Shape) → ((b : List ℕ) → s ≡ shape.Bits b → ⊥) → has_kind (Field unit count) (shape_view s) ≡ false
-no_field unit count shape.Empty h = refl
-no_field unit count (shape.Bits b) h = absurd (h b refl)
-no_field unit count (shape.Row r) h = refl
-no_field unit count (shape.Alt j t) h = refl
-no_field unit count (shape.Named l t) h = refl
-
-pub no_rest : (s : Shape) → ((b : List ℕ) → s ≡ shape.Bits b → ⊥) → has_kind Rest (shape_view s) ≡ false
-no_rest shape.Empty h = refl
-no_rest (shape.Bits b) h = absurd (h b refl)
-no_rest (shape.Row r) h = refl
-no_rest (shape.Alt j t) h = refl
-no_rest (shape.Named l t) h = refl
 
 module _ (d : DescV) where
   pub kind_missed : {v : Values} {t : TreeV} {old : Draft} (n : Node) (s : Shape) → shape_view s ≡ t → has_kind n (shape_view s) ≡ false → MissesNodeBy d n v t old old WrongKind

@@ -1,5 +1,5 @@
 -- Bits in whole octets and the last bits of a number.
-use Rattle.std.proofs.Common.{◌≡◌, ℕ, zero, suc, ◌+◌, ◌-◌, ◌*◌, ◌/◌, ◌%◌, ◌^◌, ◌<◌, ◌≤◌, List, [], ◌∷◌, ◌++◌, length, take, drop, get_or, slice_index, refl, sym, ap, ◌∙◌, arith, length-append, append_assoc, append-nil, take_all}
+use Rattle.std.proofs.Common.{◌≡◌, ℕ, zero, suc, ◌+◌, ◌-◌, ◌*◌, ◌/◌, ◌%◌, ◌^◌, ◌<◌, ◌≤◌, List, [], ◌∷◌, ◌++◌, length, take, drop, get_or, slice_index, sym, ap, ◌∙◌, arith, length-append, append_assoc, append-nil, take_all}
 use Rattle.std.specs.Int.Bits.{bit_or}
 use Rattle.std.proofs.Math.Seq.{take-append-add}
 use Rattle.std.proofs.Math.ListN.{get_or-append}
@@ -103,9 +103,6 @@ added_whole octets {more} held last count number part few some is =
     ∙ ap (λ l. bits_of_octets (octets ++ bits / 2 ^ (held + count - 8) % 256 ∷ []) ++ l) (few_left (held + count - 8) bits (omega arith))
     ∙ moved_octet octets (held + count) bits some
     ∙ added octets held last count number part few
-
-pub low_bits-one : (bit : ℕ) → bit ≤ 1 → low_bits 1 bit ≡ bit ∷ []
-low_bits-one bit small = (let e : bit / 2 ^ 0 % 2 ≡ bit = (let one : 2 ^ 0 ≡ 1 = refl in omega arith) in ap (λ b. b ∷ []) e)
 
 -- ---- the bits of a leaf
 

@@ -84,39 +84,32 @@ module _ (d : DescV) where
   few_inside : {seen : List ℕ} {round i : ℕ} → Formed d.nodes seen (suc round) i → round + 1 < 64
   few_inside h = let few = formed_few d h in omega (arith, few)
 
+  -- the draft is ready where a node more or none was written, and what counts stand on is as it was
+  ready_on : {round : ℕ} {v : Values} {old new : Draft} (next : ℕ) → IsReady d round v old → next < 64 → new.numbers.items ≡ old.numbers.items → length new.path ≤ next → length new.bits ≤ most_bits → IsReady d next v new
+  ready_on next r few numbers steps within =
+      record {
+        description = r.description;
+        certified = r.certified;
+        widths = r.widths;
+        numbers = numbers ∙ r.numbers;
+        steps = steps;
+        few = few;
+        within = within;
+      }
+
   pub stands_inside : {i round : ℕ} {v : Values} {old new : Draft} (step : ℕ) → StandsAtPart d i round v old → new.bits ≡ old.bits → new.numbers.items ≡ old.numbers.items → new.path ≡ old.path ++ step ∷ [] → Stands d i (round + 1) v new
-  stands_inside {old = old} step s bits numbers path =
-      let r = s.ready in
+  stands_inside {round = round} {old = old} step s bits numbers path =
       let long = ap length path ∙ length-append old.path (step ∷ []) in
       let size = ap length bits in
       record {
-        ready =
-            record {
-              description = r.description;
-              certified = r.certified;
-              widths = r.widths;
-              numbers = numbers ∙ r.numbers;
-              steps = omega (arith, long, r.steps);
-              few = few_inside s.is_formed;
-              within = omega (arith, size, r.within);
-            };
+        ready = ready_on (round + 1) s.ready (few_inside s.is_formed) numbers (omega (arith, long, s.ready.steps)) (omega (arith, size, s.ready.within));
         is_formed = formed_inside s.is_formed;
       }
 
   pub stands_in_window : {i round : ℕ} {v : Values} {draft : Draft} → StandsAtPart d i round v draft → Stands d i (round + 1) v draft
-  stands_in_window s =
-      let r = s.ready in
+  stands_in_window {round = round} s =
       record {
-        ready =
-            record {
-              description = r.description;
-              certified = r.certified;
-              widths = r.widths;
-              numbers = r.numbers;
-              steps = omega (arith, r.steps);
-              few = few_inside s.is_formed;
-              within = r.within;
-            };
+        ready = ready_on (round + 1) s.ready (few_inside s.is_formed) refl (omega (arith, s.ready.steps)) s.ready.within;
         is_formed = formed_inside s.is_formed;
       }
 
@@ -348,16 +341,7 @@ module _ (d : DescV) where
           numbers = h.numbers ∙ done.numbers;
           stands =
               record {
-                ready =
-                    record {
-                      description = r.description;
-                      certified = r.certified;
-                      widths = r.widths;
-                      numbers = h.numbers ∙ r.numbers;
-                      steps = omega (arith, r.steps, ap length h.path);
-                      few = r.few;
-                      within = h.within;
-                    };
+                ready = ready_on round r r.few h.numbers (omega (arith, r.steps, ap length h.path)) h.within;
                 is_formed = done.stands.is_formed;
               };
           mean = λ n c hs.

@@ -1,9 +1,8 @@
 use Rattle.std.proofs.Common.{◌*◌, inl, inr, take, refl, sym, ◌∙◌, ap, arith, Some}
 use Rattle.csn_desc.specs.declared.node.Node.TheVariants.{Seq, Choice, Times, Many, Trunc, Window, Named}
-use Rattle.csn_desc.specs.ShapeView.{shape_view}
 use Rattle.csn_desc.specs.TreeV.{alt, named}
 use Rattle.std.proofs.lemmas.Result.{err_from_is_err_and}
-use Rattle.csn_encode.proofs.NodeKinds.{on_ok, if_misfit, passed, alike, differ, no_seq, no_choice, no_times, no_many, no_trunc, no_named, kind_missed}
+use Rattle.csn_encode.proofs.NodeKinds.{on_ok, if_misfit, passed, alike, differ, no_row, no_choice, no_named, kind_missed, viewed}
 use Rattle.csn_encode.proofs.Steps.{node_adds, node_misses, field_keeps, times_keeps, window_keeps, stands_at_part, stands_at_parts, alternative_stands, part_within, part_behind, part_few, part_room, stands_inside, stands_in_window, adds_below, misses_below, parts_begin, part_stands, part_misses, parts_more, parts_all, turns_begin, turn_misses, turns_more, turns_all, seq_adds, seq_misses, seq_wrong, trunc_adds, trunc_misses, trunc_wrong, trunc_idle, choice_adds, choice_misses, choice_none, named_adds, named_misses, named_wrong, times_adds, times_misses, times_wrong, many_adds, many_misses, window_adds, window_misses, window_wrong}
 use Rattle.csn_encode.proofs.draft.Draft.+write.Goals.{parts-then-len-from, parts-else-len-from}
 use Rattle.csn_encode.proofs.draft.Draft.+write.Goals as goal
@@ -142,11 +141,11 @@ write-returns-in-Named-clause-missed g t c =
 
 pub sequence-returns-in_default : goal.sequence-returns-in_default
 sequence-returns-in_default g t c =
-    record { added = tt; missed = λ v s. kind_missed c.args.plan.now (Seq c.args.parts.now) c.tree.inside.shape c.tree.view_is (no_seq c.args.parts.now c.tree.inside.shape c.in_default.not-Row) }
+    record { added = tt; missed = λ v s. kind_missed c.args.plan.now (Seq c.args.parts.now) c.tree.inside.shape c.tree.view_is (no_row (Seq c.args.parts.now) refl (λ b. refl) (λ j t. refl) (λ l t. refl) c.tree.inside.shape c.in_default.not-Row) }
 
 pub truncation-returns-in_default : goal.truncation-returns-in_default
 truncation-returns-in_default g t c =
-    record { added = tt; missed = λ v s. kind_missed c.args.plan.now (Trunc c.args.parts.now) c.tree.inside.shape c.tree.view_is (no_trunc c.args.parts.now c.tree.inside.shape c.in_default.not-Row) }
+    record { added = tt; missed = λ v s. kind_missed c.args.plan.now (Trunc c.args.parts.now) c.tree.inside.shape c.tree.view_is (no_row (Trunc c.args.parts.now) refl (λ b. refl) (λ j t. refl) (λ l t. refl) c.tree.inside.shape c.in_default.not-Row) }
 
 pub choice-returns-in_default : goal.choice-returns-in_default
 choice-returns-in_default g t c =
@@ -154,11 +153,11 @@ choice-returns-in_default g t c =
 
 pub times-returns-in_default : goal.times-returns-in_default
 times-returns-in_default g t c =
-    record { added = tt; missed = λ v count s counted. kind_missed c.args.plan.now (Times count c.args.part) c.tree.inside.shape c.tree.view_is (no_times count c.args.part c.tree.inside.shape c.in_default.not-Row) }
+    record { added = tt; missed = λ v count s counted. kind_missed c.args.plan.now (Times count c.args.part) c.tree.inside.shape c.tree.view_is (no_row (Times count c.args.part) refl (λ b. refl) (λ j t. refl) (λ l t. refl) c.tree.inside.shape c.in_default.not-Row) }
 
 pub many-returns-in_default : goal.many-returns-in_default
 many-returns-in_default g t c =
-    record { added = tt; missed = λ v i at s. kind_missed c.args.plan.now (Many c.args.part) c.tree.inside.shape c.tree.view_is (no_many c.args.part c.tree.inside.shape c.in_default.not-Row) }
+    record { added = tt; missed = λ v i at s. kind_missed c.args.plan.now (Many c.args.part) c.tree.inside.shape c.tree.view_is (no_row (Many c.args.part) refl (λ b. refl) (λ j t. refl) (λ l t. refl) c.tree.inside.shape c.in_default.not-Row) }
 
 pub named-returns-in_default : goal.named-returns-in_default
 named-returns-in_default g t c =
@@ -166,35 +165,35 @@ named-returns-in_default g t c =
 
 pub sequence-returns-then-found-wanted-clause-missed : goal.sequence-returns-then-found-wanted-clause-missed
 sequence-returns-then-found-wanted-clause-missed g t c =
-    λ v s. seq_wrong c.args.plan.now c.in-Row.rows c.from-wanted.result c.len-found.result (sym c.tree.view_is ∙ ap (λ x. shape_view x) c.in-Row.is) (c.from-wanted.ensures ∙ c.len.ensures.len) c.len-found.ensures.len c.if-found-wanted.true
+    λ v s. seq_wrong c.args.plan.now c.in-Row.rows c.from-wanted.result c.len-found.result (viewed c.tree.view_is c.in-Row.is) (c.from-wanted.ensures ∙ c.len.ensures.len) c.len-found.ensures.len c.if-found-wanted.true
 
 pub sequence-returns-in_err-parts-clause-missed : goal.sequence-returns-in_err-parts-clause-missed
 sequence-returns-in_err-parts-clause-missed g t c =
-    let p = err_from_is_err_and c.from_residual.result c.from_residual.ensures.1 in passed c.from_residual.result p.0 c.in_err-parts.field-0.0 p.1 p.2 (λ why h v s. seq_misses c.args.plan.now c.in-Row.rows (sym c.tree.view_is ∙ ap (λ x. shape_view x) c.in-Row.is) (sym c.len-found.ensures.len ∙ c.if-found-wanted.false ∙ c.from-wanted.ensures ∙ c.len.ensures.len) (h v s)) c.in_err-parts.ensures.missed
+    let p = err_from_is_err_and c.from_residual.result c.from_residual.ensures.1 in passed c.from_residual.result p.0 c.in_err-parts.field-0.0 p.1 p.2 (λ why h v s. seq_misses c.args.plan.now c.in-Row.rows (viewed c.tree.view_is c.in-Row.is) (sym c.len-found.ensures.len ∙ c.if-found-wanted.false ∙ c.from-wanted.ensures ∙ c.len.ensures.len) (h v s)) c.in_err-parts.ensures.missed
 
 pub sequence-returns-clause-added : goal.sequence-returns-clause-added
 sequence-returns-clause-added g t c =
-    λ v s. seq_adds c.args.plan.now c.in-Row.rows (sym c.tree.view_is ∙ ap (λ x. shape_view x) c.in-Row.is) (sym c.len-found.ensures.len ∙ c.if-found-wanted.false ∙ c.from-wanted.ensures ∙ c.len.ensures.len) (c.in_ok-parts.ensures.added v s)
+    λ v s. seq_adds c.args.plan.now c.in-Row.rows (viewed c.tree.view_is c.in-Row.is) (sym c.len-found.ensures.len ∙ c.if-found-wanted.false ∙ c.from-wanted.ensures ∙ c.len.ensures.len) (c.in_ok-parts.ensures.added v s)
 
 pub truncation-returns-then-found-most-clause-missed : goal.truncation-returns-then-found-most-clause-missed
 truncation-returns-then-found-most-clause-missed g t c =
-    λ v s. trunc_wrong c.args.plan.now c.in-Row.rows c.from-most.result c.len-found.result (sym c.tree.view_is ∙ ap (λ x. shape_view x) c.in-Row.is) (c.from-most.ensures ∙ c.len.ensures.len) c.len-found.ensures.len c.if-found-most.true
+    λ v s. trunc_wrong c.args.plan.now c.in-Row.rows c.from-most.result c.len-found.result (viewed c.tree.view_is c.in-Row.is) (c.from-most.ensures ∙ c.len.ensures.len) c.len-found.ensures.len c.if-found-most.true
 
 pub truncation-returns-in_err-wanted-clause-missed : goal.truncation-returns-in_err-wanted-clause-missed
 truncation-returns-in_err-wanted-clause-missed g t c =
-    let p = err_from_is_err_and c.from_residual.result c.from_residual.ensures.1 in passed c.from_residual.result p.0 c.in_err-wanted.field-0.0 p.1 p.2 (λ why h v s. trunc_misses c.args.plan.now c.in-Row.rows (sym c.tree.view_is ∙ ap (λ x. shape_view x) c.in-Row.is) (let over = c.if-found-most.false in omega (arith, over, c.len-found.ensures.len, c.from-most.ensures, c.len.ensures.len)) (h v s)) c.in_err-wanted.ensures.missed
+    let p = err_from_is_err_and c.from_residual.result c.from_residual.ensures.1 in passed c.from_residual.result p.0 c.in_err-wanted.field-0.0 p.1 p.2 (λ why h v s. trunc_misses c.args.plan.now c.in-Row.rows (viewed c.tree.view_is c.in-Row.is) (let over = c.if-found-most.false in omega (arith, over, c.len-found.ensures.len, c.from-most.ensures, c.len.ensures.len)) (h v s)) c.in_err-wanted.ensures.missed
 
 pub truncation-returns-then-wanted-found-clause-missed : goal.truncation-returns-then-wanted-found-clause-missed
 truncation-returns-then-wanted-found-clause-missed g t c =
-    λ v s. trunc_idle c.args.plan.now c.in-Row.rows c.in_ok-wanted.wanted c.len-found.result (sym c.tree.view_is ∙ ap (λ x. shape_view x) c.in-Row.is) c.len-found.ensures.len c.if-wanted-found.true (c.in_ok-wanted.ensures.added v s)
+    λ v s. trunc_idle c.args.plan.now c.in-Row.rows c.in_ok-wanted.wanted c.len-found.result (viewed c.tree.view_is c.in-Row.is) c.len-found.ensures.len c.if-wanted-found.true (c.in_ok-wanted.ensures.added v s)
 
 pub truncation-returns-clause-added : goal.truncation-returns-clause-added
 truncation-returns-clause-added g t c =
-    λ v s. trunc_adds c.args.plan.now c.in-Row.rows (sym c.tree.view_is ∙ ap (λ x. shape_view x) c.in-Row.is) (omega (arith, c.if-wanted-found.false, c.len-found.ensures.len)) (c.in_ok-wanted.ensures.added v s)
+    λ v s. trunc_adds c.args.plan.now c.in-Row.rows (viewed c.tree.view_is c.in-Row.is) (omega (arith, c.if-wanted-found.false, c.len-found.ensures.len)) (c.in_ok-wanted.ensures.added v s)
 
 pub choice-returns-then-number-len-clause-missed : goal.choice-returns-then-number-len-clause-missed
 choice-returns-then-number-len-clause-missed g t c =
-    λ v s. choice_none c.args.plan.now c.in-Alt.number c.in-Alt.tree.value (sym c.tree.view_is ∙ ap (λ x. shape_view x) c.in-Alt.is) (let over = c.if-number-len.true in omega (arith, over, c.len.ensures.len))
+    λ v s. choice_none c.args.plan.now c.in-Alt.number c.in-Alt.tree.value (viewed c.tree.view_is c.in-Alt.is) (let over = c.if-number-len.true in omega (arith, over, c.len.ensures.len))
 
 pub choice-below-requires : goal.choice-below-requires
 choice-below-requires g t c κs within =
@@ -202,43 +201,43 @@ choice-below-requires g t c κs within =
 
 pub choice-returns-clause-added : goal.choice-returns-clause-added
 choice-returns-clause-added g t c =
-    on_ok c.below.result (λ h v s. choice_adds c.args.plan.now c.in-Alt.number c.deref.result.now ((sym c.tree.view_is ∙ ap (λ x. shape_view x) c.in-Alt.is) ∙ ap (λ u. alt c.in-Alt.number u) (sym c.deref.ensures)) c.get.ensures (h v (alternative_stands c.args.plan.now c.in-Alt.number c.get.ensures s))) c.below.ensures.added
+    on_ok c.below.result (λ h v s. choice_adds c.args.plan.now c.in-Alt.number c.deref.result.now ((viewed c.tree.view_is c.in-Alt.is) ∙ ap (λ u. alt c.in-Alt.number u) (sym c.deref.ensures)) c.get.ensures (h v (alternative_stands c.args.plan.now c.in-Alt.number c.get.ensures s))) c.below.ensures.added
 
 pub choice-returns-clause-missed : goal.choice-returns-clause-missed
 choice-returns-clause-missed g t c =
-    if_misfit c.below.result (λ why h v s. choice_misses c.args.plan.now c.in-Alt.number c.deref.result.now ((sym c.tree.view_is ∙ ap (λ x. shape_view x) c.in-Alt.is) ∙ ap (λ u. alt c.in-Alt.number u) (sym c.deref.ensures)) c.get.ensures (h v (alternative_stands c.args.plan.now c.in-Alt.number c.get.ensures s))) c.below.ensures.missed
+    if_misfit c.below.result (λ why h v s. choice_misses c.args.plan.now c.in-Alt.number c.deref.result.now ((viewed c.tree.view_is c.in-Alt.is) ∙ ap (λ u. alt c.in-Alt.number u) (sym c.deref.ensures)) c.get.ensures (h v (alternative_stands c.args.plan.now c.in-Alt.number c.get.ensures s))) c.below.ensures.missed
 
 pub named-returns-then-ne-clause-missed : goal.named-returns-then-ne-clause-missed
 named-returns-then-ne-clause-missed g t c =
-    λ v s. named_wrong c.args.plan.now c.in-Named.other c.in-Named.tree.value (sym c.tree.view_is ∙ ap (λ x. shape_view x) c.in-Named.is) (λ same. differ c.bytes.result.now c.bytes-2.result.now c.ne.result c.ne.ensures c.if-ne.true (c.bytes.ensures.value ∙ same ∙ sym c.bytes-2.ensures.value))
+    λ v s. named_wrong c.args.plan.now c.in-Named.other c.in-Named.tree.value (viewed c.tree.view_is c.in-Named.is) (λ same. differ c.bytes.result.now c.bytes-2.result.now c.ne.result c.ne.ensures c.if-ne.true (c.bytes.ensures.value ∙ same ∙ sym c.bytes-2.ensures.value))
 
 pub named-returns-clause-added : goal.named-returns-clause-added
 named-returns-clause-added g t c =
-    on_ok c.below.result (λ h v s. named_adds c.args.plan.now c.in-Named.other c.deref.result.now ((sym c.tree.view_is ∙ ap (λ x. shape_view x) c.in-Named.is) ∙ ap (λ u. named c.in-Named.other u) (sym c.deref.ensures)) (sym c.bytes.ensures.value ∙ alike c.bytes.result.now c.bytes-2.result.now c.ne.result c.ne.ensures c.if-ne.false ∙ c.bytes-2.ensures.value) (h v s)) c.below.ensures.added
+    on_ok c.below.result (λ h v s. named_adds c.args.plan.now c.in-Named.other c.deref.result.now ((viewed c.tree.view_is c.in-Named.is) ∙ ap (λ u. named c.in-Named.other u) (sym c.deref.ensures)) (sym c.bytes.ensures.value ∙ alike c.bytes.result.now c.bytes-2.result.now c.ne.result c.ne.ensures c.if-ne.false ∙ c.bytes-2.ensures.value) (h v s)) c.below.ensures.added
 
 pub named-returns-clause-missed : goal.named-returns-clause-missed
 named-returns-clause-missed g t c =
-    if_misfit c.below.result (λ why h v s. named_misses c.args.plan.now c.in-Named.other c.deref.result.now ((sym c.tree.view_is ∙ ap (λ x. shape_view x) c.in-Named.is) ∙ ap (λ u. named c.in-Named.other u) (sym c.deref.ensures)) (sym c.bytes.ensures.value ∙ alike c.bytes.result.now c.bytes-2.result.now c.ne.result c.ne.ensures c.if-ne.false ∙ c.bytes-2.ensures.value) (h v s)) c.below.ensures.missed
+    if_misfit c.below.result (λ why h v s. named_misses c.args.plan.now c.in-Named.other c.deref.result.now ((viewed c.tree.view_is c.in-Named.is) ∙ ap (λ u. named c.in-Named.other u) (sym c.deref.ensures)) (sym c.bytes.ensures.value ∙ alike c.bytes.result.now c.bytes-2.result.now c.ne.result c.ne.ensures c.if-ne.false ∙ c.bytes-2.ensures.value) (h v s)) c.below.ensures.missed
 
 pub times-returns-then-found-wanted-clause-missed : goal.times-returns-then-found-wanted-clause-missed
 times-returns-then-found-wanted-clause-missed g t c =
-    λ v count s counted. times_wrong c.args.plan.now c.in-Row.rows c.args.wanted c.len-found.result (sym c.tree.view_is ∙ ap (λ x. shape_view x) c.in-Row.is) counted c.len-found.ensures.len c.if-found-wanted.true
+    λ v count s counted. times_wrong c.args.plan.now c.in-Row.rows c.args.wanted c.len-found.result (viewed c.tree.view_is c.in-Row.is) counted c.len-found.ensures.len c.if-found-wanted.true
 
 pub times-returns-clause-added : goal.times-returns-clause-added
 times-returns-clause-added g t c =
-    on_ok c.turns.result (λ h v count s counted. times_adds c.args.plan.now c.in-Row.rows c.args.wanted (sym c.tree.view_is ∙ ap (λ x. shape_view x) c.in-Row.is) counted (sym c.len-found.ensures.len ∙ c.if-found-wanted.false) (h v s)) c.turns.ensures.added
+    on_ok c.turns.result (λ h v count s counted. times_adds c.args.plan.now c.in-Row.rows c.args.wanted (viewed c.tree.view_is c.in-Row.is) counted (sym c.len-found.ensures.len ∙ c.if-found-wanted.false) (h v s)) c.turns.ensures.added
 
 pub times-returns-clause-missed : goal.times-returns-clause-missed
 times-returns-clause-missed g t c =
-    if_misfit c.turns.result (λ why h v count s counted. times_misses c.args.plan.now c.in-Row.rows c.args.wanted (sym c.tree.view_is ∙ ap (λ x. shape_view x) c.in-Row.is) counted (sym c.len-found.ensures.len ∙ c.if-found-wanted.false) (h v s)) c.turns.ensures.missed
+    if_misfit c.turns.result (λ why h v count s counted. times_misses c.args.plan.now c.in-Row.rows c.args.wanted (viewed c.tree.view_is c.in-Row.is) counted (sym c.len-found.ensures.len ∙ c.if-found-wanted.false) (h v s)) c.turns.ensures.missed
 
 pub many-returns-clause-added : goal.many-returns-clause-added
 many-returns-clause-added g t c =
-    on_ok c.turns.result (λ h v i at s. many_adds c.args.plan.now c.in-Row.rows (sym c.tree.view_is ∙ ap (λ x. shape_view x) c.in-Row.is) (λ o b u m. c.turns_have_bits.ensures.free c.args.plan.now 12 i c.args.part o v b u s.ready.description s.ready.certified at m) (h v s)) c.turns.ensures.added
+    on_ok c.turns.result (λ h v i at s. many_adds c.args.plan.now c.in-Row.rows (viewed c.tree.view_is c.in-Row.is) (λ o b u m. c.turns_have_bits.ensures.free c.args.plan.now 12 i c.args.part o v b u s.ready.description s.ready.certified at m) (h v s)) c.turns.ensures.added
 
 pub many-returns-clause-missed : goal.many-returns-clause-missed
 many-returns-clause-missed g t c =
-    if_misfit c.turns.result (λ why h v i at s. many_misses c.args.plan.now c.in-Row.rows (sym c.tree.view_is ∙ ap (λ x. shape_view x) c.in-Row.is) (h v s)) c.turns.ensures.missed
+    if_misfit c.turns.result (λ why h v i at s. many_misses c.args.plan.now c.in-Row.rows (viewed c.tree.view_is c.in-Row.is) (h v s)) c.turns.ensures.missed
 
 pub turns-loop-at-init : goal.turns-loop-at-init
 turns-loop-at-init g t c =
