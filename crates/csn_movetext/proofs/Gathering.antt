@@ -1,11 +1,12 @@
 -- What is kept of an open leaf, move by move.
-use Rattle.std.proofs.Common.{◌≡◌, ℕ, ◌+◌, ◌-◌, ◌*◌, ◌/◌, ◌%◌, ◌^◌, ◌<◌, ◌≤◌, Bool, true, false, List, [], ◌∷◌, ◌++◌, length, slice_index, refl, sym, ap, subst, ◌∙◌, arith, append_assoc, append-nil, length-append, bit_or}
+use Rattle.std.proofs.Common.{◌≡◌, ℕ, ◌+◌, ◌-◌, ◌*◌, ◌/◌, ◌%◌, ◌^◌, ◌<◌, ◌≤◌, Bool, true, false, List, [], ◌∷◌, ◌++◌, length, refl, sym, ap, subst, ◌∙◌, arith, append_assoc, append-nil, length-append, bit_or}
 use Rattle.std.proofs.lemmas.Nat.{mul-le, one_shl, or_shifted, pow-add, pow_pos}
 use Rattle.std.proofs.Math.Pow.{pow_mono}
-use Rattle.hex.specs.Hex.{upper_digits, encode_upper, encode_with}
+use Rattle.hex.specs.Hex.{encode_upper, encode_with}
 use Rattle.csn_bits.specs.Octets.{IsBits, octets_of}
 use Rattle.csn_bits.specs.Numbers.{number_of, low_bits}
 use Rattle.csn_bits.specs.Line.{tail_written, written}
+use Rattle.csn_bits.proofs.HexDigits.{encode_upper-append}
 use Rattle.csn_bits.proofs.Packing.{IsBits-append, octets_of-append}
 use Rattle.csn_bits.proofs.NumberFacts.{number_of-append, number_of-lt, length-low_bits, IsBits-low_bits, number_of-low_bits}
 use Rattle.csn_bits.proofs.Written.{written-some, tail_written-some}
@@ -13,7 +14,7 @@ use Rattle.csn_movetext.specs.declared.form.TreeForm.{TreeForm}
 use Rattle.csn_movetext.specs.Forms.{octets_sign}
 use Rattle.csn_movetext.specs.Writing.{WritingV, gathering}
 use Rattle.csn_movetext.specs.Kept.{KeptV, begun, sign, IsFront, Shows, Flushed}
-use Rattle.csn_movetext.proofs.Octets.{encode_upper-append}
+use Rattle.csn_movetext.proofs.Octets.{low_octet}
 
 -- bits that are shifted lose none
 pub shifted : (bits held count value : ℕ) → bits < 2 ^ held → held + count ≤ 64 → value < 2 ^ count → bit_or (bits * 2 ^ count % 18446744073709551616) value ≡ bits * 2 ^ count + value
@@ -161,10 +162,6 @@ unfolding encode_with
 nothing_behind [] none = refl
 nothing_behind (x ∷ back) none = absurd (omega arith)
 
-one_octet : (octet : ℕ) → encode_upper (octet ∷ []) ≡ slice_index upper_digits (octet / 16) ∷ slice_index upper_digits (octet % 16) ∷ []
-unfolding encode_with
-one_octet octet = refl
-
 line_is : {form : TreeForm} {text gathered out : List ℕ} {held bits : ℕ} → 1 ≤ length gathered → (e : Ended form text gathered out held bits)
     → written gathered ≡ (encode_upper (octets_of e.front) ++ encode_upper (octets_of e.back)) ++ tail_written (length gathered % 8)
 line_is {gathered = gathered} some e =
@@ -188,20 +185,21 @@ end_whole {form} {text} {gathered} {out} {held} any few none e =
     ∙ ap line (sym (line_is any e))
 
 pub end_part :
-    {form : TreeForm} {text gathered out out2 : List ℕ} {held bits : ℕ} (octet : ℕ) → 1 ≤ length gathered → held < 8 → 0 < held
-    → octet ≡ bits * 2 ^ (8 - held) % 18446744073709551616 % 256
-    → out2 ≡ ((out ++ slice_index upper_digits (octet / 16) ∷ slice_index upper_digits (octet % 16) ∷ []) ++ 47 ∷ []) ++ (48 + held) ∷ []
+    {form : TreeForm} {text gathered out out2 : List ℕ} {held bits : ℕ} (v : ℕ) → 1 ≤ length gathered → held < 8 → 0 < held
+    → v ≡ bits * 2 ^ (8 - held) % 18446744073709551616
+    → out2 ≡ ((out ++ encode_upper (octets_of (low_bits 8 v))) ++ 47 ∷ []) ++ (48 + held) ∷ []
     → Ended form text gathered out held bits → out2 ≡ text ++ (octets_sign form ++ written gathered)
-end_part {form} {text} {gathered} {out} {out2} {held} {bits} octet any few some is wrote e =
-    let pair : List ℕ = slice_index upper_digits (octet / 16) ∷ slice_index upper_digits (octet % 16) ∷ [] in
+end_part {form} {text} {gathered} {out} {out2} {held} {bits} v any few some is wrote e =
+    let pair : List ℕ = encode_upper (octets_of (low_bits 8 v)) in
     let S : List ℕ = octets_sign form in
     let E : List ℕ = encode_upper (octets_of e.front) in
-    let octets : octets_of e.back ≡ octet ∷ [] =
+    let octets : octets_of e.back ≡ octets_of (low_bits 8 v) =
     tail_octet e.back (omega (arith, some, e.count)) (omega (arith, few, e.count)) e.back_bits
     ∙ ap (λ n. n * 2 ^ (8 - length e.back) % 18446744073709551616 % 256 ∷ []) (sym e.number)
     ∙ ap (λ k. bits * 2 ^ (8 - k) % 18446744073709551616 % 256 ∷ []) (sym e.count)
-    ∙ ap (λ n. n ∷ []) (sym is) in
-    let digits : encode_upper (octets_of e.back) ≡ pair = ap encode_upper octets ∙ one_octet octet in
+    ∙ ap (λ n. n % 256 ∷ []) (sym is)
+    ∙ sym (low_octet v) in
+    let digits : encode_upper (octets_of e.back) ≡ pair = ap encode_upper octets in
     let tail : tail_written (length gathered % 8) ≡ 47 ∷ (48 + held) ∷ [] = ap tail_written (left_over few e) ∙ tail_written-some held (omega (arith, some)) in
     wrote
     ∙ ap (λ o. ((o ++ pair) ++ 47 ∷ []) ++ (48 + held) ∷ []) e.ahead_is

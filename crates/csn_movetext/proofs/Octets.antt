@@ -1,99 +1,74 @@
 -- Bits of an open leaf that are written as octets.
-use Rattle.std.proofs.Common.{◌≡◌, ℕ, ◌+◌, ◌*◌, ◌/◌, ◌%◌, ◌^◌, ◌<◌, ◌≤◌, List, [], ◌∷◌, ◌++◌, length, slice_index, refl, sym, ap, subst, ◌∙◌, arith, append_assoc, append-nil, length-append}
-use Rattle.std.proofs.lemmas.Nat.{div-mul-add, mod-mul-add}
+use Rattle.std.proofs.Common.{◌≡◌, ℕ, ◌+◌, ◌-◌, ◌*◌, ◌/◌, ◌%◌, ◌^◌, ◌<◌, List, [], ◌∷◌, ◌++◌, length, drop, set, slice_index, refl, sym, ap, ◌∙◌, arith, append_assoc, append-nil, length-set}
+use Rattle.std.proofs.lemmas.List.{drop-set}
 use Rattle.hex.specs.Hex.{upper_digits, encode_upper, encode_with}
 use Rattle.csn_bits.specs.Octets.{IsBits, octets_of}
-use Rattle.csn_bits.specs.Numbers.{number_of}
-use Rattle.csn_bits.proofs.Packing.{IsBits-append, octets_of-append}
-use Rattle.csn_bits.proofs.NumberFacts.{number_of-append, number_of-lt, number_of-octet}
-use Rattle.csn_treetext.proofs.OctetLeaves.{encode_upper-push}
+use Rattle.csn_bits.specs.Numbers.{number_of, low_bits}
+use Rattle.csn_bits.proofs.Packing.{octets_of-append}
+use Rattle.csn_bits.proofs.NumberFacts.{number_of-octet, number_of-low_bits, length-low_bits, IsBits-low_bits, low_bits-split, low_bits-number_of}
 use Rattle.csn_movetext.specs.Kept.{Flushed, Extends}
 
-pub encode_upper-append : (front back : List ℕ) → encode_upper (front ++ back) ≡ encode_upper front ++ encode_upper back
+-- the octet of the last eight bits of a number
+pub low_octet : (v : ℕ) → octets_of (low_bits 8 v) ≡ v % 256 ∷ []
+low_octet v =
+    ap (λ n. n ∷ [])
+    (sym (number_of-octet (v / 2 ^ 7 % 2) (v / 2 ^ 6 % 2) (v / 2 ^ 5 % 2) (v / 2 ^ 4 % 2) (v / 2 ^ 3 % 2) (v / 2 ^ 2 % 2) (v / 2 ^ 1 % 2) (v / 2 ^ 0 % 2))
+    ∙ number_of-low_bits 8 v)
+
+-- the digits of one octet more, before those of the last ones
+octet_before :
+    (number k : ℕ) → encode_upper (octets_of (low_bits (8 * (k + 1)) number))
+    ≡ slice_index upper_digits (number / 2 ^ (8 * k) % 256 / 16) ∷ slice_index upper_digits (number / 2 ^ (8 * k) % 256 % 16) ∷ encode_upper (octets_of (low_bits (8 * k) number))
 unfolding encode_with
-encode_upper-append [] back = refl
-encode_upper-append (o ∷ front) back = ap (λ l. slice_index upper_digits (o / 16) ∷ slice_index upper_digits (o % 16) ∷ l) (encode_upper-append front back)
+octet_before number k =
+    let v : ℕ = number / 2 ^ (8 * k) in
+    let last : List ℕ = low_bits (8 * k) number in
+    let more : 8 * (k + 1) ≡ 8 + 8 * k = omega arith in
+    ap (λ n. encode_upper (octets_of (low_bits n number))) more
+    ∙ ap (λ l. encode_upper (octets_of l)) (low_bits-split 8 (8 * k) number)
+    ∙ ap encode_upper (octets_of-append (low_bits 8 v) last refl)
+    ∙ ap (λ l. encode_upper (l ++ octets_of last)) (low_octet v)
 
--- eight bits more are written
-record Split (back : List ℕ) : Type 0 where
-  eight : List ℕ
-  rest : List ℕ
-  cut : back ≡ eight ++ rest
-  whole : length eight ≡ 8
-  octets : octets_of eight ≡ number_of eight ∷ []
-  eight_bits : IsBits eight
-  rest_bits : IsBits rest
-
-split_of : (back : List ℕ) → 8 ≤ length back → IsBits back → Split back
-split_of (a ∷ b ∷ c ∷ d ∷ e ∷ f ∷ g ∷ h ∷ rest) long (pa, (pb, (pc, (pd, (pe, (pf, (pg, (ph, s)))))))) =
-    record {
-      eight = a ∷ b ∷ c ∷ d ∷ e ∷ f ∷ g ∷ h ∷ [];
-      rest = rest;
-      cut = refl;
-      whole = refl;
-      octets = ap (λ n. n ∷ []) (sym (number_of-octet a b c d e f g h));
-      eight_bits = (pa, (pb, (pc, (pd, (pe, (pf, (pg, (ph, tt))))))));
-      rest_bits = s;
-    }
-split_of few long are = absurd (omega arith)
-
-pub flush_step :
-    {before out b : List ℕ} {held bits : ℕ} (left octet : ℕ) → Flushed before out b held bits → held ≡ left + 8 → octet ≡ bits / 2 ^ left % 256
-    → Flushed before (out ++ slice_index upper_digits (octet / 16) ∷ slice_index upper_digits (octet % 16) ∷ []) b left (bits % 2 ^ left)
-flush_step {before} {out} {b} {held} {bits} left octet f more is =
-    let s = split_of f.back (omega (arith, f.count)) f.back_bits in
-    let wide : length f.back ≡ length s.eight + length s.rest = ap length s.cut ∙ length-append s.eight s.rest in
-    let here : left ≡ length s.rest = omega (arith, wide, s.whole, f.count) in
-    let number : bits ≡ number_of s.eight * 2 ^ left + number_of s.rest =
-    f.number ∙ ap number_of s.cut ∙ number_of-append s.eight s.rest ∙ ap (λ k. number_of s.eight * 2 ^ k + number_of s.rest) (sym here) in
-    let small : number_of s.rest < 2 ^ left = subst (λ k. number_of s.rest < 2 ^ k) (sym here) (number_of-lt s.rest s.rest_bits) in
-    let top : bits / 2 ^ left ≡ number_of s.eight = ap (λ n. n / 2 ^ left) number ∙ div-mul-add (number_of s.eight) (2 ^ left) (number_of s.rest) small in
-    let below : bits % 2 ^ left ≡ number_of s.rest = ap (λ n. n % 2 ^ left) number ∙ mod-mul-add (number_of s.eight) (2 ^ left) (number_of s.rest) small in
-    let octet_small : number_of s.eight < 256 = subst (λ k. number_of s.eight < 2 ^ k) s.whole (number_of-lt s.eight s.eight_bits) in
-    let same : octet ≡ number_of s.eight = omega (arith, is, top, octet_small) in
-    record {
-      front = f.front ++ s.eight;
-      back = s.rest;
-      cut = f.cut ∙ ap (λ l. f.front ++ l) s.cut ∙ sym (append_assoc f.front s.eight s.rest);
-      octets = (let l = length-append f.front s.eight in omega (arith, l, s.whole, f.octets));
-      written =
-          ap (λ l. l ++ slice_index upper_digits (octet / 16) ∷ slice_index upper_digits (octet % 16) ∷ []) f.written
-          ∙ append_assoc before (encode_upper (octets_of f.front)) (slice_index upper_digits (octet / 16) ∷ slice_index upper_digits (octet % 16) ∷ [])
-          ∙ ap (λ l. before ++ l) (sym (encode_upper-push (octets_of f.front) octet))
-          ∙ ap (λ n. before ++ encode_upper (octets_of f.front ++ n ∷ [])) same
-          ∙ ap (λ l. before ++ encode_upper (octets_of f.front ++ l)) (sym s.octets)
-          ∙ ap (λ l. before ++ encode_upper l) (sym (octets_of-append f.front s.eight f.octets));
-      count = here;
-      number = below;
-      front_bits = IsBits-append f.front s.eight f.front_bits s.eight_bits;
-      back_bits = s.rest_bits;
-    }
-
-pub flush_begun :
-    {before out : List ℕ} {held bits held0 bits0 : ℕ} → out ≡ before → held ≡ held0 → bits ≡ bits0
-    → (b : List ℕ) → IsBits b → length b ≡ held0 → number_of b ≡ bits0 → Flushed before out b held bits
+pub no_digits : [] ≡ encode_upper []
 unfolding encode_with
-flush_begun {before} is same_held same_bits b are long number =
-    record {
-      front = [];
-      back = b;
-      cut = refl;
-      octets = refl;
-      written = is ∙ sym (append-nil before);
-      count = same_held ∙ sym long;
-      number = same_bits ∙ sym number;
-      front_bits = tt;
-      back_bits = are;
-    }
+no_digits = refl
 
-pub flush_next :
-    {before out out2 b : List ℕ} {held held2 bits bits2 : ℕ} (octet : ℕ) → out2 ≡ out ++ slice_index upper_digits (octet / 16) ∷ slice_index upper_digits (octet % 16) ∷ []
-    → held ≡ held2 + 8 → octet ≡ bits / 2 ^ held2 % 256 → bits2 ≡ bits % 2 ^ held2
-    → Flushed before out b held bits → Flushed before out2 b held2 bits2
-flush_next {before} {out} {out2} {b} {held} {held2} {bits} {bits2} octet wrote more is rest f =
-    let P : List ℕ → Type 0 = λ o. Flushed before o b held2 bits2 in
-    let Q : ℕ → Type 0 = λ k. Flushed before (out ++ slice_index upper_digits (octet / 16) ∷ slice_index upper_digits (octet % 16) ∷ []) b held2 k in
-    subst P (sym wrote) (subst Q (sym rest) (flush_step held2 octet f more is))
+pub digits_before :
+    (number k first octet low high : ℕ) (digits : List ℕ) → length digits ≡ 16 → first + 2 * k ≡ 16 → k < 8
+    → octet ≡ number / 2 ^ (8 * k) % 256 → low ≡ slice_index upper_digits (octet % 16) → high ≡ slice_index upper_digits (octet / 16)
+    → drop first digits ≡ encode_upper (octets_of (low_bits (8 * k) number))
+    → drop (first - 2) (set (set digits (first - 2 + 1) low) (first - 2) high) ≡ encode_upper (octets_of (low_bits (8 * (k + 1)) number))
+digits_before number k first octet low high digits long at few is low_is high_is last =
+    let here : first - 2 + 1 + 1 ≡ first = omega (arith, at, few) in
+    drop-set (set digits (first - 2 + 1) low) (first - 2) high (omega (arith, at, few, long, length-set digits (first - 2 + 1) low))
+    ∙ ap (λ l. high ∷ l) (drop-set digits (first - 2 + 1) low (omega (arith, at, few, long)))
+    ∙ ap (λ n. high ∷ low ∷ drop n digits) here
+    ∙ ap (λ l. high ∷ low ∷ l) last
+    ∙ ap (λ n. n ∷ low ∷ encode_upper (octets_of (low_bits (8 * k) number))) (high_is ∙ ap (λ n. slice_index upper_digits (n / 16)) is)
+    ∙ ap (λ n. slice_index upper_digits (number / 2 ^ (8 * k) % 256 / 16) ∷ n ∷ encode_upper (octets_of (low_bits (8 * k) number))) (low_is ∙ ap (λ n. slice_index upper_digits (n % 16)) is)
+    ∙ sym (octet_before number k)
+
+-- held bits whose whole octets are written
+pub flushed :
+    {before out : List ℕ} {held bits : ℕ} → out ≡ before ++ encode_upper (octets_of (low_bits (8 * (held / 8)) (bits / 2 ^ (held % 8))))
+    → (b : List ℕ) → IsBits b → length b ≡ held → number_of b ≡ bits → Flushed before out b (held % 8) (bits % 2 ^ (held % 8))
+flushed {held = held} {bits = bits} is b are long number =
+    let first : ℕ = 8 * (held / 8) in
+    let last : ℕ = held % 8 in
+    let parts : length b ≡ first + last = omega (arith, long) in
+    record {
+      front = low_bits first (bits / 2 ^ last);
+      back = low_bits last bits;
+      cut =
+          sym (low_bits-number_of b are) ∙ ap (λ n. low_bits n (number_of b)) parts ∙ ap (λ n. low_bits (first + last) n) number
+          ∙ low_bits-split first last bits;
+      octets = omega (arith, length-low_bits first (bits / 2 ^ last));
+      written = is;
+      count = sym (length-low_bits last bits);
+      number = sym (number_of-low_bits last bits);
+      front_bits = IsBits-low_bits first (bits / 2 ^ last);
+      back_bits = IsBits-low_bits last bits;
+    }
 
 pub extends_then : (a b c : List ℕ) → Extends a b → Extends b c → Extends a c
 extends_then a b c first next = (first.0 ++ next.0, next.1 ∙ ap (λ l. l ++ next.0) first.1 ∙ append_assoc a first.0 next.0)

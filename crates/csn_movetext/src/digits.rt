@@ -1,20 +1,35 @@
-ghost use Rattle.std.specs.Prelude.{◌≡◌, ◌/◌, ◌%◌, ◌++◌, ◌∷◌, [], slice_index, OnOk};
+ghost use Rattle.std.specs.Prelude.{◌≡◌, ◌*◌, ◌≤◌, ◌++◌, OnOk};
 ghost use Rattle.std.specs.Fmt.{decimal};
-ghost use Rattle.hex.specs.Hex.{upper_digits};
+ghost use Rattle.hex.specs.Hex.{encode_upper};
+ghost use Rattle.csn_bits.specs.Octets.{octets_of};
+ghost use Rattle.csn_bits.specs.Numbers.{low_bits};
 ghost use Rattle.csn_movetext.specs.Kept.{Extends};
 
 use csn_bits::NoMemory;
 use itoa::Buffer;
 
-/// Adds the two digits of an octet, in upper case.
-pub(crate) fn push_octet(out: &mut Vec<u8>, octet: u8) -> Result<(), NoMemory>
+/// The most digits of a number: two for each octet.
+const MOST_DIGITS: usize = 16;
+
+/// Adds the digits of the last octets of a number, in upper case.
+pub(crate) fn push_octets(out: &mut Vec<u8>, number: u64, count: u32) -> Result<(), NoMemory>
+    requires few { count ≤ 8 }
     ensures digits { OnOk result (out.new.items
-        ≡ out.old.items ++ slice_index upper_digits (octet / 16) ∷ slice_index upper_digits (octet % 16) ∷ []) }
+        ≡ out.old.items ++ encode_upper (octets_of (low_bits (8 * count) number))) }
     ensures extends { Extends out.old.items out.new.items }
 {
-    let digits = b"0123456789ABCDEF";
-    out.push(digits[usize::from(octet / 16)])?;
-    out.push(digits[usize::from(octet % 16)])?;
+    let table = b"0123456789ABCDEF";
+    let mut digits = [0; MOST_DIGITS];
+    let mut first = MOST_DIGITS;
+    let mut rest = number;
+    for _ in 0..count {
+        let octet = (rest % 256) as u8;
+        rest /= 256;
+        first -= 2;
+        digits[first + 1] = table[usize::from(octet % 16)];
+        digits[first] = table[usize::from(octet / 16)];
+    }
+    out.extend_from_slice(&digits[first..])?;
     Ok(())
 }
 

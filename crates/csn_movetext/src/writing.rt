@@ -3,7 +3,7 @@ ghost use Rattle.csn_movetext.specs.Forms.{gap};
 ghost use Rattle.csn_movetext.specs.Openings.{leaf_width};
 ghost use Rattle.csn_movetext.specs.Told.{IsTold};
 
-use crate::digits::{push_number, push_octet};
+use crate::digits::{push_number, push_octets};
 use crate::form::TreeForm;
 use csn_bits::NoMemory;
 use csn_desc::{Count, Node};
@@ -184,11 +184,10 @@ impl Writing {
         ensures extends { Extends self.old.out.items self.new.out.items }
     {
         self.begin_long(form)?;
-        while self.held >= 8 {
-            self.held -= 8;
-            push_octet(&mut self.out, ((self.bits >> self.held) % 256) as u8)?;
-            self.bits %= 1 << self.held;
-        }
+        let rest = self.held % 8;
+        push_octets(&mut self.out, self.bits >> rest, self.held / 8)?;
+        self.bits %= 1 << rest;
+        self.held = rest;
         Ok(())
     }
 
@@ -252,7 +251,7 @@ impl Writing {
     {
         self.octets(form)?;
         if self.held > 0 {
-            push_octet(&mut self.out, ((self.bits << (8 - self.held)) % 256) as u8)?;
+            push_octets(&mut self.out, self.bits << (8 - self.held), 1)?;
             self.out.push(b'/')?;
             self.out.push(b'0' + self.held as u8)?;
         }
