@@ -19,14 +19,18 @@ NotSpace byte = byte ≢ space
 abbrev not_space : ℕ → Bool
 not_space byte = not (byte == space)
 
+-- what holds of each entry
+pub each_entry : (P : Entry → Type 0) → P Uplink → P Downlink → P Si1 → P Si3 → P Si4 → P Si13 → P Ia → (entry : Entry) → P entry
+each_entry P a b c d e f g Uplink = a
+each_entry P a b c d e f g Downlink = b
+each_entry P a b c d e f g Si1 = c
+each_entry P a b c d e f g Si3 = d
+each_entry P a b c d e f g Si4 = e
+each_entry P a b c d e f g Si13 = f
+each_entry P a b c d e f g Ia = g
+
 spaceless : (entry : Entry) → list_all not_space (entry_word entry) ≡ true
-spaceless Uplink = refl
-spaceless Downlink = refl
-spaceless Si1 = refl
-spaceless Si3 = refl
-spaceless Si4 = refl
-spaceless Si13 = refl
-spaceless Ia = refl
+spaceless = each_entry (λ entry. list_all not_space (entry_word entry) ≡ true) refl refl refl refl refl refl refl
 
 -- no word of an entry has a space
 pub word_clear : (entry : Entry) → HasNoSpace (entry_word entry)

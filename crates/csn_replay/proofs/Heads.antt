@@ -13,17 +13,11 @@ use Rattle.csn_replay.specs.Capture.{IsCapture, space}
 use Rattle.csn_replay.specs.Head.{HasNoSpace}
 use Rattle.csn_replay.specs.Laws.{HeadsTellCaptures}
 use Rattle.csn_replay.specs.declared.head.CaptureHead.TheVariants.{Word, Block, Missing}
-use Rattle.csn_replay.proofs.Captures.{NotSpace, word_clear, space_stands, space_within, clear_before, split_at_space, before_space}
+use Rattle.csn_replay.proofs.Captures.{NotSpace, each_entry, word_clear, space_stands, space_within, clear_before, split_at_space, before_space}
 
 -- a word has at most 8 bytes
 pub word_short : (entry : Entry) → length (entry_word entry) ≤ 8
-word_short Uplink = omega arith
-word_short Downlink = omega arith
-word_short Si1 = omega arith
-word_short Si3 = omega arith
-word_short Si4 = omega arith
-word_short Si13 = omega arith
-word_short Ia = omega arith
+word_short = each_entry (λ entry. length (entry_word entry) ≤ 8) (omega arith) (omega arith) (omega arith) (omega arith) (omega arith) (omega arith) (omega arith)
 
 -- ---- a line without a space
 
@@ -71,19 +65,16 @@ entry_by word =
     else Si4
 
 by_word : (entry : Entry) → entry_by (entry_word entry) ≡ entry
-by_word Uplink = refl
-by_word Downlink = refl
-by_word Si1 = refl
-by_word Si3 = refl
-by_word Si4 = refl
-by_word Si13 = refl
-by_word Ia = refl
+by_word = each_entry (λ entry. entry_by (entry_word entry) ≡ entry) refl refl refl refl refl refl refl
+
+-- a word is of one entry
+pub one_word : (entry other : Entry) → entry_word entry ≡ entry_word other → entry ≡ other
+one_word entry other same = sym (by_word entry) ∙ ap entry_by same ∙ by_word other
 
 -- a line is a capture of one entry
 one_entry : (line : List ℕ) (entry other : Entry) (at place : ℕ) → IsCapture line entry at → IsCapture line other place → other ≡ entry
 one_entry line entry other at place (block, is, there) (behind, has, here) =
-    let same : entry_word other ≡ entry_word entry = before_space (entry_word other) (entry_word entry) behind block (word_clear other) (word_clear entry) (sym has ∙ is) in
-    sym (by_word other) ∙ ap entry_by same ∙ by_word entry
+    one_word other entry (before_space (entry_word other) (entry_word entry) behind block (word_clear other) (word_clear entry) (sym has ∙ is))
 
 pub heads_tell_captures : HeadsTellCaptures
 heads_tell_captures (Word word) line (is, clear) = λ entry at capture.

@@ -1,5 +1,5 @@
-mod Captures
-mod Heads
-mod Puts
+pub mod Captures
+pub mod Heads
+pub mod Puts
 mod Rounds
 mod Watching

@@ -1,7 +1,11 @@
 -- What a sink takes of a text, piece by piece.
-use Rattle.std.proofs.Common.{◌≡◌, ℕ, ◌+◌, ◌-◌, ◌≤◌, List, ◌++◌, length, take, drop, sym, ◌∙◌, ap, arith, length-drop}
+use Rattle.std.proofs.Common.{◌≡◌, ◌≢◌, ℕ, ◌+◌, ◌-◌, ◌≤◌, List, ◌++◌, length, take, drop, Option, sym, ◌∙◌, ap, subst, arith, length-drop}
 use Rattle.std.proofs.lemmas.List.{length-take, take-append-drop, take_all}
 use Rattle.std.proofs.Math.Seq.{take-append-add}
+use Rattle.csn_io.specs.Put.{Appended}
+use Rattle.csn_replay.specs.declared.told.Told.{Told}
+use Rattle.csn_replay.specs.declared.told.Told.TheVariants.{Ok}
+use Rattle.csn_replay.specs.Told.{Wrote}
 
 -- a slice from p on is what is left behind p
 pub slice_from : (p : ℕ) (xs : List ℕ) → take (length xs - p) (drop p xs) ≡ drop p xs
@@ -15,3 +19,8 @@ take_more_of p n xs h =
     let there : take (p + n) xs ≡ take p xs ++ take n (drop p xs) =
     ap (λ k. take (k + n) xs) (sym front) ∙ ap (take (length (take p xs) + n)) (sym (take-append-drop p xs)) ∙ split in
     there ∙ ap (λ ys. take p xs ++ take n ys) (sym (slice_from p xs))
+
+-- the first bytes of a text were taken, and no more
+pub broke_off : (told : Told) (before now after : Option (List ℕ)) (n : ℕ) (text : List ℕ) → told ≢ Ok → after ≡ now → Appended before now (take n text) → Wrote told before after text
+broke_off told before now after n text fault still took =
+    (take n text, drop n text, sym (take-append-drop n text), subst (λ taken. Appended before taken (take n text)) (sym still) took, λ ok. absurd (fault ok))

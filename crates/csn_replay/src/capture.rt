@@ -1,4 +1,4 @@
-ghost use Rattle.std.specs.Prelude.{◌≡◌, ◌≤◌, Some, None, IfSome, IfNone, length};
+ghost use Rattle.std.specs.Prelude.{◌≡◌, ◌≤◌, Some, IfSome, length};
 ghost use Rattle.csn_replay.specs.Capture.{IsCapture};
 
 use csn_catalogue::{Entry, entry_of};

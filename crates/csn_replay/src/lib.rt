@@ -14,6 +14,7 @@ mod watchers;
 
 pub use capture::{Capture, MOST_LINE, read_capture};
 pub use head::CaptureHead;
+pub use output::put_all;
 pub use seen::{Go, Kind, Seen};
 pub use telling::{close, tell};
 pub use told::Told;

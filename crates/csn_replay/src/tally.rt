@@ -1,6 +1,6 @@
 //! What the watchers of this crate are made of.
 
-ghost use Rattle.std.specs.Prelude.{◌≡◌, ◌+◌, ◌++◌, ◌↔◌, ◌≤◌, IfOk, OnOk, min, true, leb, codes};
+ghost use Rattle.std.specs.Prelude.{◌≡◌, ◌+◌, ◌++◌, ◌↔◌, IfOk, min, true, leb, codes};
 ghost use Rattle.std.specs.Fmt.{decimal};
 ghost use Rattle.csn_replay.specs.Watched.{greatest_count, title};
 ghost use Rattle.csn_replay.specs.declared.seen.Go.TheVariants.{Done};

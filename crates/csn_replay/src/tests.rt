@@ -1,7 +1,4 @@
-ghost use Rattle.csn_replay.specs.Watched.{Watched};
 ghost use Rattle.csn_replay.specs.declared.seen.Kind.TheVariants.{Length};
-ghost use Rattle.std.specs.Prelude.{min, ◌+◌};
-ghost use Rattle.csn_replay.specs.Watched.{greatest_count};
 
 use crate::*;
 use csn_bits::NoMemory;

@@ -1,4 +1,4 @@
-ghost use Rattle.std.specs.Prelude.{◌≡◌, ◌↔◌, ◌++◌, IfOk, OnOk, true};
+ghost use Rattle.std.specs.Prelude.{◌≡◌, ◌↔◌, IfOk, true};
 ghost use Rattle.csn_replay.specs.Watched.{counted, is_done, report_line};
 ghost use Rattle.csn_replay.specs.declared.seen.Go.TheVariants.{Done};
 

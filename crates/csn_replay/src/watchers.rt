@@ -1,7 +1,6 @@
 //! The watchers of this crate, one for each kind of count.
 
 ghost use Rattle.std.specs.Prelude.{◌≡◌, ◌≤◌};
-ghost use Rattle.csn_replay.specs.Watched.{Watched};
 ghost use Rattle.csn_replay.specs.declared.seen.Kind.TheVariants.{Blocks, Refused, Length};
 
 use crate::seen::{Go, Kind, Seen};

@@ -1,8 +1,7 @@
-use Rattle.std.proofs.Common.{◌≤◌, ◌+◌, length, take, drop, length-drop, arith, sym, subst, ◌∙◌}
-use Rattle.std.proofs.lemmas.List.{take-append-drop}
+use Rattle.std.proofs.Common.{◌≤◌, ◌+◌, length, length-drop, arith, sym, subst, ◌∙◌}
 use Rattle.csn_io.specs.Put.{Appended}
 use Rattle.csn_io.proofs.Told.{appended_more}
-use Rattle.csn_replay.proofs.Puts.{slice_from, take_more_of}
+use Rattle.csn_replay.proofs.Puts.{slice_from, take_more_of, broke_off}
 use Rattle.csn_replay.proofs.output.put_all.Goals as goal
 
 pub loop-passed-preserved : goal.loop-passed-preserved
@@ -18,19 +17,7 @@ loop-passed-preserved g c =
     }
 
 pub returns-in-Failed-clause-wrote : goal.returns-in-Failed-clause-wrote
-returns-in-Failed-clause-wrote g c = (
-  take c.loop-passed.passed c.args.text.now,
-  drop c.loop-passed.passed c.args.text.now,
-  sym (take-append-drop _ _),
-  subst (λ taken. Appended (g.K.Sink.taken c.args.out.now) taken (take c.loop-passed.passed c.args.text.now)) (sym c.in-Failed.ensures.taken_stays) c.loop-passed.invariant.took,
-  λ is. cc,
-)
+returns-in-Failed-clause-wrote g c = broke_off _ _ _ _ _ _ (λ is. cc) c.in-Failed.ensures.taken_stays c.loop-passed.invariant.took
 
 pub returns-in-NoMemory-clause-wrote : goal.returns-in-NoMemory-clause-wrote
-returns-in-NoMemory-clause-wrote g c = (
-  take c.loop-passed.passed c.args.text.now,
-  drop c.loop-passed.passed c.args.text.now,
-  sym (take-append-drop _ _),
-  subst (λ taken. Appended (g.K.Sink.taken c.args.out.now) taken (take c.loop-passed.passed c.args.text.now)) (sym c.in-NoMemory.ensures.taken_stays) c.loop-passed.invariant.took,
-  λ is. cc,
-)
+returns-in-NoMemory-clause-wrote g c = broke_off _ _ _ _ _ _ (λ is. cc) c.in-NoMemory.ensures.taken_stays c.loop-passed.invariant.took
