@@ -1,18 +1,15 @@
 -- Turns up to one that waits or refuses.
-use Rattle.std.proofs.Common.{◌≡◌, ℕ, ◌+◌, ◌-◌, ◌*◌, ◌≤◌, true, if◌then◌else◌, List, [], ◌∷◌, ◌++◌, length, refl, sym, ◌∙◌, subst, arith}
+use Rattle.std.proofs.Common.{◌≡◌, ℕ, ◌+◌, ◌≤◌, true, List, [], ◌++◌, length, sym, ◌∙◌, subst, arith}
 use Rattle.csn_desc.specs.declared.moves.Move.{Move}
 use Rattle.csn_desc.specs.declared.node.Node.{Node}
 use Rattle.csn_desc.specs.Nodes.{DescV}
-use Rattle.csn_judge.specs.declared.frame.Frame.{Frame}
-use Rattle.csn_judge.specs.declared.pace.Pace.{Pace}
 use Rattle.csn_judge.specs.declared.turn.Turn.{Turn}
 use Rattle.csn_judge.specs.declared.turn.Turn.TheVariants.{Moved, Waits, Refused}
 use Rattle.csn_judge.specs.declared.verdict.Verdict.TheVariants.{Going as still_going, Refused as no_more}
-use Rattle.csn_judge.specs.Credit.{weight_of, weights_of, credit_of, Pays, PaysAll}
+use Rattle.csn_judge.specs.Credit.{credit_of, Pays, PaysAll}
 use Rattle.csn_judge.specs.Left.{Left}
 use Rattle.csn_judge.specs.Turns.{StateV, Stands, StandsSomewhere, GoesOn, Turns}
 use Rattle.csn_judge.proofs.TurningOn.{on_then, turns_then}
-use Rattle.csn_judge.proofs.Paying.{weighs}
 use Rattle.csn_desc.proofs.Splits.{rest_empty}
 use Rattle.csn_judge.proofs.Turning.{stays_as}
 

@@ -34,6 +34,14 @@ use Rattle.csn_judge.proofs.Wholes.{enter_window}
 use Rattle.csn_judge.proofs.Stacks.{Begun, begun_of, just_begun, of_begun, first_next, field_stack, literal_stack, spare_stack, pad_stack, rest_stack, null_stack, choice_stack, turns_stack, free_stack, cut_stack, sequence_begun, window_begun}
 use Rattle.csn_judge.proofs.Turning.{moving, risen, left_stack, shown_behind, kept_unnamed, unnamed, state, still, still_until}
 
+module _ {S : Type 0} (takes : S → Move → Node → S → Type 0) where
+  -- a node has this form, and it was told that it is entered
+  abbrev pub IsEntered : List Node → S → ℕ → Node → S → Type 0
+  IsEntered nodes before i form after = (slice_get nodes i ≡ Some form) × takes before (Enter i) form after
+
+  pub entered : {before after : S} {i : ℕ} {node form : Node} (nodes : List Node) → node ≡ form → slice_get nodes i ≡ Some node → takes before (Enter i) node after → IsEntered nodes before i form after
+  entered {before} {after} {i} nodes is here told = (here ∙ ap (λ n. Some n) is, subst (λ (n : Node). takes before (Enter i) n after) is told)
+
 module _ (d : DescV) where
   pub record BeginStands (i : ℕ) (frames : List Frame) (values : List Value) (stack : List Left) : Type 0 where
     pub outer : List Left
@@ -57,14 +65,6 @@ module _ (d : DescV) where
   unit_fits : (unit n : ℕ) → (unit ≡ 1) ⊎ (unit ≡ 8) → n < 16777216 → unit * n < 4294967296
   unit_fits unit n (inl one) small = omega (arith, small, ap (λ k. k * n) one)
   unit_fits unit n (inr eight) small = omega (arith, small, ap (λ k. k * n) eight)
-
-  module _ {S : Type 0} (takes : S → Move → Node → S → Type 0) where
-    -- a node has this form, and it was told that it is entered
-    abbrev pub IsEntered : S → ℕ → Node → S → Type 0
-    IsEntered before i form after = (slice_get d.nodes i ≡ Some form) × takes before (Enter i) form after
-
-    pub entered : {before after : S} {i : ℕ} {node form : Node} → node ≡ form → slice_get d.nodes i ≡ Some node → takes before (Enter i) node after → IsEntered before i form after
-    entered {before} {after} {i} is here told = (here ∙ ap (λ n. Some n) is, subst (λ (n : Node). takes before (Enter i) n after) is told)
 
   module _ {S : Type 0} (takes : S → Move → Node → S → Type 0) (before : S) (values : List Value) (pace : Pace) (coming : Coming) where
     -- a node that begins
@@ -148,7 +148,7 @@ module _ (d : DescV) where
 
     module _ {i : ℕ} {frames : List Frame} {after : S} {stack : List Left} {done : List ℕ} (known : Known d)
         (stands : Stands d (state d takes before values pace coming (frame.Begin i ∷ frames)) stack done) where
-      pub literal : (run : List Symbol) → IsEntered takes before i (Lits run) after
+      pub literal : (run : List Symbol) → IsEntered takes d.nodes before i (Lits run) after
           → GoesOn d takes (state d takes before values pace coming (frame.Begin i ∷ frames)) (state d takes before values pace coming (frame.Leaf i (leaf.Lits 0) ∷ frames)) before after stack done
       literal run (here, told) =
           let a = at_begin stands in
@@ -156,28 +156,28 @@ module _ (d : DescV) where
           enters_as (Lits run) (symbols_left run) a here told refl (shows_leaf (shows_lits run here some refl) (a.stands.kept ∙ ap (λ v. kept_of d v) a.stands.seen) a.stands.round)
           (literal_stack d 12 known.description known.certified here a.begun) refl a.owed (enter_literal d run a.stands.v done)
 
-      pub spare : (symbol : Symbol) → IsEntered takes before i (Spare symbol) after
+      pub spare : (symbol : Symbol) → IsEntered takes d.nodes before i (Spare symbol) after
           → GoesOn d takes (state d takes before values pace coming (frame.Begin i ∷ frames)) (state d takes before values pace coming (frame.Leaf i leaf.Spare ∷ frames)) before after stack done
       spare symbol (here, told) =
           let a = at_begin stands in
           enters_as (Spare symbol) (spare_left symbol) a here told refl (shows_leaf (shows_spare here) (a.stands.kept ∙ ap (λ v. kept_of d v) a.stands.seen) a.stands.round)
           (spare_stack d 12 known.description known.certified here a.begun) refl a.owed (enter_spare d symbol a.stands.v done)
 
-      pub pad : IsEntered takes before i Pad after
+      pub pad : IsEntered takes d.nodes before i Pad after
           → GoesOn d takes (state d takes before values pace coming (frame.Begin i ∷ frames)) (state d takes before values pace coming (frame.Leaf i (leaf.Pad false) ∷ frames)) before after stack done
       pad (here, told) =
           let a = at_begin stands in
           enters_as Pad (pad_left false) a here told refl (shows_leaf (shows_pad here) (a.stands.kept ∙ ap (λ v. kept_of d v) a.stands.seen) a.stands.round)
           (pad_stack d 12 known.description known.certified here a.begun) refl a.owed (enter_pad d a.stands.v done)
 
-      pub rest : IsEntered takes before i Rest after
+      pub rest : IsEntered takes d.nodes before i Rest after
           → GoesOn d takes (state d takes before values pace coming (frame.Begin i ∷ frames)) (state d takes before values pace coming (frame.Leaf i leaf.Rest ∷ frames)) before after stack done
       rest (here, told) =
           let a = at_begin stands in
           enters_as Rest rest_left a here told refl (shows_leaf (shows_rest here) (a.stands.kept ∙ ap (λ v. kept_of d v) a.stands.seen) a.stands.round)
           (rest_stack d 12 known.description known.certified here a.begun) refl a.owed (enter_rest d a.stands.v done)
 
-      pub field : (unit n m : ℕ) (count : Count) → IsEntered takes before i (Field unit count) after
+      pub field : (unit n m : ℕ) (count : Count) → IsEntered takes d.nodes before i (Field unit count) after
           → ((v : Values) → values ≡ kept_of d v → count_of v count ≡ Some n) → m ≡ unit * n
           → GoesOn d takes (state d takes before values pace coming (frame.Begin i ∷ frames)) (state d takes before values pace coming (frame.Leaf i (leaf.Field m) ∷ frames)) before after stack done
       field unit n m count (here, told) number size =
@@ -188,14 +188,14 @@ module _ (d : DescV) where
           (enters_as (Field unit count) (bits_left (unit * n)) a here told refl (shows_leaf (shows_field unit count here) (a.stands.kept ∙ ap (λ v. kept_of d v) a.stands.seen) a.stands.round)
           (field_stack d 12 known.description known.certified here counts a.begun) refl a.owed (enter_field d unit count n a.stands.v done counts))
 
-      pub choice : (parts : List ℕ) → IsEntered takes before i (Choice parts) after
+      pub choice : (parts : List ℕ) → IsEntered takes d.nodes before i (Choice parts) after
           → GoesOn d takes (state d takes before values pace coming (frame.Begin i ∷ frames)) (state d takes before values pace coming (frame.Open i ∷ frames)) before after stack done
       choice parts (here, told) =
           let a = at_begin stands in
           enters_as (Choice parts) (choice_left parts a.stands.v) a here told refl (shows_open here a.stands.seen a.stands.kept a.stands.round)
           (choice_stack d 12 known.description known.certified here a.begun) refl a.owed (enter_choice d parts a.stands.v done)
 
-      pub turns : (n part : ℕ) (count : Count) → IsEntered takes before i (Times count part) after
+      pub turns : (n part : ℕ) (count : Count) → IsEntered takes d.nodes before i (Times count part) after
           → ((v : Values) → values ≡ kept_of d v → count_of v count ≡ Some n)
           → GoesOn d takes (state d takes before values pace coming (frame.Begin i ∷ frames)) (state d takes before values pace coming (frame.Times i part n ∷ frames)) before after stack done
       turns n part count (here, told) number =
@@ -204,14 +204,14 @@ module _ (d : DescV) where
           enters_as (Times count part) (turns_left n part a.stands.v) a here told refl (shows_turns (record { count = count; at = here; seen = a.stands.seen }) a.stands.kept a.stands.round)
           (turns_stack d 12 known.description known.certified here counts a.begun) refl a.owed (enter_turns d count part n i a.stands.v done known.have_moves here counts)
 
-      pub free : (part : ℕ) → IsEntered takes before i (Many part) after
+      pub free : (part : ℕ) → IsEntered takes d.nodes before i (Many part) after
           → GoesOn d takes (state d takes before values pace coming (frame.Begin i ∷ frames)) (state d takes before values pace coming (frame.Many i part ∷ frames)) before after stack done
       free part (here, told) =
           let a = at_begin stands in
           enters_as (Many part) (free_left part a.stands.v) a here told refl (shows_free (record { at = here; seen = a.stands.seen }) a.stands.kept a.stands.round)
           (free_stack d 12 known.description known.certified here a.begun) refl a.owed (enter_free d part i a.stands.v done known.have_moves here)
 
-      pub truncation : (parts : List ℕ) (count : ℕ) → IsEntered takes before i (Trunc parts) after → count ≡ length values
+      pub truncation : (parts : List ℕ) (count : ℕ) → IsEntered takes d.nodes before i (Trunc parts) after → count ≡ length values
           → GoesOn d takes (state d takes before values pace coming (frame.Begin i ∷ frames)) (state d takes before values pace coming (frame.Trunc i 0 count ∷ frames)) before after stack done
       truncation parts count (here, told) size =
           let a = at_begin stands in
@@ -219,7 +219,7 @@ module _ (d : DescV) where
           (cut_stack d 12 known.description known.certified here a.begun) refl a.owed (enter_cut d parts i a.stands.v done known.have_moves here)
 
       -- a sequence, whose first part begins
-      pub sequence : (parts : List ℕ) (j count : ℕ) → IsEntered takes before i (Seq parts) after → slice_get parts 0 ≡ Some j → count ≡ length values
+      pub sequence : (parts : List ℕ) (j count : ℕ) → IsEntered takes d.nodes before i (Seq parts) after → slice_get parts 0 ≡ Some j → count ≡ length values
           → GoesOn d takes (state d takes before values pace coming (frame.Begin i ∷ frames)) (record { frames = frame.Begin j ∷ frame.Seq i 1 count ∷ frames; values = values; pace = begun_by j pace; coming = coming }) before after stack done
       sequence [] j count (here, told) first size = absurd (cc)
       sequence (p ∷ ps) j count (here, told) first size =
@@ -246,7 +246,7 @@ module _ (d : DescV) where
           (tells_enter (Seq (j ∷ ps)) _ here_j told_j (tells_none refl refl)))
 
       -- a window, whose part begins
-      pub window : (unit n part bits : ℕ) (count : Count) (later : Coming) → IsEntered takes before i (Window unit count part) after
+      pub window : (unit n part bits : ℕ) (count : Count) (later : Coming) → IsEntered takes d.nodes before i (Window unit count part) after
           → ((v : Values) → values ≡ kept_of d v → count_of v count ≡ Some n) → bits ≡ unit * n
           → later.bits ≡ coming.bits → later.ended ≡ coming.ended → later.place ≡ coming.place → later.limit ≡ min coming.limit (coming.place + bits)
           → GoesOn d takes (state d takes before values pace coming (frame.Begin i ∷ frames)) (record { frames = frame.Begin part ∷ frame.Window i coming.place bits coming.limit ∷ frames; values = values; pace = begun_by part pace; coming = later }) before after stack done
@@ -267,7 +267,7 @@ module _ (d : DescV) where
           (tells_enter (Window unit count part) _ here told (tells_none refl refl)))
 
       -- a node without bits is entered and left
-      pub null : (last : S) → IsEntered takes before i Null after → takes after Leave Null last
+      pub null : (last : S) → IsEntered takes d.nodes before i Null after → takes after Leave Null last
           → GoesOn d takes (state d takes before values pace coming (frame.Begin i ∷ frames)) (state d takes before values pace coming frames) before last stack done
       null last (here, told) left =
           let a = at_begin stands in

@@ -1,6 +1,5 @@
 use Rattle.std.specs.Prelude.{⊤}
-use Rattle.std.proofs.Common.{◌+◌, inl, ◌≡◌, ◌*◌, ◌∷◌, ◌++◌, length, reverse, Some, slice_get, refl, sym, ap, ◌∙◌, subst, arith}
-use Rattle.std.proofs.lemmas.List.{length-reverse}
+use Rattle.std.proofs.Common.{◌+◌, ◌≡◌, ◌*◌, ◌∷◌, ◌++◌, length, reverse, Some, slice_get, refl, sym, ap, ◌∙◌, subst, arith}
 use Rattle.std.proofs.lemmas.Option.{slice_get_within}
 use Rattle.csn_desc.specs.declared.node.Node.TheVariants.{Field, Named}
 use Rattle.csn_desc.specs.declared.node.Count.TheVariants.{Fixed}
@@ -10,11 +9,10 @@ use Rattle.csn_judge.specs.declared.pace.Pace.{Pace}
 use Rattle.csn_judge.specs.Credit.{credit_of}
 use Rattle.csn_judge.specs.Turns.{begun_by, StateV, state_of, state_with, Stands, GoesOn}
 use Rattle.csn_judge.proofs.PayingBits.{counted_credit, entered_pays}
-use Rattle.csn_judge.proofs.Turning.{GoesOn-along, begun_again}
+use Rattle.csn_judge.proofs.Turning.{begun_again}
 use Rattle.csn_judge.proofs.TurningOn.{turns_then}
 use Rattle.csn_judge.proofs.TurningCounted.{field_width, counted_width}
-use Rattle.csn_judge.proofs.TurningNamed.{label_goes_on, counted_goes_on, label_begins}
-use Rattle.csn_judge.proofs.Paying.{begun_pays}
+use Rattle.csn_judge.proofs.TurningNamed.{counted_goes_on, label_begins}
 use Rattle.csn_judge.proofs.machine.Machine.enter_named.Goals as goal
 
 pub node-field-requires : goal.node-field-requires

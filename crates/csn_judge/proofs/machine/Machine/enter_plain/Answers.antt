@@ -3,7 +3,7 @@ use Rattle.std.proofs.Common.{inl, ◌≡◌, ◌+◌, ◌*◌, List, ◌∷◌,
 use Rattle.std.proofs.lemmas.List.{length-reverse}
 use Rattle.csn_desc.specs.declared.moves.Move.TheVariants.{Enter}
 use Rattle.csn_desc.specs.declared.node.Node.{Node}
-use Rattle.csn_desc.specs.declared.node.Node.TheVariants.{Field, Named}
+use Rattle.csn_desc.specs.declared.node.Node.TheVariants.{Named}
 use Rattle.csn_desc.specs.Nodes.{DescV}
 use Rattle.csn_judge.specs.declared.frame.Frame.{Frame}
 use Rattle.csn_judge.specs.declared.frame.Frame.TheVariants as frame

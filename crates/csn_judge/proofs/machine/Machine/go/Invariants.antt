@@ -1,4 +1,4 @@
-use Rattle.std.proofs.Common.{◌≡◌, length}
+use Rattle.std.proofs.Common.{◌≡◌}
 use Rattle.csn_judge.specs.Credit.{credit_in, turns_left_at}
 use Rattle.csn_judge.specs.Turns.{state_at, state_of}
 use Rattle.csn_judge.proofs.GoingOn.{Going}

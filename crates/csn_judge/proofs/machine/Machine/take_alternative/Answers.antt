@@ -50,7 +50,7 @@ read_part-requires-clause-stands g c =
     let d : DescV = c.args.self.now.plan.now in
     let paced : c.begin-2.new.self ≡ begun_by c.args.part c.args.self.now.pace = begun_again d c.args.self.now.pace c.args.part c.begin-2.ensures in
     let on = literal d g.T.Track.takes c.args.track.now c.args.self.now.values.items (begun_by c.args.part c.args.self.now.pace) c.args.source.now c.requires.stands.known c.requires.stands.stands c.in-Lits.field-0
-    (entered d g.T.Track.takes c.in-Lits.is c.node-alternative.ensures.node c.step.ensures) in
+    (entered g.T.Track.takes _ c.in-Lits.is c.node-alternative.ensures.node c.step.ensures) in
     let P : Pace → Type 0 = λ p. Stands d (record { frames = frame.Leaf c.args.part (leaf.Lits 0) ∷ frame.Choice c.args.i ∷ reverse c.args.self.now.frames.items; values = c.args.self.now.values.items; pace = p; coming = c.args.source.now }) on.now (c.requires.stands.done ++ on.taken) in
     record { known = c.requires.stands.known; stack = on.now; done = c.requires.stands.done ++ on.taken; stands = subst P (sym paced) on.stands }
 
@@ -62,7 +62,7 @@ returns-in-Ended-clause-turns g c =
     let Q : Pace → Type 0 = λ p. GoesOn d g.T.Track.takes (state_begun c.args.part (frame.Choice c.args.i) c.args.self.now c.args.source.now) (record { frames = frame.Leaf c.args.part (leaf.Lits 0) ∷ frame.Choice c.args.i ∷ reverse c.args.self.now.frames.items; values = c.args.self.now.values.items; pace = p; coming = c.args.source.now }) c.args.track.now c.step.new.self stack done in
     let first = subst Q (sym paced)
     (literal d g.T.Track.takes c.args.track.now c.args.self.now.values.items (begun_by c.args.part c.args.self.now.pace) c.args.source.now c.requires.stands.known stands c.in-Lits.field-0
-    (entered d g.T.Track.takes c.in-Lits.is c.node-alternative.ensures.node c.step.ensures)) in
+    (entered g.T.Track.takes _ c.in-Lits.is c.node-alternative.ensures.node c.step.ensures)) in
     let read = on_then d g.T.Track.takes first (c.in-Ended.ensures.turns first.now (done ++ first.taken) first.stands) in
     on_then d g.T.Track.takes read
     (passes_by d g.T.Track.takes c.read_part.new.track c.read_part.new.self.values.items c.read_part.new.self.pace c.read_part.new.source c.args.node.now (passed_choice refl) c.requires.stands.known read.stands c.requires.node c.step-in-Ended.ensures)
@@ -77,7 +77,7 @@ returns-in-Turn-clause-turns g c =
     let Q : Pace → Type 0 = λ p. GoesOn d g.T.Track.takes (state_begun c.args.part (frame.Choice c.args.i) c.args.self.now c.args.source.now) (record { frames = frame.Leaf c.args.part (leaf.Lits 0) ∷ frame.Choice c.args.i ∷ reverse c.args.self.now.frames.items; values = c.args.self.now.values.items; pace = p; coming = c.args.source.now }) c.args.track.now c.step.new.self stack done in
     subst Q (sym paced)
     (literal d g.T.Track.takes c.args.track.now c.args.self.now.values.items (begun_by c.args.part c.args.self.now.pace) c.args.source.now c.requires.stands.known stands c.in-Lits.field-0
-    (entered d g.T.Track.takes c.in-Lits.is c.node-alternative.ensures.node c.step.ensures)))
+    (entered g.T.Track.takes _ c.in-Lits.is c.node-alternative.ensures.node c.step.ensures)))
     c.in-Turn.ensures.turns
 
 pub returns-in-Ended-clause-pays : goal.returns-in-Ended-clause-pays
