@@ -1,5 +1,5 @@
 -- The blocks of the generator, one more at a time.
-use Rattle.std.proofs.Common.{◌≡◌, ◌↔◌, ℕ, zero, suc, ◌+◌, ◌*◌, ◌<◌, ◌≤◌, Bool, true, false, if◌then◌else◌, IsTrue, List, [], ◌++◌, length, take, drop, refl, sym, ap, subst, ◌∙◌, arith, append_assoc, append-nil}
+use Rattle.std.proofs.Common.{◌≡◌, ◌↔◌, ℕ, zero, suc, ◌+◌, ◌*◌, ◌≤◌, Bool, true, false, if◌then◌else◌, IsTrue, List, [], ◌++◌, length, take, drop, refl, sym, ap, subst, ◌∙◌, arith, append_assoc, append-nil}
 use Rattle.std.specs.Int.{to_be_bytes, w64}
 use Rattle.std.proofs.Math.Seq.{drop-append_seam}
 use Rattle.std.proofs.lemmas.List.{take_all, length-take-le}
@@ -25,58 +25,16 @@ three a b c = ap (λ x. a ++ (b ++ x)) (append-nil c) ∙ sym (append_assoc a b 
 
 -- a number in the field does not change how many bits a sample has, nor its first one
 pub as_long : (entry : Entry) (x : ℕ) → length (sample_with entry x) ≡ 8 * length (sample_octets entry)
-as_long Uplink x = refl
-as_long Downlink x = refl
-as_long Si1 x = refl
-as_long Si3 x = refl
-as_long Si4 x = refl
-as_long Si13 x = refl
-as_long Ia x = refl
+as_long entry x = elim entry as (λ e. length (sample_with e x) ≡ 8 * length (sample_octets e)) [ Uplink ↦ refl | Downlink ↦ refl | Si1 ↦ refl | Si3 ↦ refl | Si4 ↦ refl | Si13 ↦ refl | Ia ↦ refl ]
 
 pub first_stays : (entry : Entry) (x : ℕ) → take 1 (sample_with entry x) ≡ take 1 (sample_bits entry)
-first_stays Uplink x = refl
-first_stays Downlink x = refl
-first_stays Si1 x = refl
-first_stays Si3 x = refl
-first_stays Si4 x = refl
-first_stays Si13 x = refl
-first_stays Ia x = refl
+first_stays entry x = elim entry as (λ e. take 1 (sample_with e x) ≡ take 1 (sample_bits e)) [ Uplink ↦ refl | Downlink ↦ refl | Si1 ↦ refl | Si3 ↦ refl | Si4 ↦ refl | Si13 ↦ refl | Ia ↦ refl ]
 
 pub cut_long : (entry : Entry) (x : ℕ) → length (take 1 (sample_with entry x)) ≡ 1
-cut_long Uplink x = refl
-cut_long Downlink x = refl
-cut_long Si1 x = refl
-cut_long Si3 x = refl
-cut_long Si4 x = refl
-cut_long Si13 x = refl
-cut_long Ia x = refl
-
-pub some_octets : (entry : Entry) → 0 < length (sample_octets entry)
-some_octets Uplink = omega arith
-some_octets Downlink = omega arith
-some_octets Si1 = omega arith
-some_octets Si3 = omega arith
-some_octets Si4 = omega arith
-some_octets Si13 = omega arith
-some_octets Ia = omega arith
-
-pub narrow : (entry : Entry) → field_width entry ≤ 64
-narrow Uplink = omega arith
-narrow Downlink = omega arith
-narrow Si1 = omega arith
-narrow Si3 = omega arith
-narrow Si4 = omega arith
-narrow Si13 = omega arith
-narrow Ia = omega arith
+cut_long entry x = elim entry as (λ e. length (take 1 (sample_with e x)) ≡ 1) [ Uplink ↦ refl | Downlink ↦ refl | Si1 ↦ refl | Si3 ↦ refl | Si4 ↦ refl | Si13 ↦ refl | Ia ↦ refl ]
 
 pub few_octets : (entry : Entry) → length (sample_octets entry) ≤ 22
-few_octets Uplink = omega arith
-few_octets Downlink = omega arith
-few_octets Si1 = omega arith
-few_octets Si3 = omega arith
-few_octets Si4 = omega arith
-few_octets Si13 = omega arith
-few_octets Ia = omega arith
+few_octets entry = elim entry as (λ e. length (sample_octets e) ≤ 22) [ Uplink ↦ omega arith | Downlink ↦ omega arith | Si1 ↦ omega arith | Si3 ↦ omega arith | Si4 ↦ omega arith | Si13 ↦ omega arith | Ia ↦ omega arith ]
 
 -- how a block is made of its sample
 made_if : (entry : Entry) (x : ℕ) (cut : Bool) → (if cut then take 1 (sample_bits entry) else sample_with entry x) ≡ (if cut then take 1 (sample_with entry x) else sample_with entry x)

@@ -1,6 +1,6 @@
 //! The numbers and the blocks of the generator.
 
-ghost use Rattle.std.specs.Prelude.{◌≡◌, ◌+◌, drop};
+ghost use Rattle.std.specs.Prelude.{◌≡◌};
 ghost use Rattle.csn_soak.specs.Generator.{next_number};
 
 /// The factor of the sequence of numbers.

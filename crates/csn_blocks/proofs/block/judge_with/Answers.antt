@@ -1,4 +1,4 @@
-use Rattle.std.proofs.Common.{◌≡◌, ℕ, suc, ◌+◌, ◌≤◌, List, [], ◌++◌, take, length, refl, sym, ap, subst, ◌∙◌, arith, take_all}
+use Rattle.std.proofs.Common.{◌≡◌, ℕ, suc, ◌+◌, ◌≤◌, List, [], take, refl, sym, subst, ◌∙◌, arith, take_all}
 use Rattle.csn_desc.specs.declared.moves.Move.{Move}
 use Rattle.csn_judge.specs.Judging.{JudgeV, JudgesFor}
 use Rattle.csn_blocks.specs.declared.block.Piece.{Piece}
