@@ -135,10 +135,16 @@ answer_is verdict.Going false new is = is
 answer_is verdict.Going true new is = is
 answer_is (verdict.Refused place) short new is = is
 
-pub going_is : (answer : Fed) (going : Bool) → going ≡ is_going answer → going ≡ true → answer ≡ Going
-going_is Going going is on = refl
-going_is (Refused place) going is on = absurd (cc)
-going_is NoMemory going is on = absurd (cc)
+-- nothing was refused so far
+pub record Begun (answer : Fed) (j : JudgeV) : Type 0 where
+  pub going : answer ≡ Going
+  pub none : j.refused ≡ None
+  pub judges : JudgesSome Going j
+
+pub begun : (answer : Fed) (j : JudgeV) (going : Bool) → going ≡ is_going answer → going ≡ true → IsAnswer answer j → JudgesSome answer j → Begun answer j
+begun Going j going is on none some = record { going = refl; none = none; judges = some }
+begun (Refused place) j going is on none some = absurd (cc)
+begun NoMemory j going is on none some = absurd (cc)
 
 never_going : (answer : Fed) → answer ≡ Going → false ≡ is_going answer → ⊥
 never_going answer e off = let on : is_going answer ≡ true = ap (λ a. is_going a) e in absurd (cc)

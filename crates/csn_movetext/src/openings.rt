@@ -26,8 +26,8 @@ pub struct Openings {
 /// Where a text stands in the pool.
 #[derive(Clone, Copy)]
 struct Place {
-    start: usize,
-    end: usize,
+    start: u32,
+    end: u32,
 }
 
 impl Model for Openings {
@@ -63,7 +63,7 @@ impl Openings {
     {
         if usize::from(i) < self.places.len() {
             let place = self.places[usize::from(i)];
-            &self.pool[place.start..place.end]
+            &self.pool[place.start as usize..place.end as usize]
         } else {
             b""
         }
@@ -76,7 +76,15 @@ impl Openings {
         let start = self.pool.len();
         self.pool.extend_from_slice(opening)?;
         let end = self.pool.len();
-        Ok(self.places.push(Place { start, end })?)
+        if end > u32::MAX as usize {
+            return Err(NoMemory);
+        }
+        Ok(
+            self.places.push(Place {
+                start: start as u32,
+                end: end as u32,
+            })?,
+        )
     }
 }
 

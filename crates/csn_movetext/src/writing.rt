@@ -68,7 +68,23 @@ impl Writing {
             self.out.push(gap(form))?;
             self.left = false;
         }
-        self.out.extend_from_slice(opening)?;
+        Writing::push_opening(&mut self.out, opening)
+    }
+
+    // Adds the opening of a node. Most have a byte or two, which need no copy.
+    fn push_opening(out: &mut Vec<u8>, opening: &[u8]) -> Result<(), NoMemory>
+        ensures text { OnOk result (out.new.items ≡ out.old.items ++ opening.now) }
+        ensures extends { Extends out.old.items out.new.items }
+    {
+        match opening {
+            [] => {}
+            [byte] => out.push(*byte)?,
+            [first, second] => {
+                out.push(*first)?;
+                out.push(*second)?;
+            }
+            _ => out.extend_from_slice(opening)?,
+        }
         Ok(())
     }
 
