@@ -58,6 +58,7 @@ impl Openings {
     }
 
     /// What node `i` writes; nothing where there is no such node.
+    #[inline(always)]
     pub(crate) fn get(&self, i: u16) -> &[u8]
         ensures { result.now ≡ opening_in self.now i }
     {

@@ -82,6 +82,7 @@ impl<'a> Track for TextTrack<'a> {
 
     ghost takes = { Writes };
 
+    #[inline(always)]
     fn step(&mut self, step: Move, node: &Node) {
         if self.refused {
             return;
@@ -101,6 +102,7 @@ impl<'a> Track for TextTrack<'a> {
 }
 
 // One move, with the node that begins, that takes the bit, or that ends.
+#[inline(always)]
 fn write_move(
     writing: &mut Writing,
     openings: &Openings,

@@ -59,6 +59,7 @@ impl Writing {
     }
 
     /// A node with this opening is entered.
+    #[inline(always)]
     pub fn enter(&mut self, form: TreeForm, opening: &[u8]) -> Result<(), NoMemory>
         ensures entered { OnOk result ((w next : WritingV) → Shows form (kept_of self.old) w
             → entered form opening.now w ≡ Some next → Shows form (kept_of self.new) next) }
@@ -72,6 +73,7 @@ impl Writing {
     }
 
     // Adds the opening of a node. Most have a byte or two, which need no copy.
+    #[inline(always)]
     fn push_opening(out: &mut Vec<u8>, opening: &[u8]) -> Result<(), NoMemory>
         ensures text { OnOk result (out.new.items ≡ out.old.items ++ opening.now) }
         ensures extends { Extends out.old.items out.new.items }
@@ -106,6 +108,7 @@ impl Writing {
     }
 
     /// A node is left.
+    #[inline(always)]
     pub fn leave(&mut self, form: TreeForm, node: &Node) -> Result<(), NoMemory>
         ensures left_node { OnOk result ((w next : WritingV) → Shows form (kept_of self.old) w
             → left_node form node.now w ≡ Some next → Shows form (kept_of self.new) next) }
@@ -124,6 +127,7 @@ impl Writing {
     }
 
     // A node is left that writes one byte then.
+    #[inline(always)]
     fn shut(&mut self, byte: u8) -> Result<(), NoMemory>
         ensures shut { OnOk result ((form : TreeForm) (w next : WritingV) → Shows form (kept_of self.old) w
             → shut byte w ≡ Some next → Shows form (kept_of self.new) next) }
@@ -135,6 +139,7 @@ impl Writing {
     }
 
     // A node is left whose part has a number or a label.
+    #[inline(always)]
     fn leave_part(&mut self, form: TreeForm) -> Result<(), NoMemory>
         ensures part_left { OnOk result ((w next : WritingV) → Shows form (kept_of self.old) w → part_left form w ≡ Some next
             → Shows form (kept_of self.new) next) }
@@ -148,6 +153,7 @@ impl Writing {
     }
 
     // A node that writes nothing where it is left.
+    #[inline(always)]
     fn pass(&mut self)
         ensures passed { (form : TreeForm) (w next : WritingV) → Shows form (kept_of self.old) w → passed w ≡ Some next
             → Shows form (kept_of self.new) next }
