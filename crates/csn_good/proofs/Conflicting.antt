@@ -3,10 +3,9 @@ use Rattle.std.proofs.Common.{◌≡◌, ℕ, zero, suc, ◌<◌, ◌≤◌, Boo
 use Rattle.std.specs.Prelude.{◌≢◌, ◌⊎◌, IsTrue, Contains, is_some, ◌↔◌, slice_index_or, nat_le, not}
 use Rattle.std.proofs.lemmas.Bool.Decides.{nat_tests}
 use Rattle.std.proofs.lemmas.Option.{slice_get_within, get_or_from_slice_get}
-use Rattle.csn_desc.specs.declared.symbol.Symbol.{Symbol}
 use Rattle.csn_desc.specs.declared.node.Count.{Count}
 use Rattle.csn_desc.specs.declared.node.Node.{Node}
-use Rattle.csn_desc.specs.declared.node.Node.TheVariants.{Lits, Spare, Pad, Null, Field, Rest, Seq, Choice, Times, Many, Trunc, Window, Named}
+use Rattle.csn_desc.specs.declared.node.Node.TheVariants.{Pad, Rest, Choice, Times, Many, Trunc}
 use Rattle.csn_desc.specs.Nodes.{DescV}
 use Rattle.csn_cert.specs.declared.pattern.Mark.{Mark}
 use Rattle.csn_cert.specs.PatternV.{PatternV}
@@ -188,27 +187,6 @@ module _ (d : DescV) (c : List NodeV) (is : IsCertificate c) where
   choice_told i parts = (choice_back i parts, choice_kept i parts)
 
   -- ---- the other nodes
-
-  pub lits_apart : (i : ℕ) (run : List Symbol) → KeepsApart d c i (Lits run)
-  lits_apart i run (not_last from o bit last reached ends follow) = elim last [ ]
-
-  pub spare_apart : (i : ℕ) (s : Symbol) → KeepsApart d c i (Spare s)
-  spare_apart i s (not_last from o bit last reached ends follow) = elim last [ ]
-
-  pub null_apart : (i : ℕ) → KeepsApart d c i Null
-  null_apart i (not_last from o bit last reached ends follow) = elim last [ ]
-
-  pub field_apart : (i unit : ℕ) (count : Count) → KeepsApart d c i (Field unit count)
-  field_apart i unit count (not_last from o bit last reached ends follow) = elim last [ ]
-
-  pub seq_apart : (i : ℕ) (parts : List ℕ) → KeepsApart d c i (Seq parts)
-  seq_apart i parts (not_last from o bit last reached ends follow) = elim last [ ]
-
-  pub window_apart : (i unit : ℕ) (count : Count) (part : ℕ) → KeepsApart d c i (Window unit count part)
-  window_apart i unit count part (not_last from o bit last reached ends follow) = elim last [ ]
-
-  pub named_apart : (i : ℕ) (label : List ℕ) (part : ℕ) → KeepsApart d c i (Named label part)
-  named_apart i label part (not_last from o bit last reached ends follow) = elim last [ ]
 
   pub pad_apart : (i : ℕ) → (BitBehind c i → ⊥) → KeepsApart d c i Pad
   pad_apart i never (not_last from o bit last reached ends follow) = never (behind_is i from o bit reached ends follow)

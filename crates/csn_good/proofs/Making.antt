@@ -7,10 +7,10 @@ use Rattle.std.proofs.lemmas.List.Elements.{Contains-append_left, Contains-appen
 use Rattle.csn_cert.specs.declared.pattern.Mark.{Mark}
 use Rattle.csn_cert.specs.declared.pattern.Mark.TheVariants.{Zero, One, Any}
 use Rattle.csn_cert.specs.PatternV.{PatternV}
-use Rattle.csn_cert.specs.CertificateV.{NodeV, PositionV, IsPattern}
+use Rattle.csn_cert.specs.CertificateV.{NodeV, PositionV}
 use Rattle.csn_good.specs.ClaimedSets.{patterns_at, patterns_of}
 use Rattle.csn_good.specs.Patterns.{shortened, PartsPatterns, TimesPatterns, parts_none, parts_cut, parts_whole, times_none, times_cut, times_whole}
-use Rattle.csn_good.specs.Made.{digit_of, marks_number, end_number, pattern_number, AreKept, MadeAt, AreMade, FirstMakes, makes_cut, makes_whole, SomeMakes}
+use Rattle.csn_good.specs.Made.{digit_of, marks_number, end_number, pattern_number, MadeAt, AreMade, FirstMakes, makes_cut, makes_whole, SomeMakes}
 use Rattle.indexmap.specs.IndexSet.{insert_key}
 use Rattle.std.proofs.lemmas.Option.{slice_get_within}
 use Rattle.csn_good.proofs.Denoting.{found, any_true}
@@ -74,8 +74,8 @@ dropped marks zero n few = few
 dropped [] (suc k) n few = few
 dropped (mark ∷ marks) (suc k) n few = dropped marks k n (omega arith)
 
-pub number_small : (marks : List Mark) (k : ℕ) → length marks ≤ 12 → marks_number (drop k marks) ≤ 797160
-number_small marks k few = number_low (drop k marks) 12 (dropped marks k 12 few)
+pub number_small : (marks : List Mark) (k number : ℕ) → length marks ≤ 12 → number ≡ marks_number (drop k marks) → number ≤ 797160
+number_small marks k number few is = let low = number_low (drop k marks) 12 (dropped marks k 12 few) in omega (arith, low, is)
 
 pub digit_small : (mark : Mark) → digit_of mark ≤ 3
 digit_small mark = (digit_low mark).1
@@ -86,12 +86,6 @@ number_more marks k mark some at =
     let next : k - 1 + 1 ≡ k = omega arith in
     let P : ℕ → Type 0 = λ n. drop (k - 1) marks ≡ mark ∷ drop n marks in
     sym (ap marks_number (subst P next same))
-
-pub last_none : {X : Type 0} (xs : List X) (k : ℕ) → k ≡ length xs → drop k xs ≡ []
-last_none [] zero e = refl
-last_none [] (suc k) e = refl
-last_none (x ∷ xs) zero e = absurd (omega arith)
-last_none (x ∷ xs) (suc k) e = last_none xs k (omega arith)
 
 -- ---- sets of patterns
 

@@ -5,18 +5,12 @@ use Rattle.csn_good.proofs.made.number_of.Goals as goal
 
 pub overflow_mul-number : goal.overflow_mul-number
 overflow_mul-number c =
-    let size = c.len-at.ensures.count in
-    let few = c.len-at.ensures.few in
-    let small = number_small c.args.pattern.marks c.loop-at.at (omega arith) in
-    let is = c.loop-at.invariant in
+    let small = number_small c.args.pattern.marks c.loop-at.at _ (omega (arith, c.len-at.ensures.count, c.len-at.ensures.few)) c.loop-at.invariant in
     omega arith
 
 pub overflow_add-number : goal.overflow_add-number
 overflow_add-number c =
-    let size = c.len-at.ensures.count in
-    let few = c.len-at.ensures.few in
-    let small = number_small c.args.pattern.marks c.loop-at.at (omega arith) in
-    let is = c.loop-at.invariant in
+    let small = number_small c.args.pattern.marks c.loop-at.at _ (omega (arith, c.len-at.ensures.count, c.len-at.ensures.few)) c.loop-at.invariant in
     let digit = digit_small c.get.result in
     let told = c.digit_of.ensures in
     omega arith
@@ -29,24 +23,15 @@ loop-at-preserved c =
 
 pub overflow_mul-result : goal.overflow_mul-result
 overflow_mul-result c =
-    let size = c.len-at.ensures.count in
-    let few = c.len-at.ensures.few in
-    let small = number_small c.args.pattern.marks c.loop-at.at (omega arith) in
-    let is = c.loop-at.invariant in
+    let small = number_small c.args.pattern.marks c.loop-at.at _ (omega (arith, c.len-at.ensures.count, c.len-at.ensures.few)) c.loop-at.invariant in
     omega arith
 
 pub overflow_add-result : goal.overflow_add-result
 overflow_add-result c =
-    let size = c.len-at.ensures.count in
-    let few = c.len-at.ensures.few in
-    let small = number_small c.args.pattern.marks c.loop-at.at (omega arith) in
-    let is = c.loop-at.invariant in
+    let small = number_small c.args.pattern.marks c.loop-at.at _ (omega (arith, c.len-at.ensures.count, c.len-at.ensures.few)) c.loop-at.invariant in
     omega arith
 
 pub overflow_mul-result-else-whole : goal.overflow_mul-result-else-whole
 overflow_mul-result-else-whole c =
-    let size = c.len-at.ensures.count in
-    let few = c.len-at.ensures.few in
-    let small = number_small c.args.pattern.marks c.loop-at.at (omega arith) in
-    let is = c.loop-at.invariant in
+    let small = number_small c.args.pattern.marks c.loop-at.at _ (omega (arith, c.len-at.ensures.count, c.len-at.ensures.few)) c.loop-at.invariant in
     omega arith
