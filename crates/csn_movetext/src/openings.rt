@@ -80,12 +80,11 @@ impl Openings {
         if end > u32::MAX as usize {
             return Err(NoMemory);
         }
-        Ok(
-            self.places.push(Place {
-                start: start as u32,
-                end: end as u32,
-            })?,
-        )
+        let place = Place {
+            start: start as u32,
+            end: end as u32,
+        };
+        Ok(self.places.push(place)?)
     }
 }
 
