@@ -4,7 +4,7 @@ use Rattle.csn_desc.specs.declared.reading.Reading.{Reading}
 use Rattle.csn_desc.specs.declared.node.Node.{Node}
 use Rattle.csn_desc.specs.Nodes.{parts_of}
 use Rattle.csn_cert.specs.PatternV.{PatternV}
-use Rattle.csn_certmake.specs.Patterns.{IsRow, AreRows, node_patterns, patterns_in}
+use Rattle.csn_certmake.specs.Patterns.{IsRow, AreRows, leaf_pattern, node_patterns, patterns_in}
 use Rattle.csn_certmake.proofs.Rows.{row_read}
 
 -- the rows of the parts of a node that is known
@@ -23,3 +23,11 @@ only_row table i row rows is =
 -- what a node that is known has
 pub node_row : {E : Type 0} (r : Result (List (List PatternV)) E) (reading : Reading) (table : List (List (List PatternV))) (n known : Node) → n ≡ known → IfOk r (λ row. IsRow (node_patterns reading table known) row) → IfOk r (λ row. IsRow (node_patterns reading table n) row)
 node_row r reading table n known is made = subst (λ m. IfOk r (λ row. IsRow (node_patterns reading table m) row)) (sym is) made
+
+-- what a node has that is known to have the one pattern of its own bits
+pub leaf_row : {E : Type 0} (r : Result (List (List PatternV)) E) (reading : Reading) (table : List (List (List PatternV))) (n known : Node) → n ≡ known → node_patterns reading table known ≡ (λ octet. leaf_pattern reading known octet ∷ [])
+    → IfOk r (λ row. IsRow (λ octet. leaf_pattern reading n octet ∷ []) row) → IfOk r (λ row. IsRow (node_patterns reading table n) row)
+leaf_row r reading table n known is leaf made =
+    node_row r reading table n known is
+    (subst (λ (of : ℕ → List PatternV). IfOk r (λ row. IsRow of row)) (sym leaf)
+    (subst (λ (m : Node). IfOk r (λ row. IsRow (λ octet. leaf_pattern reading m octet ∷ []) row)) is made))

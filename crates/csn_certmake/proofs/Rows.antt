@@ -47,9 +47,6 @@ row_more of row new n patterns so same rising pushed =
 pub has_same : (patterns others : List PatternV) → patterns ≡ others → HasSame patterns others
 has_same patterns others same = subst (λ (l : List PatternV). HasSame patterns l) same (λ p. (λ h. h, λ h. h))
 
-pub rises_alone : (p : PatternV) → Rises ComesBefore (p ∷ [])
-rises_alone p = tt
-
 -- ---- lists that are tested to be the same
 
 both : (b c : Bool) → (b && c) ≡ true → (b ≡ true) × (c ≡ true)

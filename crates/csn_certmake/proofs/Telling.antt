@@ -28,9 +28,6 @@ use Rattle.csn_certmake.proofs.Growing.{last_push, at_last_push}
 is_at : ℕ → PositionV → Bool
 is_at octet p = p.octet == octet
 
-AreBelow : ℕ → List PositionV → Type 0
-AreBelow octet ps = AllByRecursion (λ p. p.octet < octet) ps
-
 other : (a b : ℕ) → a ≢ b → (a == b) ≡ false
 other a b differ = grind (arith, nat_tests, differ)
 
@@ -133,18 +130,6 @@ node_has look reach row i octet old new newer p so added at tells =
           (subst (λ (claim : Option PositionV). TellsClaim d row i octet claim) (sym (found_last so.node.positions p octet so.below at)) (tells d known)) o low;
     }
 
-pub node_whole : (look : LookV) (reach : ReachV) (row : List (List PatternV)) (i octet : ℕ) (old new : List NodeV) → octet ≡ 8 → NodeSo look reach row i octet old new → AddsNode look reach row i old new
-node_whole look reach row i octet old new all so =
-    record {
-      node = so.node;
-      added = so.added;
-      tells = λ d known. record {
-        nullable = so.nullable d known;
-        follow = so.follow d known;
-        claims = λ o low. so.claims d o known (omega (arith, all, low));
-      };
-    }
-
 -- digits of a set of ends
 pub ends_told : (d : DescV) (i octet digits : ℕ) (ends : set.FinSet nat_cmp) → DigitsAre 8 digits (Has ends) → OctetsAre ends (InEnds d i octet) → DigitsAre 8 digits (InEnds d i octet)
 ends_told d i octet digits ends written are place low =
@@ -155,9 +140,6 @@ ends_told d i octet digits ends written are place low =
     )
 
 -- ---- node by node
-
-pub nodes_none : (look : LookV) (reach : ReachV) (rows : List (List (List PatternV))) (d : DescV) (i : ℕ) → IsKnown d look reach → i < 0 → (n : NodeV) × (slice_get [] i ≡ Some n) × TellsNode d (slice_index_or rows i []) i n
-nodes_none look reach rows d i known low = absurd (omega arith)
 
 abbrev pub NodesSo : LookV → ReachV → List (List (List PatternV)) → ℕ → List NodeV → Type 0
 NodesSo look reach rows count c =

@@ -39,9 +39,6 @@ new_one count digits is =
 same_answer : {P : Type 0} (b c : Bool) → b ≡ c → IsTrue c ↔ P → IsTrue b ↔ P
 same_answer {P} b c same holds = subst (λ (x : Bool). IsTrue x ↔ P) (sym same) holds
 
-pub no_digits : (digits : ℕ) (P : ℕ → Type 0) → DigitsAre 0 digits P
-no_digits digits P place low = absurd (omega arith)
-
 pub digit_more : (count next digits : ℕ) (is : Bool) (P : ℕ → Type 0) → next ≡ suc count → DigitsAre count digits P → IsTrue is ↔ P count → DigitsAre next (with_digit digits is) P
 digit_more count next digits is P step each here =
     subst (λ (n : ℕ). DigitsAre n (with_digit digits is) P) (sym step)

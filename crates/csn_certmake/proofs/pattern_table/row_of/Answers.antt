@@ -1,9 +1,8 @@
-use Rattle.std.proofs.Common.{[], ◌∷◌, List, sym, subst, IfOk}
-use Rattle.csn_desc.specs.declared.node.Node.{Node}
+use Rattle.std.proofs.Common.{List, refl, sym, subst, IfOk}
 use Rattle.csn_desc.specs.declared.node.Node.TheVariants.{Lits, Spare, Pad, Null, Field, Rest, Seq, Choice, Times, Many, Trunc, Window, Named}
 use Rattle.csn_cert.specs.PatternV.{PatternV}
-use Rattle.csn_certmake.specs.Patterns.{IsRow, leaf_pattern, patterns_in, turns_of}
-use Rattle.csn_certmake.proofs.Nodes.{parts_rows, only_there, only_row, node_row}
+use Rattle.csn_certmake.specs.Patterns.{IsRow, patterns_in, turns_of}
+use Rattle.csn_certmake.proofs.Nodes.{parts_rows, only_there, only_row, node_row, leaf_row}
 use Rattle.csn_certmake.proofs.pattern_table.row_of.Goals as goal
 
 pub bounds-rows-part : goal.bounds-rows-part
@@ -37,46 +36,28 @@ returns-in-Named c =
     (subst (λ (r : List (List PatternV)). IfOk c.copied.result (λ row. IsRow (patterns_in r) row)) (sym found.0) c.copied.ensures)
 
 pub returns-in-Lits : goal.returns-in-Lits
-returns-in-Lits c =
-    node_row c.alone.result c.args.reading c.args.rows.now c.args.node.now (Lits c.in-Lits.field-0) c.in-Lits.is
-    (subst (λ (n : Node). IfOk c.alone.result (λ row. IsRow (λ octet. leaf_pattern c.args.reading n octet ∷ []) row)) c.in-Lits.is c.alone.ensures)
+returns-in-Lits c = leaf_row c.alone.result c.args.reading c.args.rows.now c.args.node.now (Lits c.in-Lits.field-0) c.in-Lits.is refl c.alone.ensures
 
 pub returns-in-Spare : goal.returns-in-Spare
-returns-in-Spare c =
-    node_row c.alone-in-Spare.result c.args.reading c.args.rows.now c.args.node.now (Spare c.in-Spare.field-0) c.in-Spare.is
-    (subst (λ (n : Node). IfOk c.alone-in-Spare.result (λ row. IsRow (λ octet. leaf_pattern c.args.reading n octet ∷ []) row)) c.in-Spare.is c.alone-in-Spare.ensures)
+returns-in-Spare c = leaf_row c.alone-in-Spare.result c.args.reading c.args.rows.now c.args.node.now (Spare c.in-Spare.field-0) c.in-Spare.is refl c.alone-in-Spare.ensures
 
 pub returns-in-Pad : goal.returns-in-Pad
-returns-in-Pad c =
-    node_row c.alone-in-Pad.result c.args.reading c.args.rows.now c.args.node.now (Pad) c.in-Pad.is
-    (subst (λ (n : Node). IfOk c.alone-in-Pad.result (λ row. IsRow (λ octet. leaf_pattern c.args.reading n octet ∷ []) row)) c.in-Pad.is c.alone-in-Pad.ensures)
+returns-in-Pad c = leaf_row c.alone-in-Pad.result c.args.reading c.args.rows.now c.args.node.now Pad c.in-Pad.is refl c.alone-in-Pad.ensures
 
 pub returns-in-Null : goal.returns-in-Null
-returns-in-Null c =
-    node_row c.alone-in-Null.result c.args.reading c.args.rows.now c.args.node.now (Null) c.in-Null.is
-    (subst (λ (n : Node). IfOk c.alone-in-Null.result (λ row. IsRow (λ octet. leaf_pattern c.args.reading n octet ∷ []) row)) c.in-Null.is c.alone-in-Null.ensures)
+returns-in-Null c = leaf_row c.alone-in-Null.result c.args.reading c.args.rows.now c.args.node.now Null c.in-Null.is refl c.alone-in-Null.ensures
 
 pub returns-in-Field : goal.returns-in-Field
-returns-in-Field c =
-    node_row c.alone-in-Field.result c.args.reading c.args.rows.now c.args.node.now (Field c.in-Field.unit c.in-Field.count) c.in-Field.is
-    (subst (λ (n : Node). IfOk c.alone-in-Field.result (λ row. IsRow (λ octet. leaf_pattern c.args.reading n octet ∷ []) row)) c.in-Field.is c.alone-in-Field.ensures)
+returns-in-Field c = leaf_row c.alone-in-Field.result c.args.reading c.args.rows.now c.args.node.now (Field c.in-Field.unit c.in-Field.count) c.in-Field.is refl c.alone-in-Field.ensures
 
 pub returns-in-Rest : goal.returns-in-Rest
-returns-in-Rest c =
-    node_row c.alone-in-Rest.result c.args.reading c.args.rows.now c.args.node.now (Rest) c.in-Rest.is
-    (subst (λ (n : Node). IfOk c.alone-in-Rest.result (λ row. IsRow (λ octet. leaf_pattern c.args.reading n octet ∷ []) row)) c.in-Rest.is c.alone-in-Rest.ensures)
+returns-in-Rest c = leaf_row c.alone-in-Rest.result c.args.reading c.args.rows.now c.args.node.now Rest c.in-Rest.is refl c.alone-in-Rest.ensures
 
 pub returns-in-Many : goal.returns-in-Many
-returns-in-Many c =
-    node_row c.alone-in-Many.result c.args.reading c.args.rows.now c.args.node.now (Many c.in-Many.field-0) c.in-Many.is
-    (subst (λ (n : Node). IfOk c.alone-in-Many.result (λ row. IsRow (λ octet. leaf_pattern c.args.reading n octet ∷ []) row)) c.in-Many.is c.alone-in-Many.ensures)
+returns-in-Many c = leaf_row c.alone-in-Many.result c.args.reading c.args.rows.now c.args.node.now (Many c.in-Many.field-0) c.in-Many.is refl c.alone-in-Many.ensures
 
 pub returns-in-Trunc : goal.returns-in-Trunc
-returns-in-Trunc c =
-    node_row c.alone-in-Trunc.result c.args.reading c.args.rows.now c.args.node.now (Trunc c.in-Trunc.field-0) c.in-Trunc.is
-    (subst (λ (n : Node). IfOk c.alone-in-Trunc.result (λ row. IsRow (λ octet. leaf_pattern c.args.reading n octet ∷ []) row)) c.in-Trunc.is c.alone-in-Trunc.ensures)
+returns-in-Trunc c = leaf_row c.alone-in-Trunc.result c.args.reading c.args.rows.now c.args.node.now (Trunc c.in-Trunc.field-0) c.in-Trunc.is refl c.alone-in-Trunc.ensures
 
 pub returns-in-Window : goal.returns-in-Window
-returns-in-Window c =
-    node_row c.alone-in-Window.result c.args.reading c.args.rows.now c.args.node.now (Window c.in-Window.unit c.in-Window.count c.in-Window.part) c.in-Window.is
-    (subst (λ (n : Node). IfOk c.alone-in-Window.result (λ row. IsRow (λ octet. leaf_pattern c.args.reading n octet ∷ []) row)) c.in-Window.is c.alone-in-Window.ensures)
+returns-in-Window c = leaf_row c.alone-in-Window.result c.args.reading c.args.rows.now c.args.node.now (Window c.in-Window.unit c.in-Window.count c.in-Window.part) c.in-Window.is refl c.alone-in-Window.ensures
