@@ -7,7 +7,6 @@ use Rattle.csn_bits.specs.Fault.{IsLineFault, fault_for}
 use Rattle.csn_bits.specs.declared.fault.BitsFault.{BitsFault}
 use Rattle.csn_bits.specs.declared.fault.LineWhy.{LineWhy}
 use Rattle.csn_catalogue.specs.declared.entry.Entry.{Entry}
-use Rattle.csn_catalogue.specs.declared.entry.Entry.TheVariants.{Uplink, Downlink, Si1, Si3, Si4, Si13, Ia}
 use Rattle.csn_catalogue.specs.Entries.{all_entries, entry_root}
 use Rattle.csn_catalogue.specs.Text.{catalogue_text}
 use Rattle.csn_desc.specs.declared.reading.Reading.{Reading}
@@ -19,12 +18,13 @@ use Rattle.csn_replay.specs.declared.told.Told.{Told}
 use Rattle.csn_replay.specs.declared.told.Told.TheVariants.{Ok}
 use Rattle.csn_replay.specs.Watched.{reports}
 use Rattle.csn_replay.specs.declared.seen.Seen.{Seen}
+use Rattle.csn_replay.proofs.Captures.{each_entry}
 use Rattle.csn_movetext.specs.declared.form.TreeForm.TheVariants.{Text}
 use Rattle.csn_run.specs.Known.{Known}
 use Rattle.csn_run.specs.Compiled.{AreCompiled, IsCompiled}
 use Rattle.csn_run.specs.LineState.{LineState}
 use Rattle.csn_run.specs.OutLine.{ShowsBlock, CaptureLine, captures_block, captures_fault, no_capture, Replays, entry_place, fault_text, seen_of, left_behind, done_behind}
-use Rattle.csn_run.proofs.Captures.{capture_or_none, one_entry, one_place}
+use Rattle.csn_run.proofs.Captures.{capture_or_none, one_capture}
 use Rattle.csn_run.proofs.JoinedLines.{same_state}
 use Rattle.csn_run.proofs.ShownLines.{each_block, one_block, no_block, one_fault}
 
@@ -53,13 +53,7 @@ compiled_more reading rules (first ∷ entries) [] entry d compiled one = absurd
 compiled_more reading rules (first ∷ entries) (e ∷ ds) entry d compiled one = (compiled.0, compiled_more reading rules entries ds entry d compiled.1 one)
 
 pub stands_at : (entry : Entry) → slice_get all_entries (entry_place entry) ≡ Some entry
-stands_at Uplink = refl
-stands_at Downlink = refl
-stands_at Si1 = refl
-stands_at Si3 = refl
-stands_at Si4 = refl
-stands_at Si13 = refl
-stands_at Ia = refl
+stands_at = each_entry (λ entry. slice_get all_entries (entry_place entry) ≡ Some entry) refl refl refl refl refl refl refl
 
 -- some description among these
 first_of : (reading : Reading) (rules : RulesV) (plans : List DescV) → AreCompiled rules reading all_entries plans → DescV
@@ -104,7 +98,7 @@ module _ (known : Known) (rules : RulesV) (reading : Reading) (plans : List Desc
 
   -- lines of one entry
   block_at_one : {line : List ℕ} (entry entry' : Entry) {at at' : ℕ} (P : List ℕ → Type 0) → IsCapture line entry at → IsCapture line entry' at' → P (drop at line) → P (drop at' line)
-  block_at_one {line} entry entry' P is is' p = subst (λ n. P (drop n line)) (one_place entry entry' is is') p
+  block_at_one {line} entry entry' P is is' p = subst (λ n. P (drop n line)) (one_capture known.of_captures is is').1 p
 
   block_and_fault : {line block : List ℕ} (entry entry' : Entry) {at at' : ℕ} {fault : BitsFault} → IsCapture line entry at → IsCapture line entry' at' → BlockLine (drop at line) block → IsLineFault (drop at' line) fault → ⊥
   block_and_fault {line} {block} entry entry' {at} {at'} {fault} is is' spells holds =
@@ -113,7 +107,7 @@ module _ (known : Known) (rules : RulesV) (reading : Reading) (plans : List Desc
 
   one_answer : (line answer other : List ℕ) (seen seen' : Option Seen) → CaptureLine rules reading line answer seen → CaptureLine rules reading line other seen' → SameAnswer answer other seen seen'
   one_answer line answer other seen seen' (captures_block entry at block is spells shows sees) (captures_block entry' at' block' is' spells' shows' sees') =
-      let same : entry ≡ entry' = one_entry is is' in
+      let same : entry ≡ entry' = (one_capture known.of_captures is is').0 in
       let one : block ≡ block' = known.of_lines.spells_one (drop at' line) block block' (block_at_one entry entry' (λ l. BlockLine l block) is is' spells) spells' in
       let plan = plan_of entry' in
       let here = subst (λ b. ShowsBlock Text rules (entry_root entry') reading b answer) one (subst (λ (e : Entry). ShowsBlock Text rules (entry_root e) reading block answer) same shows) in

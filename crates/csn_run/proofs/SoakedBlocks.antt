@@ -1,13 +1,13 @@
 -- The blocks of the generator are counted in one way.
-use Rattle.std.proofs.Common.{◌≡◌, ℕ, zero, suc, ◌-◌, ◌≤◌, ◌==◌, ◌⊎◌, inl, inr, if◌then◌else◌, List, [], ◌∷◌, length, get_or, refl, sym, ◌∙◌, ap, subst, arith}
+use Rattle.std.proofs.Common.{◌≡◌, ℕ, zero, suc, ◌-◌, ◌≤◌, ◌⊎◌, inl, inr, List, [], ◌∷◌, length, refl, sym, ◌∙◌, ap, subst, arith}
 use Rattle.std.specs.Fmt.{decimal}
 use Rattle.std.proofs.lemmas.Fmt.{decimal_injective}
 use Rattle.csn_catalogue.specs.declared.entry.Entry.{Entry}
-use Rattle.csn_catalogue.specs.declared.entry.Entry.TheVariants.{Uplink, Downlink, Si1, Si3, Si4, Si13, Ia}
 use Rattle.csn_catalogue.specs.Entries.{entry_word}
 use Rattle.csn_desc.specs.Nodes.{DescV}
 use Rattle.csn_desc.specs.Formed.{IsDescription}
 use Rattle.csn_desc.specs.Laws.{MeaningIsDecided}
+use Rattle.csn_replay.proofs.Heads.{one_word}
 use Rattle.csn_soak.specs.declared.soaking.Soaked.{Soaked}
 use Rattle.csn_soak.specs.Generator.{block}
 use Rattle.csn_soak.specs.Soaking.{IsString, Counted, of_none, one_more, no_more, bits_in, IsSoaked}
@@ -15,35 +15,13 @@ use Rattle.csn_run.specs.Command.{IsSoak}
 
 -- ---- what the words name
 
--- the entry that a word can be of
-abbrev entry_by : List ℕ → Entry
-entry_by word =
-    if get_or word 0 0 == 117 then Uplink else (
-    if get_or word 0 0 == 100 then Downlink else (
-    if get_or word 0 0 == 105 then Ia else (
-    if length word == 4 then Si13 else (
-    if get_or word 2 0 == 49 then Si1 else (
-    if get_or word 2 0 == 51 then Si3 else Si4)))))
-
-by_word : (entry : Entry) → entry_by (entry_word entry) ≡ entry
-by_word Uplink = refl
-by_word Downlink = refl
-by_word Si1 = refl
-by_word Si3 = refl
-by_word Si4 = refl
-by_word Si13 = refl
-by_word Ia = refl
-
-one_entry : (entry other : Entry) → entry_word entry ≡ entry_word other → entry ≡ other
-one_entry entry other e = sym (by_word entry) ∙ ap entry_by e ∙ by_word other
-
 -- words ask for the blocks of one entry, and for one number of them
 pub one_soak : {words : List (List ℕ)} {entry other : Entry} {n m : ℕ} → IsSoak words entry n → IsSoak words other m → (entry ≡ other) × (n ≡ m)
 one_soak {words} {entry} {other} {n} {m} is has =
     let all : _ ∷ entry_word entry ∷ decimal n ∷ [] ≡ _ ∷ entry_word other ∷ decimal m ∷ [] = sym is.words_are ∙ has.words_are in
     let entries : entry_word entry ≡ entry_word other = cc in
     let numbers : decimal n ≡ decimal m = cc in
-    (one_entry entry other entries, decimal_injective n m (omega (arith, is.few)) (omega (arith, has.few)) numbers)
+    (one_word entry other entries, decimal_injective n m (omega (arith, is.few)) (omega (arith, has.few)) numbers)
 
 -- ---- counts
 

@@ -7,6 +7,7 @@ use Rattle.csn_certify.specs.Laws.{BlocksHaveOneTree, CertifiedHasNoConflict, Fi
 use Rattle.csn_certmake.specs.Laws.{CertificatesHaveOneText}
 use Rattle.csn_encode.specs.Laws.{FirstMisfitIsOne, MisfitsHaveNoBits, OneBlock, TreesFitOrMiss}
 use Rattle.csn_segment.specs.Laws.{MessagesAreShort}
+use Rattle.csn_replay.specs.Laws.{HeadsTellCaptures}
 use Rattle.csn_compat.specs.Laws.{BlocksAreTaken}
 use Rattle.csn_cert.specs.Laws.{TextsAreOfOneCertificate}
 use Rattle.csn_good.specs.Laws.{GoodLeavesOneTree, FirstFaultIsOne, GoodHasNoFault}
@@ -82,3 +83,4 @@ pub record Known : Type 0 where
   pub of_messages : MessagesAreShort
   pub of_takers : BlocksAreTaken
   pub of_good : GoodLeavesOneTree
+  pub of_captures : HeadsTellCaptures

@@ -41,6 +41,7 @@ pub(crate) fn known()
     csn_json::laws::texts_have_one_tree();
     csn_json::laws::trees_are_not_refused();
     csn_json::laws::written_is_shown();
+    csn_replay::laws::heads_tell_captures();
 }
 
 /// Each line has one answer, in each job over lines.

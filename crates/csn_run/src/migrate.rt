@@ -9,7 +9,7 @@ ghost use Rattle.csn_run.specs.Lines.{is_refusal, is_refused};
 ghost use Rattle.csn_run.specs.OutLine.{MigratesLine, renewing};
 
 use crate::answers::answer_text_fault;
-use crate::lines::{Answered, LINE_FEED};
+use crate::lines::Answered;
 use crate::whole_lines::WholeLineCommand;
 use csn_desc::Tree;
 use csn_treetext::{read_old_tree, write_tree};
@@ -62,9 +62,7 @@ impl WholeLineCommand for Migrate {
         line: &[u8],
         out: &mut Vec<u8>,
     ) -> Result<Answered, AllocError> {
-        let answered = migrate_line(alloc, line, out)?;
-        out.push(LINE_FEED)?;
-        Ok(answered)
+        migrate_line(alloc, line, out)
     }
 
     fn close(&mut self, _alloc: Global, _out: &mut Vec<u8>) -> Result<(), AllocError> {

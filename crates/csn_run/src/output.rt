@@ -7,24 +7,7 @@ ghost use Rattle.csn_run.specs.Outside.{Keeps};
 
 use crate::fault::Fault;
 use csn_io::{Put, Sink};
-
-/// Hands a text to the sink.
-fn put_all<K: Sink>(text: &[u8], out: &mut K) -> Result<(), Fault>
-    ensures took { (front rest : List ℕ) × (text.now ≡ front ++ rest) × Appended (K.taken out.old) (K.taken out.new) front × OnOk result (rest ≡ []) }
-    ensures causes { IfErr result (λ fault. (fault ≡ Fault.Write) ⊎ (fault ≡ Fault.Memory)) }
-    ensures write { result ≡ Err Fault.Write → Rose (K.faults out.old) (K.faults out.new) }
-    ensures out { Keeps (K.steady out.old) (K.steady out.new) (K.faults out.old) (K.faults out.new) (result ≡ Err Fault.Write) }
-{
-    let mut passed = 0;
-    while passed < text.len() {
-        match out.put(&text[passed..]) {
-            Put::Took(n) => passed += n,
-            Put::Failed => return Err(Fault::Write),
-            Put::NoMemory => return Err(Fault::Memory),
-        }
-    }
-    Ok(())
-}
+use csn_replay::{Told, put_all};
 
 /// Hands all that is pending to the sink, and forgets it.
 pub fn pass_on<K: Sink>(pending: &mut Vec<u8>, out: &mut K) -> Result<(), Fault>
@@ -34,9 +17,13 @@ pub fn pass_on<K: Sink>(pending: &mut Vec<u8>, out: &mut K) -> Result<(), Fault>
     ensures write { result ≡ Err Fault.Write → Rose (K.faults out.old) (K.faults out.new) }
     ensures out { Keeps (K.steady out.old) (K.steady out.new) (K.faults out.old) (K.faults out.new) (result ≡ Err Fault.Write) }
 {
-    let passed = put_all(pending, out);
+    let told = put_all(pending, out);
     pending.clear();
-    passed
+    match told {
+        Told::Ok => Ok(()),
+        Told::WriteFault => Err(Fault::Write),
+        Told::NoMemory => Err(Fault::Memory),
+    }
 }
 
 /// Asks the sink to flush all that it took.

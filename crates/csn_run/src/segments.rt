@@ -6,7 +6,7 @@ ghost use Rattle.csn_run.specs.Lines.{is_refusal, is_refused};
 ghost use Rattle.csn_run.specs.OutLine.{AnswersJoinedBy, JoinsLine, joining, segment_fault};
 
 use crate::answers::push_number;
-use crate::lines::{Answered, LINE_FEED};
+use crate::lines::Answered;
 use crate::show::{answer_fault, show_block};
 use crate::text_plan::TextPlan;
 use crate::whole_lines::WholeLineCommand;
@@ -109,9 +109,7 @@ impl WholeLineCommand for Segments<'_> {
         line: &[u8],
         out: &mut Vec<u8>,
     ) -> Result<Answered, AllocError> {
-        let answered = segments_line(alloc, &mut self.joiner, self.plan, line, out)?;
-        out.push(LINE_FEED)?;
-        Ok(answered)
+        segments_line(alloc, &mut self.joiner, self.plan, line, out)
     }
 
     fn close(&mut self, _alloc: Global, _out: &mut Vec<u8>) -> Result<(), AllocError> {

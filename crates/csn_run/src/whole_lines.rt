@@ -1,12 +1,12 @@
 //! Lines that are kept whole, for a command that answers a line all at once.
 
-ghost use Rattle.std.specs.Prelude.{◌≡◌, ◌<◌, ◌≤◌, ◌++◌, [], List, ℕ, length, IfOk, OnOk, OnErr};
-ghost use Rattle.csn_run.specs.declared.lines.TheConstants.{MOST_INPUT};
+ghost use Rattle.std.specs.Prelude.{◌≡◌, ◌<◌, ◌≤◌, ◌++◌, ◌∷◌, [], List, ℕ, length, IfOk, OnOk, OnErr};
+ghost use Rattle.csn_run.specs.declared.lines.TheConstants.{LINE_FEED, MOST_INPUT};
 ghost use Rattle.csn_run.specs.Lines.{is_refusal, is_refused};
 ghost use Rattle.csn_run.specs.LineState.{closing_of};
 ghost use Rattle.csn_run.specs.OutLine.{Works};
 
-use crate::lines::{Answered, LineCommand};
+use crate::lines::{Answered, LINE_FEED, LineCommand};
 use std::alloc::{AllocError, Global};
 
 /// A command that answers each line of the input as a whole. The answer may depend on the lines before it.
@@ -20,7 +20,7 @@ pub trait WholeLineCommand {
     /// What it keeps of the lines so far.
     ghost kept: { Self → Kept };
 
-    /// Writes what a line gives, with its line feed.
+    /// Writes what a line gives, without its line feed.
     fn answer(
         &mut self,
         alloc: Global,
@@ -29,8 +29,9 @@ pub trait WholeLineCommand {
     ) -> Result<Answered, AllocError>
         requires some { 0 < length line.now }
         requires fits { length line.now ≤ MOST_INPUT }
-        ensures ok { IfOk result (λ answered. (text : List ℕ) × (out.new.items ≡ out.old.items ++ text)
-            × Works (work self.old) (kept self.old) line.now text (kept self.new) × (is_refused answered ≡ is_refusal text)) }
+        ensures ok { IfOk result (λ answered. (answer : List ℕ) × (out.new.items ≡ out.old.items ++ answer)
+            × Works (work self.old) (kept self.old) line.now (answer ++ LINE_FEED ∷ []) (kept self.new)
+            × (is_refused answered ≡ is_refusal answer)) }
         ensures work { work self.new ≡ work self.old }
         ensures err { OnErr result ((tail : List ℕ) × (out.new.items ≡ out.old.items ++ tail)) };
 
@@ -73,6 +74,7 @@ impl<C: WholeLineCommand> LineCommand for WholeLines<C> {
     /// The line is forgotten, but its memory is kept for the next one.
     fn answer(&mut self, alloc: Global, out: &mut Vec<u8>) -> Result<Answered, AllocError> {
         let answered = self.command.answer(alloc, &self.line, out)?;
+        out.push(LINE_FEED)?;
         self.line.clear();
         Ok(answered)
     }

@@ -13,7 +13,7 @@ ghost use Rattle.csn_run.specs.OutLine.{AnswersBy, Reads, TellsJsonFault, by_pla
 
 use crate::answers::{answer_text_fault, push_number, push_numbers};
 use crate::laws::known;
-use crate::lines::{Answered, LINE_FEED};
+use crate::lines::Answered;
 use crate::whole_lines::WholeLineCommand;
 use csn_bits::Bits;
 use csn_certify::{Plan, Steps};
@@ -205,9 +205,7 @@ impl WholeLineCommand for WriteLines<'_> {
         line: &[u8],
         out: &mut Vec<u8>,
     ) -> Result<Answered, AllocError> {
-        let answered = write_line(alloc, self.plan, self.form, line, out)?;
-        out.push(LINE_FEED)?;
-        Ok(answered)
+        write_line(alloc, self.plan, self.form, line, out)
     }
 
     fn close(&mut self, _alloc: Global, _out: &mut Vec<u8>) -> Result<(), AllocError> {

@@ -55,4 +55,5 @@ returns c =
       of_messages = c.messages_are_short.ensures;
       of_takers = c.blocks_are_taken.ensures;
       of_good = c.good_leaves_one_tree.ensures;
+      of_captures = c.heads_tell_captures.ensures;
     }

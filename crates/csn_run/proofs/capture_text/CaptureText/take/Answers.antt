@@ -7,7 +7,7 @@ use Rattle.csn_replay.specs.declared.head.CaptureHead.TheVariants.{Block}
 use Rattle.csn_run.specs.OutLine.{entry_place}
 use Rattle.csn_run.specs.Replaying.{ReadsCapture, taken_at}
 use Rattle.csn_run.proofs.CaptureLemmas.{block_goes_on, descs_set, head_goes_on, taken_few, texts_set, writer_at}
-use Rattle.csn_run.proofs.OutsideLemmas.{slice_from}
+use Rattle.csn_replay.proofs.Puts.{slice_from}
 use Rattle.csn_run.proofs.capture_text.CaptureText.take.Goals as goal
 
 pub take-requires : goal.take-requires

@@ -1,12 +1,6 @@
-use Rattle.std.proofs.Common.{◌∷◌, ◌++◌, [], append_assoc, ap, refl, sym, ◌∙◌}
-use Rattle.csn_run.proofs.ProgressLemmas.{refusal_with_feed}
+use Rattle.std.proofs.Common.{refl}
+use Rattle.std.proofs.lemmas.Result.{IfOk-weaker}
 use Rattle.csn_run.proofs.migrate.MigrateWholeLineCommand.answer.Goals as goal
 
 pub returns-clause-ok : goal.returns-clause-ok
-returns-clause-ok c =
-    let told = c.in_ok-answered.ensures.ok in (
-      told.0 ++ 10 ∷ [],
-      c.in_ok-push.ensures.items ∙ ap (λ l. l ++ 10 ∷ []) told.1 ∙ append_assoc _ told.0 (10 ∷ []),
-      (told.0, told.2, refl, refl),
-      told.3 ∙ sym (refusal_with_feed told.0 []),
-    )
+returns-clause-ok c = IfOk-weaker c.migrate_line.result _ _ (λ answered told. (told.0, told.1, (told.0, told.2, refl, refl), told.3)) c.migrate_line.ensures.ok
