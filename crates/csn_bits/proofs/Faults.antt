@@ -124,6 +124,14 @@ unused_test octet used some =
     let e : 1 * 2 ^ (8 - used) % 256 ≡ 2 ^ (8 - used) = omega arith in
     ap (λ (n : ℕ). octet % n) e
 
+-- such digits of which no unused bit is 1
+pub clear_from : (digits : List ℕ) (tail : Option (List ℕ)) (octet used : ℕ) {waiting last counted : Option ℕ} → AreDigits digits
+    → waiting ≡ waiting_value digits → last ≡ last_of (octets_of_digits digits) → counted ≡ bits_of_tail tail
+    → waiting ≡ None → last ≡ Some octet → counted ≡ Some used → (1 ≤ used) × (used ≤ 8)
+    → octet % (1 * 2 ^ (8 - used) % 256) ≡ 0 → IsWhole digits tail octet used × (octet % 2 ^ (8 - used) ≡ 0)
+clear_from digits tail octet used s w o u none some counts range zeros =
+    (whole_from digits tail octet used s w o u none some counts range, sym (unused_test octet used range.0) ∙ zeros)
+
 fault-whole : (digits : List ℕ) (tail : Option (List ℕ)) (octet used : ℕ) → IsWhole digits tail octet used
     → fault_of (digits ++ tail_text tail)
     ≡ first_fault (bad_fill digits (Some used) ∷ too_many_bits digits ∷ [])

@@ -72,35 +72,37 @@ module _ (line : List ℕ) (at : Stage) (waiting last : Option ℕ) (digit value
       rw is (holds_from (line ++ digit ∷ []) None _ (AreDigits-push line digit s d) (sym (waiting-push_second line high digit odd))
       (rw more (sym (last_of-push (octets_of_digits line) _))))
 
+  -- what is given then
+  given_pair : (high : ℕ) → waiting ≡ Some high
+      → octets_given (line ++ digit ∷ []) ≡ take 65536 (all_but_last (octets_of_digits line ++ (16 * high + value_of digit) ∷ []))
+  given_pair high some =
+      let (s, w, o) = holds_digits at waiting last line h is in
+      given_of_digits (line ++ digit ∷ []) (AreDigits-push line digit s d)
+      ∙ ap (λ (l : List ℕ). take 65536 (all_but_last l)) (octets-push_second line high digit (sym w ∙ some))
+
   -- the octet that it gives
   pub given_second : (high octet : ℕ) → waiting ≡ Some high → last ≡ Some octet → length line + 1 ≤ 131074
       → octets_given (line ++ digit ∷ []) ≡ octets_given line ++ octet ∷ []
   given_second high octet some before room =
       let (s, w, o) = holds_digits at waiting last line h is in
-      let odd : waiting_value line ≡ Some high = sym w ∙ some in
-      let pairs = length-octets_odd line high odd in
-      given_of_digits (line ++ digit ∷ []) (AreDigits-push line digit s d)
-      ∙ (rw (octets-push_second line high digit odd, given_of_digits line s)
-      (given-push (octets_of_digits line) _ octet (sym o ∙ before) (omega arith)))
+      let pairs = length-octets_odd line high (sym w ∙ some) in
+      given_pair high some
+      ∙ (rw (given_of_digits line s) (given-push (octets_of_digits line) _ octet (sym o ∙ before) (omega arith)))
 
   pub given_second_full : (high octet : ℕ) → waiting ≡ Some high → last ≡ Some octet → 131074 < length line + 1
       → octets_given (line ++ digit ∷ []) ≡ octets_given line ++ []
   given_second_full high octet some before full =
       let (s, w, o) = holds_digits at waiting last line h is in
-      let odd : waiting_value line ≡ Some high = sym w ∙ some in
-      let pairs = length-octets_odd line high odd in
-      given_of_digits (line ++ digit ∷ []) (AreDigits-push line digit s d)
-      ∙ (rw (octets-push_second line high digit odd, given_of_digits line s)
-      (given-push_full (octets_of_digits line) _ octet (sym o ∙ before) (omega arith)))
+      let pairs = length-octets_odd line high (sym w ∙ some) in
+      given_pair high some
+      ∙ (rw (given_of_digits line s) (given-push_full (octets_of_digits line) _ octet (sym o ∙ before) (omega arith)))
       ∙ sym (append-nil (octets_given line))
 
   pub given_second_none : (high : ℕ) → waiting ≡ Some high → last ≡ None → octets_given (line ++ digit ∷ []) ≡ octets_given line ++ []
   given_second_none high some before =
       let (s, w, o) = holds_digits at waiting last line h is in
-      let odd : waiting_value line ≡ Some high = sym w ∙ some in
       let empty = last_none (octets_of_digits line) (sym o ∙ before) in
-      given_of_digits (line ++ digit ∷ []) (AreDigits-push line digit s d)
-      ∙ (rw (octets-push_second line high digit odd, given_of_digits line s, empty) refl)
+      given_pair high some ∙ (rw (given_of_digits line s, empty) refl)
 
 -- ---- whole pairs of digits at once
 
