@@ -1,5 +1,5 @@
 -- The parts of a node stand behind it.
-use Rattle.std.proofs.Common.{◌≡◌, ℕ, ◌<◌, List, length, arith, Some}
+use Rattle.std.proofs.Common.{◌≡◌, ℕ, ◌<◌, List, length, ◌∙◌, ap, arith, Some}
 use Rattle.std.specs.Prelude.{slice_get}
 use Rattle.csn_desc.specs.declared.node.Node.{Node}
 use Rattle.csn_desc.specs.Nodes.{DescV, parts_of}
@@ -20,15 +20,11 @@ below nodes i e k p n at h there =
     record { behind = omega arith; end = inner.0; span = inner.1 }
 
 -- a part of a node of a description
-record IsBehind (d : DescV) (i p : ℕ) : Type 0 where
-  behind : i < p
-  within : p < length d.nodes
+pub record IsBehind (d : DescV) (i p : ℕ) : Type 0 where
+  pub behind : i < p
+  pub within : p < length d.nodes
 
-is_behind : (d : DescV) (i k p : ℕ) (n : Node) → IsDescription d → slice_get d.nodes i ≡ Some n → slice_get (parts_of n) k ≡ Some p → IsBehind d i p
-is_behind d i k p n is at there = parts_later d i n (IsBehind d i) is at (λ j less more. record { behind = less; within = more }) k p there
-
-pub part_behind : (d : DescV) (i k p : ℕ) (n : Node) → IsDescription d → slice_get d.nodes i ≡ Some n → slice_get (parts_of n) k ≡ Some p → i < p
-part_behind d i k p n is at there = let h = is_behind d i k p n is at there in h.behind
-
-pub part_within : (d : DescV) (i k p : ℕ) (n : Node) → IsDescription d → slice_get d.nodes i ≡ Some n → slice_get (parts_of n) k ≡ Some p → p < length d.nodes
-part_within d i k p n is at there = let h = is_behind d i k p n is at there in h.within
+-- the node at i is this one, and p stands among its parts
+pub is_behind : (d : DescV) (i k p : ℕ) (n x : Node) → IsDescription d → slice_get d.nodes i ≡ Some x → x ≡ n → slice_get (parts_of n) k ≡ Some p → IsBehind d i p
+is_behind d i k p n x is at same there =
+    parts_later d i n (IsBehind d i) is (at ∙ ap (λ y. Some y) same) (λ j less more. record { behind = less; within = more }) k p there

@@ -1,9 +1,9 @@
 -- The case that the kinds of two nodes choose, and no other.
-use Rattle.std.proofs.Common.{◌≡◌, ◌↔◌, ℕ, Bool, false, IsTrue, List, refl, sym, subst, Some}
+use Rattle.std.proofs.Common.{◌≡◌, ◌↔◌, ℕ, Bool, true, false, IsTrue, List, refl, sym, ap, subst, Some}
 use Rattle.std.specs.Prelude.{slice_get}
 use Rattle.csn_desc.specs.declared.node.Count.{Count}
 use Rattle.csn_desc.specs.declared.node.Node.{Node}
-use Rattle.csn_desc.specs.declared.node.Node.TheVariants.{Lits, Spare, Pad, Null, Field, Rest, Seq, Choice, Times, Many, Trunc, Window, Named}
+use Rattle.csn_desc.specs.declared.node.Node.TheVariants.{Rest, Seq, Choice, Times, Many, Trunc, Window, Named}
 use Rattle.csn_desc.specs.Nodes.{DescV}
 use Rattle.csn_compat.specs.declared.pairs.Pair.{Pair}
 use Rattle.csn_compat.specs.Pairs.{CountsAgree}
@@ -12,57 +12,57 @@ use Rattle.csn_compat.specs.Takes.{is_label, is_label_or_rest, is_label_or_choic
 -- ---- what a node is not
 
 pub no_label : (n : Node) → ((label : List ℕ) (part : ℕ) → n ≡ Named label part → ⊥) → is_label n ≡ false
-no_label (Lits run) other = refl
-no_label (Spare symbol) other = refl
-no_label Pad other = refl
-no_label Null other = refl
-no_label (Field unit count) other = refl
-no_label Rest other = refl
-no_label (Seq parts) other = refl
-no_label (Choice parts) other = refl
-no_label (Times count p) other = refl
-no_label (Many p) other = refl
-no_label (Trunc parts) other = refl
-no_label (Window unit count p) other = refl
 no_label (Named l p) other = absurd (other l p refl)
+no_label _ other = refl
 
 pub no_label_or_rest : (n : Node) → ((label : List ℕ) (part : ℕ) → n ≡ Named label part → ⊥) → (n ≡ Rest → ⊥) → is_label_or_rest n ≡ false
-no_label_or_rest (Lits run) other rest = refl
-no_label_or_rest (Spare symbol) other rest = refl
-no_label_or_rest Pad other rest = refl
-no_label_or_rest Null other rest = refl
-no_label_or_rest (Field unit count) other rest = refl
-no_label_or_rest Rest other rest = absurd (rest refl)
-no_label_or_rest (Seq parts) other rest = refl
-no_label_or_rest (Choice parts) other rest = refl
-no_label_or_rest (Times count p) other rest = refl
-no_label_or_rest (Many p) other rest = refl
-no_label_or_rest (Trunc parts) other rest = refl
-no_label_or_rest (Window unit count p) other rest = refl
 no_label_or_rest (Named l p) other rest = absurd (other l p refl)
+no_label_or_rest Rest other rest = absurd (rest refl)
+no_label_or_rest _ other rest = refl
 
 pub no_label_or_choice : (n : Node) → ((label : List ℕ) (part : ℕ) → n ≡ Named label part → ⊥) → ((parts : List ℕ) → n ≡ Choice parts → ⊥) → is_label_or_choice n ≡ false
-no_label_or_choice (Lits run) other choice = refl
-no_label_or_choice (Spare symbol) other choice = refl
-no_label_or_choice Pad other choice = refl
-no_label_or_choice Null other choice = refl
-no_label_or_choice (Field unit count) other choice = refl
-no_label_or_choice Rest other choice = refl
-no_label_or_choice (Seq parts) other choice = refl
-no_label_or_choice (Choice parts) other choice = absurd (choice parts refl)
-no_label_or_choice (Times count p) other choice = refl
-no_label_or_choice (Many p) other choice = refl
-no_label_or_choice (Trunc parts) other choice = refl
-no_label_or_choice (Window unit count p) other choice = refl
 no_label_or_choice (Named l p) other choice = absurd (other l p refl)
+no_label_or_choice (Choice parts) other choice = absurd (choice parts refl)
+no_label_or_choice _ other choice = refl
 
--- two nodes that are not of one kind with parts
-pub record Apart (n m : Node) : Type 0 where
-  pub seq : (parts others : List ℕ) → n ≡ Seq parts → m ≡ Seq others → ⊥
-  pub trunc : (parts others : List ℕ) → n ≡ Trunc parts → m ≡ Trunc others → ⊥
-  pub many : (p q : ℕ) → n ≡ Many p → m ≡ Many q → ⊥
-  pub times : (count taker : Count) (p q : ℕ) → n ≡ Times count p → m ≡ Times taker q → ⊥
-  pub window : (unit other : ℕ) (count taker : Count) (p q : ℕ) → n ≡ Window unit count p → m ≡ Window other taker q → ⊥
+-- are both nodes of one kind with parts?
+abbrev pub are_alike : Node → Node → Bool
+are_alike (Seq parts) (Seq others) = true
+are_alike (Trunc parts) (Trunc others) = true
+are_alike (Many p) (Many q) = true
+are_alike (Times count p) (Times taker q) = true
+are_alike (Window unit count p) (Window other taker q) = true
+are_alike _ _ = false
+
+pub no_seq : {n : Node} {parts : List ℕ} (m : Node) → n ≡ Seq parts → ((others : List ℕ) → m ≡ Seq others → ⊥) → are_alike n m ≡ false
+no_seq (Seq others) is other = absurd (other others refl)
+no_seq m is other = ap (λ k. are_alike k m) is
+
+pub no_trunc : {n : Node} {parts : List ℕ} (m : Node) → n ≡ Trunc parts → ((others : List ℕ) → m ≡ Trunc others → ⊥) → are_alike n m ≡ false
+no_trunc (Trunc others) is other = absurd (other others refl)
+no_trunc m is other = ap (λ k. are_alike k m) is
+
+pub no_many : {n : Node} {p : ℕ} (m : Node) → n ≡ Many p → ((q : ℕ) → m ≡ Many q → ⊥) → are_alike n m ≡ false
+no_many (Many q) is other = absurd (other q refl)
+no_many m is other = ap (λ k. are_alike k m) is
+
+pub no_times : {n : Node} {count : Count} {p : ℕ} (m : Node) → n ≡ Times count p → ((taker : Count) (q : ℕ) → m ≡ Times taker q → ⊥) → are_alike n m ≡ false
+no_times (Times taker q) is other = absurd (other taker q refl)
+no_times m is other = ap (λ k. are_alike k m) is
+
+pub no_window : {n : Node} {unit p : ℕ} {count : Count} (m : Node) → n ≡ Window unit count p → ((units : ℕ) (taker : Count) (q : ℕ) → m ≡ Window units taker q → ⊥) → are_alike n m ≡ false
+no_window (Window units taker q) is other = absurd (other units taker q refl)
+no_window m is other = ap (λ k. are_alike k m) is
+
+pub no_kind :
+    (n m : Node) → ((parts : List ℕ) → n ≡ Seq parts → ⊥) → ((parts : List ℕ) → n ≡ Trunc parts → ⊥) → ((p : ℕ) → n ≡ Many p → ⊥)
+    → ((count : Count) (p : ℕ) → n ≡ Times count p → ⊥) → ((unit : ℕ) (count : Count) (p : ℕ) → n ≡ Window unit count p → ⊥) → are_alike n m ≡ false
+no_kind (Seq parts) m seq trunc many times window = absurd (seq parts refl)
+no_kind (Trunc parts) m seq trunc many times window = absurd (trunc parts refl)
+no_kind (Many p) m seq trunc many times window = absurd (many p refl)
+no_kind (Times count p) m seq trunc many times window = absurd (times count p refl)
+no_kind (Window unit count p) m seq trunc many times window = absurd (window unit count p refl)
+no_kind _ m seq trunc many times window = refl
 
 module _ (was now : DescV) where
   -- the two nodes decide
@@ -86,34 +86,12 @@ module _ (was now : DescV) where
 
   -- no leaf is taken by a label or a choice
   no_leaf_by_label : (n : Node) (label : List ℕ) (part : ℕ) (pairs : List Pair) → LeafTakes pairs n (Named label part) → ⊥
-  no_leaf_by_label (Lits run) label part pairs h = h
-  no_leaf_by_label (Spare symbol) label part pairs h = h
-  no_leaf_by_label Pad label part pairs h = h
-  no_leaf_by_label Null label part pairs h = h
-  no_leaf_by_label (Field unit count) label part pairs h = h
-  no_leaf_by_label Rest label part pairs h = h
-  no_leaf_by_label (Seq parts) label part pairs h = h
-  no_leaf_by_label (Choice parts) label part pairs h = h
-  no_leaf_by_label (Times count p) label part pairs h = h
-  no_leaf_by_label (Many p) label part pairs h = h
-  no_leaf_by_label (Trunc parts) label part pairs h = h
-  no_leaf_by_label (Window unit count p) label part pairs h = h
   no_leaf_by_label (Named l p) label part pairs h = h
+  no_leaf_by_label _ label part pairs h = h
 
   no_leaf_by_choice : (n : Node) (others : List ℕ) (pairs : List Pair) → LeafTakes pairs n (Choice others) → ⊥
-  no_leaf_by_choice (Lits run) others pairs h = h
-  no_leaf_by_choice (Spare symbol) others pairs h = h
-  no_leaf_by_choice Pad others pairs h = h
-  no_leaf_by_choice Null others pairs h = h
-  no_leaf_by_choice (Field unit count) others pairs h = h
-  no_leaf_by_choice Rest others pairs h = h
-  no_leaf_by_choice (Seq parts) others pairs h = h
-  no_leaf_by_choice (Choice parts) others pairs h = h
-  no_leaf_by_choice (Times count p) others pairs h = h
-  no_leaf_by_choice (Many p) others pairs h = h
-  no_leaf_by_choice (Trunc parts) others pairs h = h
-  no_leaf_by_choice (Window unit count p) others pairs h = h
   no_leaf_by_choice (Named l p) others pairs h = h
+  no_leaf_by_choice _ others pairs h = h
 
   pub of_by_labelled : {i j part : ℕ} {label : List ℕ} {n : Node} {pairs : List Pair} → is_label n ≡ false → NodeTakes was now i n j (Named label part) pairs → Takes was now i part pairs
   of_by_labelled not_label (takes_labelled h) = absurd (cc)
@@ -165,18 +143,18 @@ module _ (was now : DescV) where
       subst Q (sym new) (subst P (sym old) says)
 
   -- where no kind with parts is on both sides, a leaf is taken or nothing is
-  pub leaf_alone : {i j : ℕ} {n m : Node} {pairs : List Pair} → is_label_or_choice n ≡ false → is_label_or_rest m ≡ false → is_label_or_choice m ≡ false → Apart n m → NodeTakes was now i n j m pairs → LeafTakes pairs n m
+  pub leaf_alone : {i j : ℕ} {n m : Node} {pairs : List Pair} → is_label_or_choice n ≡ false → is_label_or_rest m ≡ false → is_label_or_choice m ≡ false → are_alike n m ≡ false → NodeTakes was now i n j m pairs → LeafTakes pairs n m
   leaf_alone old new other apart (takes_labelled h) = absurd (cc)
   leaf_alone old new other apart (takes_by_labelled not_label h) = absurd (cc)
   leaf_alone old new other apart (takes_by_rest not_label) = absurd (cc)
   leaf_alone old new other apart (takes_choice same each) = absurd (cc)
   leaf_alone old new other apart (takes_by_choice k q same at h) = absurd (cc)
   leaf_alone old new other apart (takes_leaf h) = h
-  leaf_alone old new other apart (takes_seq {parts = parts} {others = others} h) = absurd (apart.seq parts others refl refl)
-  leaf_alone old new other apart (takes_times {p = p} {q = q} {count = count} {taker = taker} counts h) = absurd (apart.times count taker p q refl refl)
-  leaf_alone old new other apart (takes_many {p = p} {q = q} h) = absurd (apart.many p q refl refl)
-  leaf_alone old new other apart (takes_trunc {parts = parts} {others = others} h) = absurd (apart.trunc parts others refl refl)
-  leaf_alone old new other apart (takes_window {p = p} {q = q} {unit = unit} {other = units} {count = count} {taker = taker} counts h) = absurd (apart.window unit units count taker p q refl refl)
+  leaf_alone old new other apart (takes_seq h) = absurd (cc)
+  leaf_alone old new other apart (takes_times counts h) = absurd (cc)
+  leaf_alone old new other apart (takes_many h) = absurd (cc)
+  leaf_alone old new other apart (takes_trunc h) = absurd (cc)
+  leaf_alone old new other apart (takes_window counts h) = absurd (cc)
 
-  pub leaf_decided : (i j : ℕ) (r : Bool) {n m : Node} {pairs : List Pair} → is_label_or_choice n ≡ false → is_label_or_rest m ≡ false → is_label_or_choice m ≡ false → IsTrue r ↔ LeafTakes pairs n m → Apart n m → IsTrue r ↔ NodeTakes was now i n j m pairs
+  pub leaf_decided : (i j : ℕ) (r : Bool) {n m : Node} {pairs : List Pair} → is_label_or_choice n ≡ false → is_label_or_rest m ≡ false → is_label_or_choice m ≡ false → IsTrue r ↔ LeafTakes pairs n m → are_alike n m ≡ false → IsTrue r ↔ NodeTakes was now i n j m pairs
   leaf_decided i j r old new other says apart = (λ e. takes_leaf (says.0 e), λ h. says.1 (leaf_alone old new other apart h))

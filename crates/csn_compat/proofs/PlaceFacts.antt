@@ -16,7 +16,7 @@ use Rattle.csn_desc.proofs.Placed.{node_placed}
 use Rattle.csn_compat.specs.declared.pairs.Pair.{Pair}
 use Rattle.csn_compat.specs.Pairs.{same_width, with_kept}
 use Rattle.csn_compat.specs.Places.{pairs_behind, AreShown, HasRoom}
-use Rattle.csn_compat.proofs.Below.{part_behind, part_within}
+use Rattle.csn_compat.proofs.Below.{IsBehind, is_behind}
 use Rattle.csn_compat.proofs.PairFacts.{width_named}
 
 module _ (was now : DescV) where
@@ -129,13 +129,26 @@ seq_long d i parts is at = let placed = node_placed d is i (Seq parts) at in fro
         subst (λ m. HasParts (head_of m) (length (parts_of m))) same has
 
 -- the parts of a sequence or truncation stand behind it
-pub shown_behind : (d : DescV) (i k p : ℕ) (parts : List ℕ) → IsDescription d → AreShown d.nodes i parts → slice_get parts k ≡ Some p → i < p
-shown_behind d i k p parts is (inl at) there = part_behind d i k p (Seq parts) is at there
-shown_behind d i k p parts is (inr at) there = part_behind d i k p (Trunc parts) is at there
+pub shown_behind : (d : DescV) (i k p : ℕ) (parts : List ℕ) → IsDescription d → AreShown d.nodes i parts → slice_get parts k ≡ Some p → IsBehind d i p
+shown_behind d i k p parts is (inl at) there = is_behind d i k p (Seq parts) _ is at refl there
+shown_behind d i k p parts is (inr at) there = is_behind d i k p (Trunc parts) _ is at refl there
 
-pub shown_within : (d : DescV) (i k p : ℕ) (parts : List ℕ) → IsDescription d → AreShown d.nodes i parts → slice_get parts k ≡ Some p → p < length d.nodes
-shown_within d i k p parts is (inl at) there = part_within d i k p (Seq parts) is at there
-shown_within d i k p parts is (inr at) there = part_within d i k p (Trunc parts) is at there
+-- the one part of an old node and that of a new one, which is compared with it
+pub record AreCompared (was now : DescV) (i p q : ℕ) (pairs : List Pair) : Type 0 where
+  pub old : IsBehind was i p
+  pub room : HasRoom was.nodes pairs p
+  pub within : q < length now.nodes
+
+pub are_compared :
+    (was now : DescV) (i j p q : ℕ) (n x m y : Node) (pairs : List Pair) → IsDescription was → IsDescription now → HasRoom was.nodes pairs i
+    → slice_get was.nodes i ≡ Some x → x ≡ n → shows_earlier n ≡ false → slice_get (parts_of n) 0 ≡ Some p
+    → slice_get now.nodes j ≡ Some y → y ≡ m → slice_get (parts_of m) 0 ≡ Some q → AreCompared was now i p q pairs
+are_compared was now i j p q n x m y pairs old new room at is hides part across other inside =
+    record {
+      old = is_behind was i 0 p n x old at is part;
+      room = room_below was.nodes i 0 p n pairs room (at ∙ ap (λ k. Some k) is) hides part;
+      within = (is_behind now j 0 q m y new across other inside).within;
+    }
 
 -- ---- lists that go on
 

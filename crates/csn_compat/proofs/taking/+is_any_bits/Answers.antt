@@ -1,16 +1,14 @@
 use Rattle.std.proofs.Common.{◌∙◌, ap, refl, arith, Some}
 use Rattle.csn_desc.specs.declared.node.Node.TheVariants.{Named}
 use Rattle.csn_compat.specs.Takes.{any_bits, any_bits_labelled}
-use Rattle.csn_compat.proofs.Below.{part_within, part_behind}
+use Rattle.csn_compat.proofs.Below.{is_behind}
 use Rattle.csn_compat.proofs.AnyBits.{under_label}
 use Rattle.csn_compat.proofs.taking.+is_any_bits.Goals as goal
 
 pub is_any_bits-requires : goal.is_any_bits-requires
 is_any_bits-requires t c =
-    let at = c.node.ensures ∙ ap (λ n. Some n) c.in-Named.is in
-    let later = part_behind c.args.desc.now c.args.j 0 c.in-Named.part (Named c.in-Named.label c.in-Named.part) c.requires.description at refl in
-    let within = part_within c.args.desc.now c.args.j 0 c.in-Named.part (Named c.in-Named.label c.in-Named.part) c.requires.description at refl in
-    (omega arith, (c.requires.description, within))
+    let part = is_behind c.args.desc.now c.args.j 0 c.in-Named.part (Named c.in-Named.label c.in-Named.part) _ c.requires.description c.node.ensures c.in-Named.is refl in
+    (omega arith, (c.requires.description, part.within))
 
 pub returns-in-Rest : goal.returns-in-Rest
 returns-in-Rest t c = (λ e. any_bits (c.node.ensures ∙ ap (λ n. Some n) c.in-Rest.is), λ h. refl)

@@ -7,9 +7,9 @@ use Rattle.csn_desc.specs.declared.node.Node.TheVariants.{Rest, Choice, Times, M
 use Rattle.csn_compat.specs.declared.pairs.Pair.{Pair}
 use Rattle.csn_compat.specs.Takes.{Takes, takes_labelled, takes_by_labelled, takes_by_rest, takes_choice, takes_by_choice, takes_seq, takes_times, takes_many, takes_trunc, takes_window}
 use Rattle.csn_compat.specs.Places.{pairs_behind, HasRoom}
-use Rattle.csn_compat.proofs.Below.{part_behind, part_within}
-use Rattle.csn_compat.proofs.KindFacts.{decided, of_labelled, of_by_labelled, of_choice, of_by_choice, of_seq, of_trunc, of_many, of_times, of_window, along_nodes, no_label, no_label_or_rest, no_label_or_choice, leaf_decided}
-use Rattle.csn_compat.proofs.PlaceFacts.{behind_next, extends_none, extends_more, extends_front, up_to, room_shown, room_below, room_within, room_for_one, room_along, seq_long, shown_behind, shown_within}
+use Rattle.csn_compat.proofs.Below.{is_behind}
+use Rattle.csn_compat.proofs.KindFacts.{decided, of_labelled, of_by_labelled, of_choice, of_by_choice, of_seq, of_trunc, of_many, of_times, of_window, along_nodes, no_label, no_label_or_rest, no_label_or_choice, no_seq, no_trunc, no_many, no_times, no_window, no_kind, leaf_decided}
+use Rattle.csn_compat.proofs.PlaceFacts.{behind_next, extends_none, extends_more, extends_front, up_to, room_shown, room_below, room_within, room_for_one, room_along, seq_long, shown_behind, are_compared}
 use Rattle.csn_compat.proofs.ByPlaces.{first_next, seq_decided, seq_refused, seq_too_long, lead_decided, lead_too_long}
 use Rattle.csn_compat.proofs.taking.+takes.Goals.{kind_is_taken-in_default-via-in-Seq+in_default, kind_is_taken-in_default-via-in-Trunc+in_default, kind_is_taken-in_default-via-in-Many+in_default, kind_is_taken-in_default-via-in-Times+in_default, kind_is_taken-in_default-via-in-Window+in_default, kind_is_taken-in_default-via-in_default, sequence_is_taken-then-first_are_taken, sequence_is_taken-else-first_are_taken}
 use Rattle.csn_compat.proofs.taking.+takes.Goals as goal
@@ -20,10 +20,9 @@ pub each_is_taken-takes-requires : goal.each_is_taken-takes-requires
 each_is_taken-takes-requires t c =
     let was = c.args.was.now in
     let node = Choice c.args.parts.now in
-    let behind = part_behind was c.args.i c.loop-at.at c.get.result node c.requires.old c.requires.parts c.get.ensures in
-    let inside = part_within was c.args.i c.loop-at.at c.get.result node c.requires.old c.requires.parts c.get.ensures in
+    let part = is_behind was c.args.i c.loop-at.at c.get.result node _ c.requires.old c.requires.parts refl c.get.ensures in
     let room = room_below was.nodes c.args.i c.loop-at.at c.get.result node c.args.pairs.now.items c.requires.room c.requires.parts refl c.get.ensures in
-    (omega (arith, c.decreases, behind, inside, c.requires.new.few), (c.requires.old, (c.requires.new, (room_along was.nodes c.get.result c.args.pairs.now.items c.loop-at.pairs.items c.loop-at.invariant.kept room, c.requires.within))))
+    (omega (arith, c.decreases, part.behind, part.within, c.requires.new.few), (c.requires.old, (c.requires.new, (room_along was.nodes c.get.result c.args.pairs.now.items c.loop-at.pairs.items c.loop-at.invariant.kept room, c.requires.within))))
 
 pub each_is_taken-returns-then-not-takes-clause-each : goal.each_is_taken-returns-then-not-takes-clause-each
 each_is_taken-returns-then-not-takes-clause-each t c = (
@@ -62,11 +61,8 @@ each_is_taken-loop-at-preserved t c =
 
 pub some_takes-takes-requires : goal.some_takes-takes-requires
 some_takes-takes-requires t c =
-    let now = c.args.now.now in
-    let node = Choice c.args.others.now in
-    let behind = part_behind now c.args.j c.loop-at.at c.get.result node c.requires.new c.requires.others c.get.ensures in
-    let inside = part_within now c.args.j c.loop-at.at c.get.result node c.requires.new c.requires.others c.get.ensures in
-    (omega (arith, c.decreases, behind, inside), (c.requires.old, (c.requires.new, (room_along c.args.was.now.nodes c.args.i c.args.pairs.now.items c.loop-at.pairs.items c.loop-at.invariant.kept c.requires.room, inside))))
+    let part = is_behind c.args.now.now c.args.j c.loop-at.at c.get.result (Choice c.args.others.now) _ c.requires.new c.requires.others refl c.get.ensures in
+    (omega (arith, c.decreases, part.behind, part.within), (c.requires.old, (c.requires.new, (room_along c.args.was.now.nodes c.args.i c.args.pairs.now.items c.loop-at.pairs.items c.loop-at.invariant.kept c.requires.room, part.within))))
 
 pub some_takes-returns-then-takes-clause-some : goal.some_takes-returns-then-takes-clause-some
 some_takes-returns-then-takes-clause-some t c =
@@ -102,10 +98,9 @@ pub first_are_taken-takes-requires : goal.first_are_taken-takes-requires
 first_are_taken-takes-requires t c =
     let was = c.args.was.now in
     let now = c.args.now.now in
-    let behind = shown_behind was c.args.i c.loop-at.at c.get-part.result c.args.parts.now c.requires.old c.requires.parts c.get-part.ensures in
-    let inside = shown_within was c.args.i c.loop-at.at c.get-part.result c.args.parts.now c.requires.old c.requires.parts c.get-part.ensures in
+    let part = shown_behind was c.args.i c.loop-at.at c.get-part.result c.args.parts.now c.requires.old c.requires.parts c.get-part.ensures in
     let room = room_shown was now c.args.i c.loop-at.at c.get-part.result c.args.parts.now c.args.others.now c.args.pairs.now.items c.requires.room c.requires.parts (omega (arith, c.loop-at-test.true, c.requires.count.1)) c.get-part.ensures in
-    (omega (arith, c.decreases, behind, inside, c.requires.new.few), (c.requires.old, (c.requires.new, (room_along was.nodes c.get-part.result (pairs_behind was now c.args.parts.now c.args.others.now c.args.pairs.now.items c.loop-at.at) c.loop-at.pairs.items c.loop-at.invariant.pairs room, shown_within now c.requires.others.0 c.loop-at.at c.get-other.result c.args.others.now c.requires.new c.requires.others.1 c.get-other.ensures))))
+    (omega (arith, c.decreases, part.behind, part.within, c.requires.new.few), (c.requires.old, (c.requires.new, (room_along was.nodes c.get-part.result (pairs_behind was now c.args.parts.now c.args.others.now c.args.pairs.now.items c.loop-at.at) c.loop-at.pairs.items c.loop-at.invariant.pairs room, (shown_behind now c.requires.others.0 c.loop-at.at c.get-other.result c.args.others.now c.requires.new c.requires.others.1 c.get-other.ensures).within))))
 
 pub first_are_taken-returns-then-not-takes-clause-takes : goal.first_are_taken-returns-then-not-takes-clause-takes
 first_are_taken-returns-then-not-takes-clause-takes t c =
@@ -123,11 +118,11 @@ first_are_taken-returns-then-not-takes-clause-kept t c =
 
 pub first_are_taken-keep-requires-clause-p : goal.first_are_taken-keep-requires-clause-p
 first_are_taken-keep-requires-clause-p t c =
-    shown_within c.args.was.now c.args.i c.loop-at.at c.get-part.result c.args.parts.now c.requires.old c.requires.parts c.get-part.ensures
+    (shown_behind c.args.was.now c.args.i c.loop-at.at c.get-part.result c.args.parts.now c.requires.old c.requires.parts c.get-part.ensures).within
 
 pub first_are_taken-keep-requires-clause-q : goal.first_are_taken-keep-requires-clause-q
 first_are_taken-keep-requires-clause-q t c =
-    shown_within c.args.now.now c.requires.others.0 c.loop-at.at c.get-other.result c.args.others.now c.requires.new c.requires.others.1 c.get-other.ensures
+    (shown_behind c.args.now.now c.requires.others.0 c.loop-at.at c.get-other.result c.args.others.now c.requires.new c.requires.others.1 c.get-other.ensures).within
 
 pub first_are_taken-keep-requires-clause-room : goal.first_are_taken-keep-requires-clause-room
 first_are_taken-keep-requires-clause-room t c counted =
@@ -159,37 +154,32 @@ first_are_taken-loop-at-init t c = record {
 
 pub first_are_taken-loop-at-preserved : goal.first_are_taken-loop-at-preserved
 first_are_taken-loop-at-preserved t c =
-    let was = c.args.was.now in
-    let now = c.args.now.now in
-    let parts = c.args.parts.now in
-    let others = c.args.others.now in
-    let pairs = c.args.pairs.now.items in
+    let args = c.args in
     let is = c.takes.ensures.kept ∙ c.loop-at.invariant.pairs in
-    let P : List Pair → Type 0 = λ ps. Takes was now c.get-part.result c.get-other.result ps in
+    let P : List Pair → Type 0 = λ ps. Takes args.was.now args.now.now c.get-part.result c.get-other.result ps in
     let here = subst P c.loop-at.invariant.pairs (c.takes.ensures.takes.0 c.if-not-takes.false) in
     record {
       pairs =
-          behind_next was now parts others pairs c.takes.new.pairs.items c.keep.new.pairs.items c.loop-at.at c.get-part.result c.get-other.result c.get-part.ensures c.get-other.ensures is c.keep.ensures
-          ∙ ap (pairs_behind was now parts others pairs) (sym (add-one c.loop-at.at));
-      extends = extends_more was now c.get-part.result c.get-other.result pairs c.takes.new.pairs.items c.keep.new.pairs.items (c.loop-at.invariant.extends.0, c.takes.ensures.kept ∙ c.loop-at.invariant.extends.1) c.keep.ensures;
-      taken = first_next was now parts others pairs c.loop-at.at c.get-part.result c.get-other.result c.get-part.ensures c.get-other.ensures here c.loop-at.invariant.taken;
+          behind_next args.was.now args.now.now args.parts.now args.others.now args.pairs.now.items c.takes.new.pairs.items c.keep.new.pairs.items c.loop-at.at c.get-part.result c.get-other.result c.get-part.ensures c.get-other.ensures is c.keep.ensures
+          ∙ ap (pairs_behind args.was.now args.now.now args.parts.now args.others.now args.pairs.now.items) (sym (add-one c.loop-at.at));
+      extends = extends_more args.was.now args.now.now c.get-part.result c.get-other.result args.pairs.now.items c.takes.new.pairs.items c.keep.new.pairs.items (c.loop-at.invariant.extends.0, c.takes.ensures.kept ∙ c.loop-at.invariant.extends.1) c.keep.ensures;
+      taken = first_next args.was.now args.now.now args.parts.now args.others.now args.pairs.now.items c.loop-at.at c.get-part.result c.get-other.result c.get-part.ensures c.get-other.ensures here c.loop-at.invariant.taken;
     }
 
 -- ---- the last part
 
 pub last_is_taken-is_any_bits-requires-clause-within : goal.last_is_taken-is_any_bits-requires-clause-within
 last_is_taken-is_any_bits-requires-clause-within t c =
-    shown_within c.args.now.now c.requires.others.0 (c.len-last.result - 1) c.get-other.result c.args.others.now c.requires.new c.requires.others.1 c.get-other.ensures
+    (shown_behind c.args.now.now c.requires.others.0 (c.len-last.result - 1) c.get-other.result c.args.others.now c.requires.new c.requires.others.1 c.get-other.ensures).within
 
 pub last_is_taken-takes-requires : goal.last_is_taken-takes-requires
 last_is_taken-takes-requires t c =
     let was = c.args.was.now in
     let now = c.args.now.now in
     let last = c.len-last.result - 1 in
-    let behind = shown_behind was c.args.i last c.get.result c.args.parts.now c.requires.old c.requires.parts c.get.ensures in
-    let inside = shown_within was c.args.i last c.get.result c.args.parts.now c.requires.old c.requires.parts c.get.ensures in
+    let part = shown_behind was c.args.i last c.get.result c.args.parts.now c.requires.old c.requires.parts c.get.ensures in
     let room = c.requires.room last c.get.result (omega (arith, c.len-last.ensures.len, c.requires.some)) c.get.ensures in
-    (omega (arith, c.decreases, behind, inside, c.requires.new.few), (c.requires.old, (c.requires.new, (room, shown_within now c.requires.others.0 last c.get-other.result c.args.others.now c.requires.new c.requires.others.1 c.get-other.ensures))))
+    (omega (arith, c.decreases, part.behind, part.within, c.requires.new.few), (c.requires.old, (c.requires.new, (room, (shown_behind now c.requires.others.0 last c.get-other.result c.args.others.now c.requires.new c.requires.others.1 c.get-other.ensures).within))))
 
 pub last_is_taken-returns-else-len-clause-takes : goal.last_is_taken-returns-else-len-clause-takes
 last_is_taken-returns-else-len-clause-takes t c =
@@ -218,35 +208,27 @@ sequence_is_taken-overflow_sub-len t c =
 
 pub sequence_is_taken-last_is_taken-taken-requires : goal.sequence_is_taken-last_is_taken-taken-requires
 sequence_is_taken-last_is_taken-taken-requires t c =
-    let was = c.args.was.now in
-    let now = c.args.now.now in
-    let parts = c.args.parts.now in
-    let others = c.args.others.now in
-    let pairs = c.args.pairs.now.items in
-    let long = seq_long now c.requires.others.0 others c.requires.new c.requires.others.1 in
-    let room : (k p : ℕ) → suc k ≡ length others → slice_get parts k ≡ Some p → HasRoom was.nodes c.first_are_taken.new.pairs.items p =
+    let args = c.args in
+    let long = seq_long args.now.now c.requires.others.0 args.others.now c.requires.new c.requires.others.1 in
+    let room : (k p : ℕ) → suc k ≡ length args.others.now → slice_get args.parts.now k ≡ Some p → HasRoom args.was.now.nodes c.first_are_taken.new.pairs.items p =
     λ k p is at.
     (let count : c.len-3.result - 1 ≡ k = omega (arith, is, c.len-3.ensures.len) in
-    let same = c.first_are_taken.ensures.pairs c.if-first_are_taken.true ∙ ap (pairs_behind was now parts others pairs) count in
-    room_along was.nodes p (pairs_behind was now parts others pairs k) c.first_are_taken.new.pairs.items same (room_shown was now c.args.i k p parts others pairs c.requires.room (inl c.requires.parts) (omega arith) at)) in
+    let same = c.first_are_taken.ensures.pairs c.if-first_are_taken.true ∙ ap (pairs_behind args.was.now args.now.now args.parts.now args.others.now args.pairs.now.items) count in
+    room_along args.was.now.nodes p (pairs_behind args.was.now args.now.now args.parts.now args.others.now args.pairs.now.items k) c.first_are_taken.new.pairs.items same (room_shown args.was.now args.now.now c.args.i k p args.parts.now args.others.now args.pairs.now.items c.requires.room (inl c.requires.parts) (omega arith) at)) in
     (omega (arith, c.decreases), (c.requires.old, (c.requires.new, (inl c.requires.parts, ((c.requires.others.0, inl c.requires.others.1), (omega (arith, long), (omega (arith, c.len.ensures.len, c.len-2.ensures.len, c.if-len.false), room)))))))
 
 pub sequence_is_taken-returns-clause-takes : goal.sequence_is_taken-returns-clause-takes
 sequence_is_taken-returns-clause-takes t c =
-    let was = c.args.was.now in
-    let now = c.args.now.now in
-    let parts = c.args.parts.now in
-    let others = c.args.others.now in
-    let pairs = c.args.pairs.now.items in
+    let args = c.args in
     let count = c.len-3.result - 1 in
-    let enough = seq_long now c.requires.others.0 others c.requires.new c.requires.others.1 in
-    let long : suc count ≡ length others = omega (arith, c.len-3.ensures.len, enough) in
+    let enough = seq_long args.now.now c.requires.others.0 args.others.now c.requires.new c.requires.others.1 in
+    let long : suc count ≡ length args.others.now = omega (arith, c.len-3.ensures.len, enough) in
     elim c.if-first_are_taken.branch [
       | sequence_is_taken-then-first_are_taken w ↦
-          seq_decided was now parts others pairs c.first_are_taken.new.pairs.items count c.if-first_are_taken.taken w.last_is_taken-taken.result long (omega (arith, c.len.ensures.len, c.len-2.ensures.len, c.if-len.false)) w.taken-is w.last_is_taken-taken.ensures.takes
+          seq_decided args.was.now args.now.now args.parts.now args.others.now args.pairs.now.items c.first_are_taken.new.pairs.items count c.if-first_are_taken.taken w.last_is_taken-taken.result long (omega (arith, c.len.ensures.len, c.len-2.ensures.len, c.if-len.false)) w.taken-is w.last_is_taken-taken.ensures.takes
           (c.first_are_taken.ensures.pairs w.if-first_are_taken.true) (c.first_are_taken.ensures.takes.0 w.if-first_are_taken.true)
       | sequence_is_taken-else-first_are_taken w ↦
-          seq_refused was now parts others pairs count c.if-first_are_taken.taken c.first_are_taken.result c.first_are_taken.result long w.taken-is w.if-first_are_taken.false w.if-first_are_taken.false c.first_are_taken.ensures.takes
+          seq_refused args.was.now args.now.now args.parts.now args.others.now args.pairs.now.items count c.if-first_are_taken.taken c.first_are_taken.result c.first_are_taken.result long w.taken-is w.if-first_are_taken.false w.if-first_are_taken.false c.first_are_taken.ensures.takes
     ]
 
 -- ---- a truncation
@@ -265,39 +247,18 @@ truncation_is_taken-returns-clause-takes t c =
 
 pub kind_is_taken-takes-requires : goal.kind_is_taken-takes-requires
 kind_is_taken-takes-requires t c =
-    let was = c.args.was.now in
-    let now = c.args.now.now in
-    let old = Many c.in-Many-Many.part in
-    let new = Many c.in-Many-Many.other in
-    let at : slice_get was.nodes c.args.i ≡ Some old = c.requires.old ∙ ap (λ n. Some n) c.in-Many-Many.is-0 in
-    let across : slice_get now.nodes c.requires.new.0 ≡ Some new = c.requires.new.1 ∙ ap (λ n. Some n) c.in-Many-Many.is-1 in
-    let behind = part_behind was c.args.i 0 c.in-Many-Many.part old c.requires.was at refl in
-    let inside = part_within was c.args.i 0 c.in-Many-Many.part old c.requires.was at refl in
-    (omega (arith, c.decreases, behind, inside, c.requires.now.few), (c.requires.was, (c.requires.now, (room_below was.nodes c.args.i 0 c.in-Many-Many.part old c.args.pairs.now.items c.requires.room at refl refl, part_within now c.requires.new.0 0 c.in-Many-Many.other new c.requires.now across refl))))
+    let parts = are_compared c.args.was.now c.args.now.now c.args.i c.requires.new.0 c.in-Many-Many.part c.in-Many-Many.other (Many c.in-Many-Many.part) _ (Many c.in-Many-Many.other) _ c.args.pairs.now.items c.requires.was c.requires.now c.requires.room c.requires.old c.in-Many-Many.is-0 refl refl c.requires.new.1 c.in-Many-Many.is-1 refl in
+    (omega (arith, c.decreases, parts.old.behind, parts.old.within, c.requires.now.few), (c.requires.was, (c.requires.now, (parts.room, parts.within))))
 
 pub kind_is_taken-takes-requires-then-counts_agree : goal.kind_is_taken-takes-requires-then-counts_agree
 kind_is_taken-takes-requires-then-counts_agree t c =
-    let was = c.args.was.now in
-    let now = c.args.now.now in
-    let old = Times c.in-Times-Times.count c.in-Times-Times.part in
-    let new = Times c.in-Times-Times.taker c.in-Times-Times.other in
-    let at : slice_get was.nodes c.args.i ≡ Some old = c.requires.old ∙ ap (λ n. Some n) c.in-Times-Times.is-0 in
-    let across : slice_get now.nodes c.requires.new.0 ≡ Some new = c.requires.new.1 ∙ ap (λ n. Some n) c.in-Times-Times.is-1 in
-    let behind = part_behind was c.args.i 0 c.in-Times-Times.part old c.requires.was at refl in
-    let inside = part_within was c.args.i 0 c.in-Times-Times.part old c.requires.was at refl in
-    (omega (arith, c.decreases, behind, inside, c.requires.now.few), (c.requires.was, (c.requires.now, (room_below was.nodes c.args.i 0 c.in-Times-Times.part old c.args.pairs.now.items c.requires.room at refl refl, part_within now c.requires.new.0 0 c.in-Times-Times.other new c.requires.now across refl))))
+    let parts = are_compared c.args.was.now c.args.now.now c.args.i c.requires.new.0 c.in-Times-Times.part c.in-Times-Times.other (Times c.in-Times-Times.count c.in-Times-Times.part) _ (Times c.in-Times-Times.taker c.in-Times-Times.other) _ c.args.pairs.now.items c.requires.was c.requires.now c.requires.room c.requires.old c.in-Times-Times.is-0 refl refl c.requires.new.1 c.in-Times-Times.is-1 refl in
+    (omega (arith, c.decreases, parts.old.behind, parts.old.within, c.requires.now.few), (c.requires.was, (c.requires.now, (parts.room, parts.within))))
 
 pub kind_is_taken-takes-requires-then-counts_agree-2 : goal.kind_is_taken-takes-requires-then-counts_agree-2
 kind_is_taken-takes-requires-then-counts_agree-2 t c =
-    let was = c.args.was.now in
-    let now = c.args.now.now in
-    let old = Window c.in-Window-Window.unit c.in-Window-Window.count c.in-Window-Window.part in
-    let new = Window c.in-Window-Window.units c.in-Window-Window.taker c.in-Window-Window.other in
-    let at : slice_get was.nodes c.args.i ≡ Some old = c.requires.old ∙ ap (λ n. Some n) c.in-Window-Window.is-0 in
-    let across : slice_get now.nodes c.requires.new.0 ≡ Some new = c.requires.new.1 ∙ ap (λ n. Some n) c.in-Window-Window.is-1 in
-    let behind = part_behind was c.args.i 0 c.in-Window-Window.part old c.requires.was at refl in
-    let inside = part_within was c.args.i 0 c.in-Window-Window.part old c.requires.was at refl in
-    (omega (arith, c.decreases, behind, inside, c.requires.now.few), (c.requires.was, (c.requires.now, (room_below was.nodes c.args.i 0 c.in-Window-Window.part old c.args.pairs.now.items c.requires.room at refl refl, part_within now c.requires.new.0 0 c.in-Window-Window.other new c.requires.now across refl))))
+    let parts = are_compared c.args.was.now c.args.now.now c.args.i c.requires.new.0 c.in-Window-Window.part c.in-Window-Window.other (Window c.in-Window-Window.unit c.in-Window-Window.count c.in-Window-Window.part) _ (Window c.in-Window-Window.units c.in-Window-Window.taker c.in-Window-Window.other) _ c.args.pairs.now.items c.requires.was c.requires.now c.requires.room c.requires.old c.in-Window-Window.is-0 refl refl c.requires.new.1 c.in-Window-Window.is-1 refl in
+    (omega (arith, c.decreases, parts.old.behind, parts.old.within, c.requires.now.few), (c.requires.was, (c.requires.now, (parts.room, parts.within))))
 
 pub kind_is_taken-returns-in-Seq-Seq-clause-takes : goal.kind_is_taken-returns-in-Seq-Seq-clause-takes
 kind_is_taken-returns-in-Seq-Seq-clause-takes t c j =
@@ -317,8 +278,7 @@ kind_is_taken-returns-in-Many-Many-clause-takes t c j =
 pub kind_is_taken-returns-then-counts_agree-clause-takes : goal.kind_is_taken-returns-then-counts_agree-clause-takes
 kind_is_taken-returns-then-counts_agree-clause-takes t c j =
     let says = c.takes-then-counts_agree.ensures.takes in
-    let counts = c.counts_agree.ensures.0 c.if-counts_agree.true in
-    along_nodes c.args.was.now c.args.now.now c.args.i j c.takes-then-counts_agree.result c.in-Times-Times.is-0 c.in-Times-Times.is-1 (λ e. takes_times counts (says.0 e), λ h. (let both = of_times c.args.was.now c.args.now.now h in says.1 both.1))
+    along_nodes c.args.was.now c.args.now.now c.args.i j c.takes-then-counts_agree.result c.in-Times-Times.is-0 c.in-Times-Times.is-1 (λ e. takes_times (c.counts_agree.ensures.0 c.if-counts_agree.true) (says.0 e), λ h. says.1 (of_times c.args.was.now c.args.now.now h).1)
 
 pub kind_is_taken-returns-else-counts_agree-clause-takes : goal.kind_is_taken-returns-else-counts_agree-clause-takes
 kind_is_taken-returns-else-counts_agree-clause-takes t c j =
@@ -328,8 +288,7 @@ kind_is_taken-returns-else-counts_agree-clause-takes t c j =
 pub kind_is_taken-returns-then-counts_agree-2-clause-takes : goal.kind_is_taken-returns-then-counts_agree-2-clause-takes
 kind_is_taken-returns-then-counts_agree-2-clause-takes t c j =
     let says = c.takes-then-counts_agree-2.ensures.takes in
-    let counts = c.counts_agree-in-Window-Window.ensures.0 c.if-counts_agree-2.true in
-    along_nodes c.args.was.now c.args.now.now c.args.i j c.takes-then-counts_agree-2.result c.in-Window-Window.is-0 c.in-Window-Window.is-1 (λ e. takes_window counts (says.0 e), λ h. (let both = of_window c.args.was.now c.args.now.now h in says.1 both.1))
+    along_nodes c.args.was.now c.args.now.now c.args.i j c.takes-then-counts_agree-2.result c.in-Window-Window.is-0 c.in-Window-Window.is-1 (λ e. takes_window (c.counts_agree-in-Window-Window.ensures.0 c.if-counts_agree-2.true) (says.0 e), λ h. says.1 (of_window c.args.was.now c.args.now.now h).1)
 
 pub kind_is_taken-returns-else-counts_agree-2-clause-takes : goal.kind_is_taken-returns-else-counts_agree-2-clause-takes
 kind_is_taken-returns-else-counts_agree-2-clause-takes t c j =
@@ -340,54 +299,13 @@ pub kind_is_taken-returns-in_default-clause-takes : goal.kind_is_taken-returns-i
 kind_is_taken-returns-in_default-clause-takes t c j =
     leaf_decided c.args.was.now c.args.now.now c.args.i j c.leaf_is_taken.result c.requires.old_kind c.requires.new_kind.0 c.requires.new_kind.1 c.leaf_is_taken.ensures
     (elim c.in_default.branch [
-      | kind_is_taken-in_default-via-in-Seq+in_default w ↦
-          record {
-            seq = λ parts others old new. w.in_default.not-Seq-1 others new;
-            trunc = λ parts others old new. (let is = w.in_default.is-0 in absurd (cc));
-            many = λ p q old new. (let is = w.in_default.is-0 in absurd (cc));
-            times = λ count taker p q old new. (let is = w.in_default.is-0 in absurd (cc));
-            window = λ unit other count taker p q old new. (let is = w.in_default.is-0 in absurd (cc));
-          }
-      | kind_is_taken-in_default-via-in-Trunc+in_default w ↦
-          record {
-            seq = λ parts others old new. (let is = w.in_default.is-0 in absurd (cc));
-            trunc = λ parts others old new. w.in_default.not-Trunc-1 others new;
-            many = λ p q old new. (let is = w.in_default.is-0 in absurd (cc));
-            times = λ count taker p q old new. (let is = w.in_default.is-0 in absurd (cc));
-            window = λ unit other count taker p q old new. (let is = w.in_default.is-0 in absurd (cc));
-          }
-      | kind_is_taken-in_default-via-in-Many+in_default w ↦
-          record {
-            seq = λ parts others old new. (let is = w.in_default.is-0 in absurd (cc));
-            trunc = λ parts others old new. (let is = w.in_default.is-0 in absurd (cc));
-            many = λ p q old new. w.in_default.not-Many-1 q new;
-            times = λ count taker p q old new. (let is = w.in_default.is-0 in absurd (cc));
-            window = λ unit other count taker p q old new. (let is = w.in_default.is-0 in absurd (cc));
-          }
-      | kind_is_taken-in_default-via-in-Times+in_default w ↦
-          record {
-            seq = λ parts others old new. (let is = w.in_default.is-0 in absurd (cc));
-            trunc = λ parts others old new. (let is = w.in_default.is-0 in absurd (cc));
-            many = λ p q old new. (let is = w.in_default.is-0 in absurd (cc));
-            times = λ count taker p q old new. w.in_default.not-Times-1 taker q new;
-            window = λ unit other count taker p q old new. (let is = w.in_default.is-0 in absurd (cc));
-          }
-      | kind_is_taken-in_default-via-in-Window+in_default w ↦
-          record {
-            seq = λ parts others old new. (let is = w.in_default.is-0 in absurd (cc));
-            trunc = λ parts others old new. (let is = w.in_default.is-0 in absurd (cc));
-            many = λ p q old new. (let is = w.in_default.is-0 in absurd (cc));
-            times = λ count taker p q old new. (let is = w.in_default.is-0 in absurd (cc));
-            window = λ unit other count taker p q old new. w.in_default.not-Window-1 other taker q new;
-          }
+      | kind_is_taken-in_default-via-in-Seq+in_default w ↦ no_seq _ w.in_default.is-0 w.in_default.not-Seq-1
+      | kind_is_taken-in_default-via-in-Trunc+in_default w ↦ no_trunc _ w.in_default.is-0 w.in_default.not-Trunc-1
+      | kind_is_taken-in_default-via-in-Many+in_default w ↦ no_many _ w.in_default.is-0 w.in_default.not-Many-1
+      | kind_is_taken-in_default-via-in-Times+in_default w ↦ no_times _ w.in_default.is-0 w.in_default.not-Times-1
+      | kind_is_taken-in_default-via-in-Window+in_default w ↦ no_window _ w.in_default.is-0 w.in_default.not-Window-1
       | kind_is_taken-in_default-via-in_default w ↦
-          record {
-            seq = λ parts others old new. w.in_default.not-Seq-0 parts old;
-            trunc = λ parts others old new. w.in_default.not-Trunc-0 parts old;
-            many = λ p q old new. w.in_default.not-Many-0 p old;
-            times = λ count taker p q old new. w.in_default.not-Times-0 count p old;
-            window = λ unit other count taker p q old new. w.in_default.not-Window-0 unit count p old;
-          }
+          no_kind _ _ w.in_default.not-Seq-0 w.in_default.not-Trunc-0 w.in_default.not-Many-0 w.in_default.not-Times-0 w.in_default.not-Window-0
     ])
 
 -- ---- two nodes
@@ -397,12 +315,10 @@ takes-node-old-requires t c = room_within c.args.was.now.nodes c.args.i c.args.p
 
 pub takes-takes-requires : goal.takes-takes-requires
 takes-takes-requires t c =
-    let was = c.args.was.now in
     let node = Named c.in-Named.label c.in-Named.part in
-    let at : slice_get was.nodes c.args.i ≡ Some node = c.node-old.ensures ∙ ap (λ n. Some n) c.in-Named.is in
-    let behind = part_behind was c.args.i 0 c.in-Named.part node c.requires.old at refl in
-    let inside = part_within was c.args.i 0 c.in-Named.part node c.requires.old at refl in
-    (omega (arith, c.decreases, behind, inside), (c.requires.old, (c.requires.new, (room_below was.nodes c.args.i 0 c.in-Named.part node c.args.pairs.now.items c.requires.room at refl refl, c.requires.within))))
+    let at : slice_get c.args.was.now.nodes c.args.i ≡ Some node = c.node-old.ensures ∙ ap (λ n. Some n) c.in-Named.is in
+    let part = is_behind c.args.was.now c.args.i 0 c.in-Named.part node _ c.requires.old at refl refl in
+    (omega (arith, c.decreases, part.behind, part.within), (c.requires.old, (c.requires.new, (room_below c.args.was.now.nodes c.args.i 0 c.in-Named.part node c.args.pairs.now.items c.requires.room at refl refl, c.requires.within))))
 
 pub takes-returns-in-Named-clause-takes : goal.takes-returns-in-Named-clause-takes
 takes-returns-in-Named-clause-takes t c =
@@ -412,12 +328,8 @@ takes-returns-in-Named-clause-takes t c =
 
 pub takes-takes-requires-in-Named-new : goal.takes-takes-requires-in-Named-new
 takes-takes-requires-in-Named-new t c =
-    let now = c.args.now.now in
-    let node = Named c.in-Named-new.label c.in-Named-new.part in
-    let at : slice_get now.nodes c.args.j ≡ Some node = c.node-new.ensures ∙ ap (λ n. Some n) c.in-Named-new.is in
-    let behind = part_behind now c.args.j 0 c.in-Named-new.part node c.requires.new at refl in
-    let inside = part_within now c.args.j 0 c.in-Named-new.part node c.requires.new at refl in
-    (omega (arith, c.decreases, behind, inside), (c.requires.old, (c.requires.new, (c.requires.room, inside))))
+    let part = is_behind c.args.now.now c.args.j 0 c.in-Named-new.part (Named c.in-Named-new.label c.in-Named-new.part) _ c.requires.new c.node-new.ensures c.in-Named-new.is refl in
+    (omega (arith, c.decreases, part.behind, part.within), (c.requires.old, (c.requires.new, (c.requires.room, part.within))))
 
 pub takes-returns-in-Named-new : goal.takes-returns-in-Named-new
 takes-returns-in-Named-new t c =
