@@ -6,7 +6,7 @@ use Rattle.std.proofs.lemmas.Option.{slice_get_within, slice_get-get_or}
 use Rattle.std.proofs.lemmas.List.{take-append-le, drop-append-le}
 use Rattle.std.proofs.lemmas.Bool.{cases_lt}
 use Rattle.csn_desc.specs.declared.node.Node.{Node}
-use Rattle.csn_desc.specs.declared.node.Node.TheVariants.{Choice, Lits, Spare, Pad, Null, Field, Rest, Seq, Times, Many, Trunc, Window, Named}
+use Rattle.csn_desc.specs.declared.node.Node.TheVariants.{Choice, Named}
 use Rattle.csn_desc.specs.Nodes.{DescV, parts_of}
 use Rattle.csn_desc.specs.Formed.{IsDescription}
 use Rattle.csn_desc.proofs.Parents.{one_parent}
@@ -137,33 +137,11 @@ begun_next form d numbers k number n old new given at label same are =
 
 number_is : (n : Node) (k : ℕ) → ((parts : List ℕ) → ¬ (n ≡ Choice parts)) → number_at n k ≡ None
 number_is (Choice parts) k other = absurd (other parts refl)
-number_is (Lits run) k other = refl
-number_is (Spare symbol) k other = refl
-number_is Pad k other = refl
-number_is Null k other = refl
-number_is (Field unit count) k other = refl
-number_is Rest k other = refl
-number_is (Seq parts) k other = refl
-number_is (Times count part) k other = refl
-number_is (Many part) k other = refl
-number_is (Trunc parts) k other = refl
-number_is (Window unit count part) k other = refl
-number_is (Named label part) k other = refl
+number_is _ k other = refl
 
 pub choice_or : (n : Node) → ((parts : List ℕ) × (n ≡ Choice parts)) ⊎ ((parts : List ℕ) → ¬ (n ≡ Choice parts))
 choice_or (Choice parts) = inl (parts, refl)
-choice_or (Lits run) = inr (λ others e. cc)
-choice_or (Spare symbol) = inr (λ others e. cc)
-choice_or Pad = inr (λ others e. cc)
-choice_or Null = inr (λ others e. cc)
-choice_or (Field unit count) = inr (λ others e. cc)
-choice_or Rest = inr (λ others e. cc)
-choice_or (Seq parts) = inr (λ others e. cc)
-choice_or (Times count part) = inr (λ others e. cc)
-choice_or (Many part) = inr (λ others e. cc)
-choice_or (Trunc parts) = inr (λ others e. cc)
-choice_or (Window unit count part) = inr (λ others e. cc)
-choice_or (Named label part) = inr (λ others e. cc)
+choice_or _ = inr (λ others e. cc)
 
 module _ (d : DescV) (is : IsDescription d) (numbers : List (Option ℕ)) (are : AreNumbers d (length d.nodes) numbers) where
   -- a part of a node that is no choice has no number

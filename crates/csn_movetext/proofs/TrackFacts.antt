@@ -5,7 +5,7 @@ use Rattle.csn_bits.specs.Numbers.{low_bits}
 use Rattle.csn_desc.specs.declared.moves.Move.{Move}
 use Rattle.csn_desc.specs.declared.moves.Move.TheVariants.{Bit}
 use Rattle.csn_desc.specs.declared.node.Node.{Node}
-use Rattle.csn_desc.specs.declared.node.Node.TheVariants.{Lits, Spare, Pad, Null, Field, Rest, Seq, Choice, Times, Many, Trunc, Window, Named}
+use Rattle.csn_desc.specs.declared.node.Node.TheVariants.{Lits}
 use Rattle.csn_judge.specs.Told.{BitsTold}
 use Rattle.csn_movetext.specs.Openings.{OpeningsV}
 use Rattle.csn_movetext.specs.Writing.{WritingV, gathering, took}
@@ -75,33 +75,11 @@ told_off openings old new node bit bits more =
 -- what a node makes of a bit
 took_literal : (node : Node) (bit : ℕ) (w : WritingV) → is_literal node ≡ true → took bit node w ≡ Some w
 took_literal (Lits run) bit w is = refl
-took_literal (Spare symbol) bit w is = absurd (cc)
-took_literal Pad bit w is = absurd (cc)
-took_literal Null bit w is = absurd (cc)
-took_literal (Field unit count) bit w is = absurd (cc)
-took_literal Rest bit w is = absurd (cc)
-took_literal (Seq parts) bit w is = absurd (cc)
-took_literal (Choice parts) bit w is = absurd (cc)
-took_literal (Times count part) bit w is = absurd (cc)
-took_literal (Many part) bit w is = absurd (cc)
-took_literal (Trunc parts) bit w is = absurd (cc)
-took_literal (Window unit count part) bit w is = absurd (cc)
-took_literal (Named label part) bit w is = absurd (cc)
+took_literal _ bit w is = absurd (cc)
 
 took_other : (node : Node) (bit : ℕ) (w : WritingV) → is_literal node ≡ false → took bit node w ≡ Some (gathering w (bit ∷ []))
 took_other (Lits run) bit w is = absurd (cc)
-took_other (Spare symbol) bit w is = refl
-took_other Pad bit w is = refl
-took_other Null bit w is = refl
-took_other (Field unit count) bit w is = refl
-took_other Rest bit w is = refl
-took_other (Seq parts) bit w is = refl
-took_other (Choice parts) bit w is = refl
-took_other (Times count part) bit w is = refl
-took_other (Many part) bit w is = refl
-took_other (Trunc parts) bit w is = refl
-took_other (Window unit count part) bit w is = refl
-took_other (Named label part) bit w is = refl
+took_other _ bit w is = refl
 
 -- the bits of a literal
 told_literal : (openings : OpeningsV) (kept : KeptV) (node : Node) (bits : List ℕ) → is_literal node ≡ true

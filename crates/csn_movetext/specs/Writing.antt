@@ -110,19 +110,18 @@ example_moves =
     (Enter 0, Seq (1 ∷ 2 ∷ [])) ∷ (Enter 1, two_bits) ∷ (Bit 1, two_bits) ∷ (Bit 0, two_bits) ∷ (Leave, two_bits)
     ∷ (Enter 2, two_bits) ∷ (Bit 1, two_bits) ∷ (Bit 1, two_bits) ∷ (Leave, two_bits) ∷ (Leave, Seq (1 ∷ 2 ∷ [])) ∷ []
 
--- a sequence of two fields of two bits each, behind a text
-pub two_fields :
-    written_by Text (opening_in (record { form = Text; texts = codes "[" ∷ codes "2'" ∷ codes "2'" ∷ [] }))
-    (ready (codes "a") false) example_moves
-    ≡ Some (ready (codes "a[2'2 2'3]") true)
+-- what is written behind a text of a sequence of two fields of two bits each, which these bytes open
+abbrev fields_written : TreeForm → List ℕ → Option WritingV
+fields_written form field =
+    written_by form (opening_in (record { form = form; texts = codes "[" ∷ field ∷ field ∷ [] })) (ready (codes "a") false) example_moves
+
+-- such a sequence
+pub two_fields : fields_written Text (codes "2'") ≡ Some (ready (codes "a[2'2 2'3]") true)
 unfolding digits
 two_fields = refl
 
 -- the same in JSON
-pub two_fields_in_json :
-    written_by Json (opening_in (record { form = Json; texts = codes "[" ∷ codes "\"" ∷ codes "\"" ∷ [] }))
-    (ready (codes "a") false) example_moves
-    ≡ Some (ready (codes "a[\"80/2\",\"C0/2\"]") true)
+pub two_fields_in_json : fields_written Json (codes "\"") ≡ Some (ready (codes "a[\"80/2\",\"C0/2\"]") true)
 unfolding encode_with
 two_fields_in_json = refl
 
