@@ -1,5 +1,7 @@
 -- What a value has to be, part by part, that shows a tree.
 use Rattle.std.proofs.Common.{◌≡◌, ℕ, ◌+◌, ◌<◌, Bool, List, Result, Err, IfErr, codes, refl, sym, ap, ◌∙◌, subst, arith, add-one}
+use Rattle.std.specs.Prelude.{IsErrAnd}
+use Rattle.std.proofs.lemmas.Result.{err_from_is_err_and}
 use Rattle.csn_desc.specs.Label.{IsLabel}
 use Rattle.csn_desc.specs.declared.desc.TheConstants.{MOST_NODES}
 use Rattle.csn_desc.specs.TreeV.{TreeV, empty, bits, row, alt, named, Trees}
@@ -18,10 +20,11 @@ weaker NotJson by h = h
 weaker NotTree by h = by h
 weaker NoMemory by h = tt
 
-pub passed : {T A B : Type 0} (r : Result T JsonFault) (y e : JsonFault) → r ≡ Err y → y ≡ e → (A → B) → Refuses e A → IfErr r (λ fault. Refuses fault B)
-passed {T = T} {A = A} {B = B} r y e is same by h =
+pub passed : {T A B : Type 0} (r : Result T JsonFault) (e : JsonFault) → IsErrAnd r (λ y. y ≡ e) → (A → B) → Refuses e A → IfErr r (λ fault. Refuses fault B)
+passed {T = T} {A = A} {B = B} r e handed by h =
+    let p = err_from_is_err_and r handed in
     let G : Result T JsonFault → Type 0 = λ x. IfErr x (λ fault. Refuses fault B) in
-    subst G (sym (is ∙ ap (λ z. Err z) same)) (weaker e by h)
+    subst G (sym (p.1 ∙ ap (λ z. Err z) p.2)) (weaker e by h)
 
 -- ---- values that show nothing
 
@@ -30,33 +33,21 @@ no_room round value full t is = omega (arith, room_for round t is.fits)
 
 pub no_truth : (round : ℕ) (b : Bool) (t : TreeV) → IsShown round (boolean b) t → ⊥
 no_truth round b empty is = absurd (let e = is.shown in cc)
-no_truth round b (bits c) is = absurd (let e = is.shown in cc)
-no_truth round b (row ts) is = absurd (let e = is.shown in cc)
-no_truth round b (alt j t) is = absurd (let e = is.shown in cc)
-no_truth round b (named l t) is = absurd (let e = is.shown in cc)
+no_truth round b _ is = absurd (let e = is.shown in cc)
 
 pub no_number : (round : ℕ) (n : Num) (t : TreeV) → IsShown round (number n) t → ⊥
 no_number round n empty is = absurd (let e = is.shown in cc)
-no_number round n (bits c) is = absurd (let e = is.shown in cc)
-no_number round n (row ts) is = absurd (let e = is.shown in cc)
-no_number round n (alt j t) is = absurd (let e = is.shown in cc)
-no_number round n (named l t) is = absurd (let e = is.shown in cc)
+no_number round n _ is = absurd (let e = is.shown in cc)
 
 -- ---- values that show a tree of one kind
 
 pub line_of : (round : ℕ) (line : List ℕ) (t : TreeV) → IsShown round (string line) t → (b : List ℕ) × IsWritten line b
-line_of round line empty is = absurd (let e = is.shown in cc)
 line_of round line (bits b) is = (b, record { zeros_and_ones = is.parts.0; few = is.parts.1; spelled = (let e = is.shown in cc) })
-line_of round line (row ts) is = absurd (let e = is.shown in cc)
-line_of round line (alt j t) is = absurd (let e = is.shown in cc)
-line_of round line (named l t) is = absurd (let e = is.shown in cc)
+line_of round line _ is = absurd (let e = is.shown in cc)
 
 pub row_of : (round : ℕ) (values : Items) (t : TreeV) → IsShown round (array values) t → (ts : Trees) × AreShown (round + 1) values ts
-row_of round values empty is = absurd (let e = is.shown in cc)
-row_of round values (bits b) is = absurd (let e = is.shown in cc)
 row_of round values (row ts) is = (ts, rw (add-one round) (record { fits = is.fits.1; parts = is.parts; shown = (let e = is.shown in cc) }))
-row_of round values (alt j t) is = absurd (let e = is.shown in cc)
-row_of round values (named l t) is = absurd (let e = is.shown in cc)
+row_of round values _ is = absurd (let e = is.shown in cc)
 
 -- what the members of an object are that shows a tree
 pub data Tag (round : ℕ) (key : List ℕ) (of inside : Data) : Type 0 where
@@ -64,9 +55,6 @@ pub data Tag (round : ℕ) (key : List ℕ) (of inside : Data) : Type 0 where
   labelled : (l : List ℕ) → (t : TreeV) → key ≡ codes "label" → of ≡ string l → IsLabel l → IsShown (round + 1) inside t → Tag round key of inside
 
 pub tag_of : (round : ℕ) (ms : Members) (t : TreeV) → IsShown round (object ms) t → (key : List ℕ) × (of : Data) × (inside : Data) × (object ms ≡ tagged key of inside) × Tag round key of inside
-tag_of round ms empty is = absurd (let e = is.shown in cc)
-tag_of round ms (bits b) is = absurd (let e = is.shown in cc)
-tag_of round ms (row ts) is = absurd (let e = is.shown in cc)
 tag_of round ms (alt j t) is = (
   codes "alt",
   number (unsigned j),
@@ -81,6 +69,7 @@ tag_of round ms (named l t) is = (
   is.shown,
   labelled l t refl refl is.parts.0 (rw (add-one round) (record { fits = is.fits; parts = is.parts.1; shown = refl })),
 )
+tag_of round ms _ is = absurd (let e = is.shown in cc)
 
 same_tag : (round : ℕ) (key : List ℕ) (of inside : Data) (k : List ℕ) (o i : Data) → tagged k o i ≡ tagged key of inside → Tag round k o i → Tag round key of inside
 same_tag round key of inside k o i same tag =
@@ -94,6 +83,13 @@ pub known_tag : (round : ℕ) (ms : Members) (key : List ℕ) (of inside : Data)
 known_tag round ms key of inside known t is =
     let found = tag_of round ms t is in
     same_tag round key of inside found.0 found.1 found.2 (sym found.3 ∙ known) found.4
+
+-- an object of two known members whose tag is refused is refused
+pub tag_refused :
+    {T A : Type 0} (round : ℕ) (ms : Members) (key : List ℕ) (of inside : Data) → object ms ≡ tagged key of inside → (r : Result T JsonFault) (e : JsonFault) → IsErrAnd r (λ y. y ≡ e)
+    → (A → Tag round key of inside → ⊥) → Refuses e A → IfErr r (λ fault. Refuses fault ((t : TreeV) → IsShown round (object ms) t → ⊥))
+tag_refused round ms key of inside known r e handed none h =
+    passed r e handed (λ nothing t is. none nothing (known_tag round ms key of inside known t is)) h
 
 -- ---- alternatives and labelled parts
 

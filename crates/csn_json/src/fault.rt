@@ -1,8 +1,7 @@
 ghost use Rattle.std.specs.Prelude.{◌≡◌};
 ghost use Rattle.csn_json.specs.declared.fault.JsonFault.TheVariants.{NoMemory as no_memory};
 
-use csn_bits::NoMemory;
-use std::alloc::{AllocError, AllocFailed};
+use std::alloc::AllocFailed;
 use thiserror::Error;
 
 /// Why bytes could not be read as a tree in JSON.
@@ -16,14 +15,6 @@ pub enum JsonFault {
     NotTree,
     #[error("out of memory")]
     NoMemory,
-}
-
-impl From<NoMemory> for JsonFault {
-    ghost from_gives = { λ _ e. e ≡ no_memory };
-
-    fn from(_e: NoMemory) -> JsonFault {
-        JsonFault::NoMemory
-    }
 }
 
 impl<T: Drop> From<AllocFailed<T>> for JsonFault {

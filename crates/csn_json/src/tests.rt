@@ -12,6 +12,15 @@ fn read(alloc: Global, text: &[u8]) -> Result<Tree, JsonFault> {
     read_json(alloc, text)
 }
 
+// What is written for the tree that a text shows.
+fn written_again(alloc: Global, text: &str) -> Result<Vec<u8>, Fail> {
+    let tree = read(alloc, text.as_bytes()).map_err(|_| "no tree")?;
+    if !json_fits(&tree) {
+        return Err("a tree that does not fit".into());
+    }
+    Ok(write_json(alloc, &tree).map_err(|_| "out of memory")?)
+}
+
 // A text of every form, with its members in order.
 const EACH_FORM: [&str; 9] = [
     "null",
@@ -28,9 +37,7 @@ const EACH_FORM: [&str; 9] = [
 #[test]
 fn each_form_is_read_and_written_back(rt: HostRuntime) -> Result<(), Fail> {
     for text in EACH_FORM {
-        let tree = read(rt.alloc(), text.as_bytes()).map_err(|_| "no tree")?;
-        assert!(rt; json_fits(&tree));
-        let wrote = write_json(rt.alloc(), &tree).map_err(|_| "out of memory")?;
+        let wrote = written_again(rt.alloc(), text)?;
         assert_eq!(rt; wrote.as_slice(), text.as_bytes());
     }
     Ok(())
@@ -55,9 +62,7 @@ fn spaces_order_and_escapes_do_not_matter(rt: HostRuntime) -> Result<(), Fail> {
             "{\"alt\":3,\"tree\":null}",
         ),
     ] {
-        let tree = read(rt.alloc(), text.as_bytes()).map_err(|_| "no tree")?;
-        assert!(rt; json_fits(&tree));
-        let wrote = write_json(rt.alloc(), &tree).map_err(|_| "out of memory")?;
+        let wrote = written_again(rt.alloc(), text)?;
         assert_eq!(rt; wrote.as_slice(), written.as_bytes());
     }
     Ok(())

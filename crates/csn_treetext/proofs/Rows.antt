@@ -1,13 +1,16 @@
 -- The text of a row, tree by tree.
 use Rattle.std.proofs.Common.{◌≡◌, ℕ, zero, suc, ◌+◌, ◌<◌, List, [], ◌∷◌, ◌++◌, take, slice_get, Some, sym, ap, ◌∙◌, append_assoc, append-nil, arith}
+use Rattle.csn_desc.specs.declared.tree.Shape.{Shape}
+use Rattle.csn_desc.specs.declared.tree.Shape.TheVariants.{Row}
 use Rattle.csn_desc.specs.TreeV.{TreeV, trees_of}
 use Rattle.csn_desc.specs.TreeCode.{tree_size, rows_size}
+use Rattle.csn_desc.specs.ShapeView.{shape_view}
 use Rattle.csn_treetext.specs.declared.version.Version.{Version}
 use Rattle.csn_treetext.specs.Text.{text_of, row_text, rest_text}
 use Rattle.csn_desc.specs.TreeParts.{HasTreeParts, AllHaveTreeParts}
 
--- a tree of a row is smaller than the row
-pub member_size : (trees : List TreeV) (at : ℕ) (t : TreeV) → slice_get trees at ≡ Some t → tree_size t < rows_size trees
+-- a tree among others is smaller than all of them
+member_size : (trees : List TreeV) (at : ℕ) (t : TreeV) → slice_get trees at ≡ Some t → tree_size t < rows_size trees
 member_size [] at t h = absurd (cc)
 member_size (u ∷ trees) zero t h =
     let same : u ≡ t = cc in
@@ -16,6 +19,12 @@ member_size (u ∷ trees) zero t h =
 member_size (u ∷ trees) (suc at) t h =
     let inner : tree_size t < rows_size trees = member_size trees at t h in
     omega arith
+
+-- a tree of a row is smaller than the row
+pub smaller_in_row : (tree : TreeV) (shape : Shape) (rows : List TreeV) (at : ℕ) (t : TreeV) → shape_view shape ≡ tree → shape ≡ Row rows → slice_get rows at ≡ Some t → tree_size t < tree_size tree
+smaller_in_row tree shape rows at t view is get =
+    let whole : tree_size tree ≡ rows_size rows + 1 = ap tree_size (sym view) ∙ ap (λ s. tree_size (shape_view s)) is in
+    omega (arith, member_size rows at t get, whole)
 
 -- the trees up to one of them are those before it, and it
 pub take_next : {A : Type 0} (xs : List A) (at : ℕ) (x : A) → slice_get xs at ≡ Some x → take (suc at) xs ≡ take at xs ++ x ∷ []

@@ -1,12 +1,11 @@
-use Rattle.std.proofs.Common.{◌≡◌, ◌+◌, ◌++◌, ◌∷◌, [], ◌≤◌, ◌<◌, length, take, refl, ap, sym, ◌∙◌, subst, arith, rules, inl, inr, length-append}
-use Rattle.std.proofs.lemmas.Result.{err_from_is_err_and}
+use Rattle.std.proofs.Common.{◌≡◌, ◌+◌, ◌++◌, ◌∷◌, [], length, take, ap, sym, ◌∙◌, subst, arith, rules, inl, inr, length-append}
 use Rattle.csn_desc.specs.TreeV.{trees_of}
-use Rattle.serde_json.specs.Data.{boolean, number, string, array, object}
+use Rattle.serde_json.specs.Data.{boolean, number, string}
 use Rattle.serde_json.specs.View.{view, number_view, items_view, members_view}
 use Rattle.serde_json.specs.declared.value.Value.{the_lemmas}
 use Rattle.serde_json.proofs.Views.{view-Array}
 use Rattle.csn_json.specs.Reading.{IsShown, AreShown, values_in_items}
-use Rattle.csn_json.proofs.Refusals.{passed, no_room, no_truth, no_number, line_of, row_of, tag_of, known_tag, no_alternative, no_label, no_inside, no_key}
+use Rattle.csn_json.proofs.Refusals.{passed, no_room, no_truth, no_number, line_of, row_of, tag_of, known_tag, tag_refused, no_alternative, no_label, no_inside, no_key}
 use Rattle.csn_json.proofs.Rows.{next_shown, item_shown, few_items, few_in_item}
 use Rattle.csn_json.proofs.read.+tree.Goals as goal
 
@@ -22,8 +21,7 @@ rows_of-tree_of-requires t c =
 pub rows_of-returns-in_err-tree-clause-refused : goal.rows_of-returns-in_err-tree-clause-refused
 rows_of-returns-in_err-tree-clause-refused t c =
     let xs = c.deref-value-items.result.now in
-    let p = err_from_is_err_and c.from_residual.result c.from_residual.ensures.1 in
-    passed c.from_residual.result p.0 c.in_err-tree.field-0.0 p.1 p.2 (λ nothing ts all.
+    passed c.from_residual.result c.in_err-tree.field-0.0 c.from_residual.ensures.1 (λ nothing ts all.
     let here = subst (λ vs. AreShown c.args.round (items_view vs) ts) (sym c.deref-value-items.ensures.value) all in
     let found = item_shown c.args.round xs c.loop-value.value-index c.value-item.result ts (omega arith) c.value-item.is here in
     nothing found.0 found.1) c.in_err-tree.ensures.refused
@@ -59,31 +57,19 @@ tagged_of-returns-in_default-key-clause-refused t c = λ t' is.
 
 pub tagged_of-returns-in_err-number-in-alt-clause-refused : goal.tagged_of-returns-in_err-number-in-alt-clause-refused
 tagged_of-returns-in_err-number-in-alt-clause-refused t c =
-    let p = err_from_is_err_and c.from_residual.result c.from_residual.ensures.1 in
-    passed c.from_residual.result p.0 c.in_err-number-in-alt.field-0.0 p.1 p.2 (λ nothing t' is.
-    no_alternative c.args.round c.in-Some.key.now (view c.in-Some.of.now) (view c.in-Some.inside.now) c.in-alt.is nothing
-    (known_tag c.args.round (members_view c.args.members.now.entries) c.in-Some.key.now (view c.in-Some.of.now) (view c.in-Some.inside.now) c.in-Some.ensures.some t' is)) c.in_err-number-in-alt.ensures.refused
+    tag_refused c.args.round (members_view c.args.members.now.entries) c.in-Some.key.now (view c.in-Some.of.now) (view c.in-Some.inside.now) c.in-Some.ensures.some c.from_residual.result c.in_err-number-in-alt.field-0.0 c.from_residual.ensures.1 (no_alternative _ _ _ _ c.in-alt.is) c.in_err-number-in-alt.ensures.refused
 
 pub tagged_of-returns-in_err-label-in-label-clause-refused : goal.tagged_of-returns-in_err-label-in-label-clause-refused
 tagged_of-returns-in_err-label-in-label-clause-refused t c =
-    let p = err_from_is_err_and c.from_residual-in_err-label-in-label.result c.from_residual-in_err-label-in-label.ensures.1 in
-    passed c.from_residual-in_err-label-in-label.result p.0 c.in_err-label-in-label.field-0.0 p.1 p.2 (λ nothing t' is.
-    no_label c.args.round c.in-Some.key.now (view c.in-Some.of.now) (view c.in-Some.inside.now) c.in-label.is nothing
-    (known_tag c.args.round (members_view c.args.members.now.entries) c.in-Some.key.now (view c.in-Some.of.now) (view c.in-Some.inside.now) c.in-Some.ensures.some t' is)) c.in_err-label-in-label.ensures.refused
+    tag_refused c.args.round (members_view c.args.members.now.entries) c.in-Some.key.now (view c.in-Some.of.now) (view c.in-Some.inside.now) c.in-Some.ensures.some c.from_residual-in_err-label-in-label.result c.in_err-label-in-label.field-0.0 c.from_residual-in_err-label-in-label.ensures.1 (no_label _ _ _ _ c.in-label.is) c.in_err-label-in-label.ensures.refused
 
 pub tagged_of-returns-in_err-tree-in-alt-clause-refused : goal.tagged_of-returns-in_err-tree-in-alt-clause-refused
 tagged_of-returns-in_err-tree-in-alt-clause-refused t c =
-    let p = err_from_is_err_and c.from_residual-in_err-tree-in-alt.result c.from_residual-in_err-tree-in-alt.ensures.1 in
-    passed c.from_residual-in_err-tree-in-alt.result p.0 c.in_err-tree-in-alt.field-0.0 p.1 p.2 (λ nothing t' is.
-    no_inside c.args.round c.in-Some.key.now (view c.in-Some.of.now) (view c.in-Some.inside.now) nothing
-    (known_tag c.args.round (members_view c.args.members.now.entries) c.in-Some.key.now (view c.in-Some.of.now) (view c.in-Some.inside.now) c.in-Some.ensures.some t' is)) c.in_err-tree-in-alt.ensures.refused
+    tag_refused c.args.round (members_view c.args.members.now.entries) c.in-Some.key.now (view c.in-Some.of.now) (view c.in-Some.inside.now) c.in-Some.ensures.some c.from_residual-in_err-tree-in-alt.result c.in_err-tree-in-alt.field-0.0 c.from_residual-in_err-tree-in-alt.ensures.1 (no_inside _ _ _ _) c.in_err-tree-in-alt.ensures.refused
 
 pub tagged_of-returns-in_err-tree-in-label-clause-refused : goal.tagged_of-returns-in_err-tree-in-label-clause-refused
 tagged_of-returns-in_err-tree-in-label-clause-refused t c =
-    let p = err_from_is_err_and c.from_residual-in_err-tree-in-label.result c.from_residual-in_err-tree-in-label.ensures.1 in
-    passed c.from_residual-in_err-tree-in-label.result p.0 c.in_err-tree-in-label.field-0.0 p.1 p.2 (λ nothing t' is.
-    no_inside c.args.round c.in-Some.key.now (view c.in-Some.of.now) (view c.in-Some.inside.now) nothing
-    (known_tag c.args.round (members_view c.args.members.now.entries) c.in-Some.key.now (view c.in-Some.of.now) (view c.in-Some.inside.now) c.in-Some.ensures.some t' is)) c.in_err-tree-in-label.ensures.refused
+    tag_refused c.args.round (members_view c.args.members.now.entries) c.in-Some.key.now (view c.in-Some.of.now) (view c.in-Some.inside.now) c.in-Some.ensures.some c.from_residual-in_err-tree-in-label.result c.in_err-tree-in-label.field-0.0 c.from_residual-in_err-tree-in-label.ensures.1 (no_inside _ _ _ _) c.in_err-tree-in-label.ensures.refused
 
 -- ---- a value
 
@@ -93,16 +79,14 @@ tree_of-returns-then-round-eq-MOST_LEVELS-clause-refused t c = λ t' is. no_room
 pub tree_of-returns-in_err-bits_of-in-String-clause-refused : goal.tree_of-returns-in_err-bits_of-in-String-clause-refused
 tree_of-returns-in_err-bits_of-in-String-clause-refused t c =
     let seen : string c.as_bytes.result.now ≡ view c.args.value.now = rw c.in-String.is (search (rules, the_lemmas)) in
-    let p = err_from_is_err_and c.from_residual.result c.from_residual.ensures.1 in
-    passed c.from_residual.result p.0 c.in_err-bits_of-in-String.field-0.0 p.1 p.2 (λ nothing t' is.
+    passed c.from_residual.result c.in_err-bits_of-in-String.field-0.0 c.from_residual.ensures.1 (λ nothing t' is.
     let found = line_of c.args.round c.as_bytes.result.now t' (subst (λ d. IsShown c.args.round d t') (sym seen) is) in
     nothing found.0 found.1) c.in_err-bits_of-in-String.ensures.refused
 
 pub tree_of-returns-in_err-rows_of-in-Array-clause-refused : goal.tree_of-returns-in_err-rows_of-in-Array-clause-refused
 tree_of-returns-in_err-rows_of-in-Array-clause-refused t c =
     let seen = ap view c.in-Array.is ∙ view-Array c.in-Array.values in
-    let p = err_from_is_err_and c.from_residual-in_err-rows_of-in-Array.result c.from_residual-in_err-rows_of-in-Array.ensures.1 in
-    passed c.from_residual-in_err-rows_of-in-Array.result p.0 c.in_err-rows_of-in-Array.field-0.0 p.1 p.2 (λ nothing t' is.
+    passed c.from_residual-in_err-rows_of-in-Array.result c.in_err-rows_of-in-Array.field-0.0 c.from_residual-in_err-rows_of-in-Array.ensures.1 (λ nothing t' is.
     let found = row_of c.args.round (items_view c.in-Array.values.items) t' (subst (λ d. IsShown c.args.round d t') seen is) in
     nothing found.0 found.1) c.in_err-rows_of-in-Array.ensures.refused
 

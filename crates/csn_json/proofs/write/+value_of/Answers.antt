@@ -1,9 +1,8 @@
-use Rattle.std.proofs.Common.{◌≡◌, ◌+◌, length, take, ap, sym, ◌∙◌, arith}
+use Rattle.std.proofs.Common.{◌≡◌, take, ap, sym, ◌∙◌, arith}
 use Rattle.std.proofs.lemmas.List.{take_all}
-use Rattle.csn_desc.specs.TreeV.{row, trees_of}
-use Rattle.csn_desc.specs.TreeCode.{tree_size, rows_size}
+use Rattle.csn_desc.specs.TreeV.{trees_of}
 use Rattle.csn_desc.specs.ShapeView.{shape_view}
-use Rattle.csn_treetext.proofs.Rows.{member_size, have_next}
+use Rattle.csn_treetext.proofs.Rows.{smaller_in_row, have_next}
 use Rattle.serde_json.specs.Data.{array}
 use Rattle.serde_json.specs.View.{items_view}
 use Rattle.serde_json.proofs.Views.{view-Array}
@@ -13,8 +12,7 @@ use Rattle.csn_json.proofs.write.+value_of.Goals as goal
 
 pub value_of-requires : goal.value_of-requires
 value_of-requires t c =
-    let whole : tree_size c.args.tree.now ≡ rows_size c.in-Row.rows + 1 = ap tree_size (sym c.tree.view_is) ∙ ap (λ shape. tree_size (shape_view shape)) c.in-Row.is in
-    (omega (arith, member_size c.in-Row.rows c.loop-at.at c.get.result.now c.get.ensures, whole, c.decreases), tt)
+    (omega (arith, smaller_in_row _ _ c.in-Row.rows c.loop-at.at c.get.result.now c.tree.view_is c.in-Row.is c.get.ensures, c.decreases), tt)
 
 pub loop-at-preserved : goal.loop-at-preserved
 loop-at-preserved t c =

@@ -1,9 +1,8 @@
 use Rattle.std.proofs.Common.{◌≡◌, ◌+◌, ap, sym, ◌∙◌, subst, arith, suc, add-one}
 use Rattle.csn_desc.specs.TreeV.{row, trees_of}
-use Rattle.csn_desc.specs.TreeCode.{tree_size, rows_size}
 use Rattle.csn_desc.specs.ShapeView.{shape_view}
 use Rattle.csn_treetext.specs.Fits.{FitsInside, AllFitInside}
-use Rattle.csn_treetext.proofs.Rows.{member_size}
+use Rattle.csn_treetext.proofs.Rows.{smaller_in_row}
 use Rattle.csn_treetext.proofs.Fitting.{room_for, member_fits, all_from_first}
 use Rattle.csn_treetext.proofs.bounds.+fits_inside.Goals as goal
 
@@ -13,8 +12,7 @@ returns-then-round-eq-MOST_LEVELS t c =
 
 pub fits_inside-requires : goal.fits_inside-requires
 fits_inside-requires t c =
-    let whole : tree_size c.args.tree.now ≡ rows_size c.in-Row.rows + 1 = ap tree_size (sym c.tree.view_is) ∙ ap (λ shape. tree_size (shape_view shape)) c.in-Row.is in
-    (omega (arith, member_size c.in-Row.rows c.loop-at.at c.get.result.now c.get.ensures, whole, c.decreases), omega arith)
+    (omega (arith, smaller_in_row _ _ c.in-Row.rows c.loop-at.at c.get.result.now c.tree.view_is c.in-Row.is c.get.ensures, c.decreases), omega arith)
 
 pub returns-then-not-fits_inside : goal.returns-then-not-fits_inside
 returns-then-not-fits_inside t c =

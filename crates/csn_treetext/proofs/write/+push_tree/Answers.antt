@@ -1,17 +1,14 @@
-use Rattle.std.proofs.Common.{◌≡◌, ◌+◌, ap, sym, ◌∙◌, ◌++◌, List, ℕ, arith}
+use Rattle.std.proofs.Common.{ap, ◌∙◌, ◌++◌, List, ℕ, arith}
 use Rattle.csn_desc.specs.TreeV.{TreeV}
 use Rattle.csn_treetext.specs.Text.{text_of}
-use Rattle.csn_desc.specs.TreeCode.{tree_size, rows_size}
-use Rattle.csn_desc.specs.ShapeView.{shape_view}
 use Rattle.csn_treetext.specs.declared.version.Version.TheVariants.{Second}
-use Rattle.csn_treetext.proofs.Rows.{member_size, wrote_first, wrote_next, have_next}
+use Rattle.csn_treetext.proofs.Rows.{smaller_in_row, wrote_first, wrote_next, have_next}
 use Rattle.csn_treetext.proofs.write.+push_tree.Goals.{then-at-gt0+in_ok-push-in-Row-2, else-at-gt0}
 use Rattle.csn_treetext.proofs.write.+push_tree.Goals as goal
 
 pub push_tree-requires : goal.push_tree-requires
 push_tree-requires t c =
-    let whole : tree_size c.args.tree.now ≡ rows_size c.in-Row.rows + 1 = ap tree_size (sym c.tree.view_is) ∙ ap (λ shape. tree_size (shape_view shape)) c.in-Row.is in
-    (omega (arith, member_size c.in-Row.rows c.loop-at.at c.get.result.now c.get.ensures, whole, c.decreases), tt)
+    (omega (arith, smaller_in_row _ _ c.in-Row.rows c.loop-at.at c.get.result.now c.tree.view_is c.in-Row.is c.get.ensures, c.decreases), tt)
 
 pub loop-at-preserved : goal.loop-at-preserved
 loop-at-preserved t c =
