@@ -13,10 +13,10 @@ use Rattle.csn_treetext.specs.declared.stack.Frame.{Frame}
 use Rattle.csn_treetext.specs.declared.name.NameAt.{NameAt}
 use Rattle.csn_treetext.specs.Text.{is_short}
 use Rattle.csn_treetext.specs.Place.{IsTextOf, IsFaultPlace}
-use Rattle.csn_treetext.specs.reader.Mode.{Start, Done, Width, Value, Number, Name, Octets, Bare}
+use Rattle.csn_treetext.specs.reader.Mode.{Mode, Start, Done, Width, Value, Number, Name, Octets, Bare}
 use Rattle.csn_treetext.specs.reader.Numeral.{digit_of, grown, greatest_of}
 use Rattle.csn_treetext.specs.reader.Machine.{State, state, with_tree, after_number, are_many, cut_octets, upper_value, is_bit_digit, name_after, step, steps, ended}
-use Rattle.csn_treetext.specs.reader.Reading.{Comes, Stands, Grows}
+use Rattle.csn_treetext.specs.reader.Reading.{Comes, Stands, Grows, LeadsTo}
 use Rattle.csn_treetext.proofs.Numerals.{grew_next, at_most-some}
 use Rattle.csn_treetext.proofs.Names.{not_greater}
 use Rattle.csn_treetext.proofs.WholeTrees.{eqb-lt, eqb-below}
@@ -85,6 +85,14 @@ number_grows version stack number byte next e =
 
 pub value_grows : (version : Version) (width : ℕ) (stack : List Frame) → Grows version (greatest_of width) (Value width) stack
 value_grows version width stack number byte next e = ap (λ o. after_number o width number stack byte) e
+
+-- a number is read where its first digit leads to it, and each other digit grows it
+pub numeral_led :
+    (version : Version) (text : List ℕ) (from most bound first end number : ℕ) (to : ℕ → Mode) (stack : List Frame) → most ≡ bound → Grows version bound to stack
+    → (grown bound None (slice_index text from) ≡ Some first → Comes version text (from + 1) (state (to first) stack))
+    → grown most None (slice_index text from) ≡ Some first → LeadsTo most text (from + 1) first end number → Comes version text end (state (to number) stack)
+numeral_led version text from most bound first end number to stack is grows begins begun leads =
+    leads version to stack (subst (λ m. Grows version m to stack) (sym is) grows) (begins (ap (λ m. grown m None (slice_index text from)) (sym is) ∙ begun))
 
 -- ---- leaves that what follows ends
 

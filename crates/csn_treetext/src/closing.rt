@@ -5,8 +5,8 @@ ghost use Rattle.csn_treetext.specs.reader.Machine.{HasRoom, HasRoomBelow, with_
 ghost use Rattle.csn_treetext.specs.reader.Reading.{Stands, Takes, ended_with};
 
 use crate::next::{Next, Taken};
+use crate::source::Source;
 use crate::stack::{Frame, Stack};
-use crate::version::Version;
 use csn_bits::NoMemory;
 use csn_desc::{Shape, Tree};
 use std::alloc::Global;
@@ -33,20 +33,13 @@ fn with_tree(alloc: Global, stack: &mut Stack, tree: Tree) -> Result<Option<Tree
 }
 
 /// Behind a whole tree, at a place.
-pub fn close(
-    alloc: Global,
-    version: Version,
-    stack: &mut Stack,
-    tree: Tree,
-    text: &[u8],
-    end: usize,
-) -> Result<Taken, NoMemory>
-    requires within { end ≤ length text.now }
+pub fn close(source: Source, stack: &mut Stack, tree: Tree, end: usize) -> Result<Taken, NoMemory>
+    requires within { end ≤ length source.text.now }
     requires room { HasRoom stack.old }
-    requires stands { Stands version text.now end (with_tree stack.old tree) }
-    ensures { IfOk result (Takes version text.now end stack.new) }
+    requires stands { Stands source.version source.text.now end (with_tree stack.old tree) }
+    ensures { IfOk result (Takes source.entry.version source.entry.text.now end stack.new) }
 {
-    match with_tree(alloc, stack, tree)? {
+    match with_tree(source.alloc, stack, tree)? {
         Some(whole) => Ok(Taken::Whole(whole, end)),
         None => Ok(Taken::Up(Next::Behind, end)),
     }

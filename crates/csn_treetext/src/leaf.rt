@@ -10,7 +10,6 @@ ghost use Rattle.csn_treetext.specs.Text.{is_short};
 ghost use Rattle.csn_treetext.specs.reader.Machine.{cut_octets, last_octet};
 
 use crate::bounds::MOST_SHORT;
-use crate::bytes::Bytes;
 use csn_bits::{Bits, BitsFault, NoMemory};
 use csn_desc::{Shape, Tree};
 use std::alloc::Global;
@@ -69,22 +68,21 @@ pub fn push_bit(leaf: &mut Bits, bit: u8) -> Result<(), NoMemory>
 }
 
 /// The leaf of octets of whose last one the first `used` bits belong to it.
-pub fn octets_leaf(alloc: Global, octets: &Bytes, used: u8) -> Result<Tree, NoMemory>
+pub fn octets_leaf(alloc: Global, octets: &[u8], used: u8) -> Result<Tree, NoMemory>
     requires some { 1 ≤ length octets.now }
     requires few { length octets.now ≤ MOST_OCTETS }
     requires used { used ≤ 8 }
     ensures { IfOk result (λ tree. tree ≡ cut_octets octets.now used) }
 {
-    let octets = octets.as_slice();
     let len = 8 * octets.len() as u32 - 8 + u32::from(used);
     first_bits(alloc, octets, len)
 }
 
 /// The last of some octets; 0 where there are none.
-pub fn last_octet(octets: &Bytes) -> u8
+pub fn last_octet(octets: &[u8]) -> u8
     ensures { result ≡ last_octet octets.now }
 {
-    match octets.as_slice().last() {
+    match octets.last() {
         Some(last) => *last,
         None => 0,
     }

@@ -2,7 +2,6 @@
 #![tactic(auto)]
 
 mod bounds;
-mod bytes;
 mod closing;
 mod decimals;
 pub mod examples;
@@ -13,6 +12,7 @@ mod long;
 mod name;
 mod next;
 mod read;
+mod source;
 mod stack;
 mod steps;
 mod version;

@@ -10,13 +10,12 @@ ghost use Rattle.csn_treetext.specs.reader.Mode.{Octets, Slash, Bare};
 ghost use Rattle.csn_treetext.specs.reader.Reading.{Comes, Takes};
 
 use crate::bounds::MOST_OCTETS;
-use crate::bytes::Bytes;
 use crate::closing::close;
 use crate::decimals::{byte_at, stands_at};
 use crate::leaf::{is_short, last_octet, leaf, octets_leaf, push_bit};
 use crate::next::Taken;
+use crate::source::Source;
 use crate::stack::Stack;
-use crate::version::Version;
 use csn_bits::{Bits, MOST_BITS, NoMemory};
 use std::alloc::Global;
 
@@ -59,7 +58,7 @@ fn octet_at(text: &[u8], at: usize) -> Option<u8>
 
 // Octets in hexadecimal digits.
 struct OctetRun {
-    octets: Bytes,
+    octets: Vec<u8>,
     end: usize,
 }
 
@@ -67,16 +66,16 @@ struct OctetRun {
 fn octet_run(alloc: Global, text: &[u8], from: usize) -> Result<OctetRun, NoMemory>
     requires { from ≤ length text.now }
     ensures comes { IfOk result (λ run. (stack : List Frame) → Comes Second text.now from (state (Octets [] None) stack)
-        → Comes Second text.now run.end (state (Octets run.octets None) stack)) }
-    ensures stops { IfOk result (λ run. (length run.octets ≡ MOST_OCTETS) ⊎ (run.end + 1 < length text.now
+        → Comes Second text.now run.end (state (Octets run.octets.items None) stack)) }
+    ensures stops { IfOk result (λ run. (length run.octets.items ≡ MOST_OCTETS) ⊎ (run.end + 1 < length text.now
         → (upper_value (slice_index text.now run.end) ≡ None) ⊎ (upper_value (slice_index text.now (run.end + 1)) ≡ None))) }
     ensures from { IfOk result (λ run. from ≤ run.end) }
     ensures within { IfOk result (λ run. run.end ≤ length text.now) }
-    ensures few { IfOk result (λ run. length run.octets ≤ MOST_OCTETS) }
+    ensures few { IfOk result (λ run. length run.octets.items ≤ MOST_OCTETS) }
 {
-    let mut octets = Bytes::new(alloc);
+    let mut octets = Vec::new(alloc);
     let mut end = from;
-    while octets.as_slice().len() < MOST_OCTETS {
+    while octets.len() < MOST_OCTETS {
         match octet_at(text, end) {
             Some(octet) => octets.push(octet)?,
             None => return Ok(OctetRun { octets, end }),
@@ -87,19 +86,17 @@ fn octet_run(alloc: Global, text: &[u8], from: usize) -> Result<OctetRun, NoMemo
 }
 
 /// Behind `x`: the block line of a leaf.
-pub fn block_line(
-    alloc: Global,
-    stack: &mut Stack,
-    text: &[u8],
-    from: usize,
-) -> Result<Taken, NoMemory>
-    requires within { from ≤ length text.now }
+pub fn block_line(source: Source, stack: &mut Stack, from: usize) -> Result<Taken, NoMemory>
+    requires within { from ≤ length source.text.now }
+    requires second { source.version ≡ Second }
     requires room { HasRoom stack.old }
-    requires comes { Comes Second text.now from (state (Octets [] None) stack.old) }
-    ensures { IfOk result (Takes Second text.now from stack.new) }
+    requires comes { Comes Second source.text.now from (state (Octets [] None) stack.old) }
+    ensures { IfOk result (Takes source.entry.version source.entry.text.now from stack.new) }
 {
-    let OctetRun { octets, end } = octet_run(alloc, text, from)?;
-    let count = octets.as_slice().len();
+    let text = source.text;
+    let OctetRun { octets, end } = octet_run(source.alloc, text, from)?;
+    let octets = octets.as_slice();
+    let count = octets.len();
     if digit_at(text, end).is_some() {
         // the digit has no partner, or is one of an octet too many
         let place = if count < MOST_OCTETS { end + 1 } else { end };
@@ -109,10 +106,10 @@ pub fn block_line(
         return Ok(Taken::Refused(end));
     }
     if stands_at(text, end, b'/') {
-        return slash(alloc, stack, &octets, text, end);
+        return slash(source, stack, octets, end);
     }
-    let tree = octets_leaf(alloc, &octets, 8)?;
-    close(alloc, Version::Second, stack, tree, text, end)
+    let tree = octets_leaf(source.alloc, octets, 8)?;
+    close(source, stack, tree, end)
 }
 
 // How many bits of the last octet the digit at a place says to belong to the leaf.
@@ -127,32 +124,27 @@ fn used_at(text: &[u8], at: usize) -> Option<u8>
 }
 
 // The tail of a block line, whose `/` stands at a place.
-fn slash(
-    alloc: Global,
-    stack: &mut Stack,
-    octets: &Bytes,
-    text: &[u8],
-    at: usize,
-) -> Result<Taken, NoMemory>
-    requires within { at < length text.now }
+fn slash(source: Source, stack: &mut Stack, octets: &[u8], at: usize) -> Result<Taken, NoMemory>
+    requires within { at < length source.text.now }
+    requires second { source.version ≡ Second }
     requires room { HasRoom stack.old }
-    requires slash { (slice_index text.now at == 47) ≡ true }
+    requires slash { (slice_index source.text.now at == 47) ≡ true }
     requires some { 9 ≤ length octets.now }
     requires few { length octets.now ≤ MOST_OCTETS }
-    requires comes { Comes Second text.now at (state (Octets octets.now None) stack.old) }
-    ensures { IfOk result (Takes Second text.now at stack.new) }
+    requires comes { Comes Second source.text.now at (state (Octets octets.now None) stack.old) }
+    ensures { IfOk result (Takes source.entry.version source.entry.text.now at stack.new) }
 {
     if last_octet(octets) % 2 != 0 {
         return Ok(Taken::Refused(at));
     }
-    let Some(used) = used_at(text, at + 1) else {
+    let Some(used) = used_at(source.text, at + 1) else {
         return Ok(Taken::Refused(at + 1));
     };
     if last_octet(octets) % (1 << (8 - used)) != 0 {
         return Ok(Taken::Refused(at + 1));
     }
-    let tree = octets_leaf(alloc, octets, used)?;
-    close(alloc, Version::Second, stack, tree, text, at + 2)
+    let tree = octets_leaf(source.alloc, octets, used)?;
+    close(source, stack, tree, at + 2)
 }
 
 // The bit whose digit stands at a place.
@@ -194,23 +186,19 @@ fn bit_run(alloc: Global, text: &[u8], from: usize) -> Result<BitRun, NoMemory>
 }
 
 /// Behind `b` in the first version: the bits of a leaf as digits.
-pub fn bit_digits(
-    alloc: Global,
-    stack: &mut Stack,
-    text: &[u8],
-    from: usize,
-) -> Result<Taken, NoMemory>
-    requires within { from ≤ length text.now }
+pub fn bit_digits(source: Source, stack: &mut Stack, from: usize) -> Result<Taken, NoMemory>
+    requires within { from ≤ length source.text.now }
+    requires first { source.version ≡ First }
     requires room { HasRoom stack.old }
-    requires comes { Comes First text.now from (state (Bare []) stack.old) }
-    ensures { IfOk result (Takes First text.now from stack.new) }
+    requires comes { Comes First source.text.now from (state (Bare []) stack.old) }
+    ensures { IfOk result (Takes source.entry.version source.entry.text.now from stack.new) }
 {
-    let BitRun { bits, end } = bit_run(alloc, text, from)?;
+    let BitRun { bits, end } = bit_run(source.alloc, source.text, from)?;
     if is_short(&bits) {
         return Ok(Taken::Refused(end));
     }
-    if bit_at(text, end).is_some() {
+    if bit_at(source.text, end).is_some() {
         return Ok(Taken::Refused(end));
     }
-    close(alloc, Version::First, stack, leaf(bits), text, end)
+    close(source, stack, leaf(bits), end)
 }

@@ -10,8 +10,8 @@ ghost use Rattle.csn_treetext.specs.reader.Reading.{Comes, Takes};
 
 use crate::decimals::stands_at;
 use crate::next::{Next, Taken};
+use crate::source::Source;
 use crate::stack::{Frame, Stack};
-use crate::version::Version;
 use csn_bits::NoMemory;
 use csn_desc::{Label, LabelFault};
 use std::alloc::Global;
@@ -87,23 +87,18 @@ fn new_label(alloc: Global, words: &[u8]) -> Result<Label, NoMemory>
 }
 
 /// Behind `<`: a label, `>` and `=`.
-pub fn name(
-    alloc: Global,
-    version: Version,
-    stack: &mut Stack,
-    text: &[u8],
-    from: usize,
-) -> Result<Taken, NoMemory>
-    requires within { from ≤ length text.now }
+pub fn name(source: Source, stack: &mut Stack, from: usize) -> Result<Taken, NoMemory>
+    requires within { from ≤ length source.text.now }
     requires room { HasRoom stack.old }
-    requires comes { Comes version text.now from (state (Name [] NameAt.Front) stack.old) }
-    ensures { IfOk result (Takes version text.now from stack.new) }
+    requires comes { Comes source.version source.text.now from (state (Name [] NameAt.Front) stack.old) }
+    ensures { IfOk result (Takes source.entry.version source.entry.text.now from stack.new) }
 {
+    let text = source.text;
     let (stands, end) = name_end(text, from);
     if !stands.may_end() || !stands_at(text, end, b'>') {
         return Ok(Taken::Refused(end));
     }
-    let label = new_label(alloc, &text[from..end])?;
+    let label = new_label(source.alloc, &text[from..end])?;
     if !stands_at(text, end + 1, b'=') {
         return Ok(Taken::Refused(end + 1));
     }

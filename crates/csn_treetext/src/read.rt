@@ -5,6 +5,7 @@ ghost use Rattle.csn_treetext.specs.Place.{IsTextOf, TreeText, OldText, IsFaultO
 
 use crate::fault::TextFault;
 use crate::next::{Next, Taken};
+use crate::source::Source;
 use crate::stack::Stack;
 use crate::steps::take;
 use crate::version::Version;
@@ -34,11 +35,16 @@ fn read_text(alloc: Global, version: Version, text: &[u8]) -> Result<Tree, TextF
     ensures ok { IfOk result (λ tree. IsTextOf version tree text.now) }
     ensures refused { IfErr result (λ fault. IsFaultOf version text.now fault) }
 {
+    let source = Source {
+        alloc,
+        version,
+        text,
+    };
     let mut stack = Stack::new(alloc);
     let mut next = Next::Start;
     let mut at = 0;
     while at < text.len() {
-        match take(alloc, version, &mut stack, next, text, at)? {
+        match take(source, &mut stack, next, at)? {
             Taken::Up(other, end) => {
                 next = other;
                 at = end;

@@ -13,12 +13,12 @@ loop-octet-preserved c =
     let (begins, within, few, comes) = c.loop-octet.invariant in
     let (low, octet) = c.in-Some.ensures.some in
     let (high, other, first, second, is) = octet in
-    let room : length c.loop-octet.octets < MOST_OCTETS = omega (arith, c.loop-octet-test.true, ap length c.as_slice.ensures) in
-    let gathered : c.push.new.self ≡ c.loop-octet.octets ++ (16 * high + other) ∷ [] = c.in_ok-push-in-Some.ensures ∙ ap (λ o. c.loop-octet.octets ++ o ∷ []) is in (
+    let room : length c.loop-octet.octets.items < MOST_OCTETS = omega (arith, c.loop-octet-test.true) in
+    let gathered : c.push.new.self.items ≡ c.loop-octet.octets.items ++ (16 * high + other) ∷ [] = c.in_ok-push-in-Some.ensures.items ∙ ap (λ o. c.loop-octet.octets.items ++ o ∷ []) is in (
       omega arith,
       omega arith,
-      omega (arith, ap length gathered, length_push c.loop-octet.octets (16 * high + other), room),
+      omega (arith, ap length gathered, length_push c.loop-octet.octets.items (16 * high + other), room),
       λ stack e.
           subst (λ l. Comes Second c.args.text.now (c.loop-octet.end + 2) (state (Octets l None) stack)) (sym gathered)
-          (octet_more c.args.text.now c.loop-octet.end c.loop-octet.octets high other stack (comes stack e) low first second room),
+          (octet_more c.args.text.now c.loop-octet.end c.loop-octet.octets.items high other stack (comes stack e) low first second room),
     )
