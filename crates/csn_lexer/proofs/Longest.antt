@@ -3,12 +3,13 @@ use Rattle.std.proofs.Common.{◌≡◌, ℕ, ◌+◌, ◌<◌, ◌≤◌, true,
 use Rattle.std.specs.Prelude.{nat_eq}
 use Rattle.std.proofs.lemmas.Bool.{cases_lt, ne_eqb}
 use Rattle.std.proofs.lemmas.Option.{get_or_from_slice_get, slice_get-get_or, slice_get_within}
+use Rattle.csn_lexer.specs.declared.token.Token.{Token}
 use Rattle.csn_lexer.specs.declared.token.TokenKind.{TokenKind}
 use Rattle.csn_lexer.specs.declared.token.TokenKind.TheVariants.{Colon, Define, Star, StarStar, SlashSlash, Word}
 use Rattle.csn_lexer.specs.Word.{begins_word, is_word_tail}
 use Rattle.csn_lexer.specs.Spelling.{IsSpelled}
 use Rattle.csn_lexer.specs.Symbol.{StandsAlone, BeginsNoSign}
-use Rattle.csn_lexer.specs.Tokens.{IsLongest, BeginsNoToken}
+use Rattle.csn_lexer.specs.Tokens.{IsLongest, IsTokenAt, BeginsNoToken}
 use Rattle.csn_lexer.proofs.Pieces.{slice_range_more, slice_range_none}
 use Rattle.csn_lexer.proofs.OneKind.{kind_of, no_kind, stars_more, slashes_more, define_more, star_more, slash_more, colon_more, colons_more, word_more}
 
@@ -47,6 +48,11 @@ other_byte : (text : List ℕ) (at b : ℕ) → at < length text → (slice_get 
 other_byte text at b inside differs =
     ne_eqb (get_or text at 0) b (λ e. differs (slice_get-get_or text at 0 inside ∙ ap (λ x. Some x) e))
 
+-- a token that begins where it is looked for
+pub token_here : {text : List ℕ} {at end : ℕ} {k : TokenKind} {t : Token} → t ≡ record { kind = k; start = at; end = end }
+    → IsLongest text (record { kind = k; start = at; end = end }) → IsTokenAt text at t
+token_here {text = text} is longest = (ap (λ (t : Token). t.start) is, subst (IsLongest text) (sym is) longest)
+
 pub lone_longest : (text : List ℕ) (k : TokenKind) (at : ℕ) → at < length text → StandsAlone k (get_or text at 0)
     → IsLongest text (record { kind = k; start = at; end = at + 1 })
 lone_longest text k at inside alone = record {
@@ -68,18 +74,25 @@ triple text at inside =
     three text at (at + 3) (omega arith) (omega arith)
     ∙ ap (λ r. get_or text at 0 ∷ get_or text (at + 1) 0 ∷ get_or text (at + 2) 0 ∷ r) (slice_range_none text (at + 3))
 
-pub stars_longest : (text : List ℕ) (at : ℕ) → get_or text at 0 ≡ 42 → slice_get text (at + 1) ≡ Some 42
-    → IsLongest text (record { kind = StarStar; start = at; end = at + 2 })
-stars_longest text at star second =
-    let room : at + 1 < length text = slice_get_within text (at + 1) 42 second in
-    let again : get_or text (at + 1) 0 ≡ 42 = get_or_from_slice_get text (at + 1) 42 0 second in
+-- two bytes that are one are a token, where with another behind them they are none
+twice_longest : (k : TokenKind) (b : ℕ) → IsSpelled k (b ∷ b ∷ []) → ((z : ℕ) (rest : List ℕ) → kind_of (b ∷ b ∷ z ∷ rest) ≡ None)
+    → (text : List ℕ) (at : ℕ) → get_or text at 0 ≡ b → slice_get text (at + 1) ≡ Some b
+    → IsLongest text (record { kind = k; start = at; end = at + 2 })
+twice_longest k b spells more text at first second =
+    let room : at + 1 < length text = slice_get_within text (at + 1) b second in
+    let again : get_or text (at + 1) 0 ≡ b = get_or_from_slice_get text (at + 1) b 0 second in
+    let both : slice_range text at (at + 2) ≡ b ∷ b ∷ [] = pair text at room ∙ cc in
     record {
       begins = omega arith;
       within = omega arith;
-      spelled = pair text at room ∙ cc;
-      longest = λ m past within. none_at text at m (42 ∷ 42 ∷ get_or text (at + 2) 0 ∷ slice_range text (at + 3) m)
-          (three text at m past within ∙ cc) (stars_more (get_or text (at + 2) 0) (slice_range text (at + 3) m));
+      spelled = subst (IsSpelled k) (sym both) spells;
+      longest = λ m past within. none_at text at m (b ∷ b ∷ get_or text (at + 2) 0 ∷ slice_range text (at + 3) m)
+          (three text at m past within ∙ cc) (more (get_or text (at + 2) 0) (slice_range text (at + 3) m));
     }
+
+pub stars_longest : (text : List ℕ) (at : ℕ) → get_or text at 0 ≡ 42 → slice_get text (at + 1) ≡ Some 42
+    → IsLongest text (record { kind = StarStar; start = at; end = at + 2 })
+stars_longest = twice_longest StarStar 42 refl stars_more
 
 pub star_longest : (text : List ℕ) (at : ℕ) → at < length text → get_or text at 0 ≡ 42
     → (slice_get text (at + 1) ≡ Some 42 → ⊥)
@@ -95,16 +108,7 @@ star_longest text at inside star other = record {
 
 pub slashes_longest : (text : List ℕ) (at : ℕ) → get_or text at 0 ≡ 47 → slice_get text (at + 1) ≡ Some 47
     → IsLongest text (record { kind = SlashSlash; start = at; end = at + 2 })
-slashes_longest text at slash second =
-    let room : at + 1 < length text = slice_get_within text (at + 1) 47 second in
-    let again : get_or text (at + 1) 0 ≡ 47 = get_or_from_slice_get text (at + 1) 47 0 second in
-    record {
-      begins = omega arith;
-      within = omega arith;
-      spelled = pair text at room ∙ cc;
-      longest = λ m past within. none_at text at m (47 ∷ 47 ∷ get_or text (at + 2) 0 ∷ slice_range text (at + 3) m)
-          (three text at m past within ∙ cc) (slashes_more (get_or text (at + 2) 0) (slice_range text (at + 3) m));
-    }
+slashes_longest = twice_longest SlashSlash 47 refl slashes_more
 
 pub slash_none : (text : List ℕ) (at : ℕ) → at < length text → get_or text at 0 ≡ 47
     → (slice_get text (at + 1) ≡ Some 47 → ⊥) → BeginsNoToken text at

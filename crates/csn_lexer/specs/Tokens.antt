@@ -15,6 +15,10 @@ pub record IsLongest (text : List ℕ) (t : Token) : Type 0 where
   pub longest : (m : ℕ) → t.end < m → m ≤ length text
       → (k : TokenKind) → ¬ IsSpelled k (slice_range text t.start m)
 
+-- the token begins at this place, and is the longest there
+abbrev pub IsTokenAt : List ℕ → ℕ → Token → Type 0
+IsTokenAt text at t = (t.start ≡ at) × IsLongest text t
+
 -- no piece from this place on is a token
 abbrev pub BeginsNoToken : List ℕ → ℕ → Type 0
 BeginsNoToken text at =

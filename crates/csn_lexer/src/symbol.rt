@@ -6,7 +6,7 @@ ghost use Rattle.csn_lexer.specs.declared.token.TheConstants.{MOST_TEXT};
 ghost use Rattle.csn_lexer.specs.declared.token.TokenKind.{TokenKind};
 ghost use Rattle.csn_lexer.specs.Spelling.{IsSpelled};
 ghost use Rattle.csn_lexer.specs.Symbol.{BeginsNoSign, StandsAlone};
-ghost use Rattle.csn_lexer.specs.Tokens.{IsLongest, BeginsNoToken};
+ghost use Rattle.csn_lexer.specs.Tokens.{IsTokenAt, BeginsNoToken};
 ghost use Rattle.csn_lexer.specs.Word.{begins_word};
 
 use crate::token::{Token, TokenKind};
@@ -64,8 +64,7 @@ fn colon_at(text: &[u8], at: usize) -> Token
     requires limit { length text.now ≤ MOST_TEXT }
     requires inside { at < length text.now }
     requires sign { slice_index text.now at ≡ COLON }
-    ensures start { result.start ≡ at }
-    ensures longest { IsLongest text.now result }
+    ensures { IsTokenAt text.now at result }
 {
     if is_at(text, at + 1, COLON) && is_at(text, at + 2, b'=') {
         token_of(TokenKind::Define, at, at + 3)
@@ -79,8 +78,7 @@ fn star_at(text: &[u8], at: usize) -> Token
     requires limit { length text.now ≤ MOST_TEXT }
     requires inside { at < length text.now }
     requires sign { slice_index text.now at ≡ STAR }
-    ensures start { result.start ≡ at }
-    ensures longest { IsLongest text.now result }
+    ensures { IsTokenAt text.now at result }
 {
     if is_at(text, at + 1, STAR) {
         token_of(TokenKind::StarStar, at, at + 2)
@@ -95,7 +93,7 @@ fn slashes_at(text: &[u8], at: usize) -> Option<Token>
     requires inside { at < length text.now }
     requires sign { slice_index text.now at ≡ SLASH }
     ensures none { IfNone result (BeginsNoToken text.now at) }
-    ensures some { IfSome result (λ t. (t.start ≡ at) × IsLongest text.now t) }
+    ensures some { IfSome result (IsTokenAt text.now at) }
 {
     if is_at(text, at + 1, SLASH) {
         Some(token_of(TokenKind::SlashSlash, at, at + 2))
@@ -109,8 +107,7 @@ fn word_at(text: &[u8], at: usize) -> Token
     requires limit { length text.now ≤ MOST_TEXT }
     requires inside { at < length text.now }
     requires begins { IsTrue (begins_word (slice_index text.now at)) }
-    ensures start { result.start ≡ at }
-    ensures longest { IsLongest text.now result }
+    ensures { IsTokenAt text.now at result }
 {
     token_of(TokenKind::Word, at, word_end(text, at + 1))
 }
@@ -120,8 +117,7 @@ fn lone_symbol_at(text: &[u8], at: usize, kind: TokenKind) -> Token
     requires limit { length text.now ≤ MOST_TEXT }
     requires inside { at < length text.now }
     requires alone { StandsAlone kind (slice_index text.now at) }
-    ensures start { result.start ≡ at }
-    ensures longest { IsLongest text.now result }
+    ensures { IsTokenAt text.now at result }
 {
     token_of(kind, at, at + 1)
 }
@@ -131,7 +127,7 @@ pub fn token_at(text: &[u8], at: usize) -> Option<Token>
     requires limit { length text.now ≤ MOST_TEXT }
     requires inside { at < length text.now }
     ensures none { IfNone result (BeginsNoToken text.now at) }
-    ensures some { IfSome result (λ t. (t.start ≡ at) × IsLongest text.now t) }
+    ensures some { IfSome result (IsTokenAt text.now at) }
 {
     match text[at] {
         COLON => Some(colon_at(text, at)),
