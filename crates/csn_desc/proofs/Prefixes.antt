@@ -6,7 +6,7 @@ use Rattle.csn_desc.specs.Nodes.{DescV}
 use Rattle.csn_desc.specs.Values.{Values}
 use Rattle.csn_desc.specs.Means.{NMeans, NodeMeans, PartsMean, TimesMean, ManyMean, LeadMean, means_at, means_lits, means_spare, means_pad, means_null, means_field, means_rest, means_seq, means_choice, means_times, means_many, means_cut, means_trunc, means_window, means_named, parts_end, parts_next, times_end, times_next, many_end, many_next, lead_last, lead_next}
 use Rattle.csn_desc.specs.Follows.{NFollow, NodeFollows, PartsFollow, TimesFollow, ManyFollow, follows_at, follows_whole, follows_lits, follows_spare, follows_pad, follows_field, follows_seq, follows_choice, follows_times, follows_many, follows_trunc, follows_window, follows_named, parts_here, parts_later, times_here, times_later, many_here, many_later}
-use Rattle.csn_desc.proofs.Splits.{inside, behind, splits, front_empty, cut_again}
+use Rattle.csn_desc.proofs.Splits.{inside, behind, splits, front_begun, front_empty, cut_again}
 use Rattle.csn_desc.proofs.BitFacts.{IsBits-front, IsBits-along}
 
 module _ (d : DescV) where
@@ -48,35 +48,20 @@ module _ (d : DescV) where
     parts_begin : {parts : List ℕ} {o : ℕ} {v : Values} {w : List ℕ} {ts : Trees} → PartsMean d parts o v w ts → (b c : List ℕ) → w ≡ b ++ c → PartsBegun parts o v b
     parts_begin (parts_end h) b c e = inr (none, parts_end (front_empty b c (sym e ∙ h)))
     parts_begin (parts_next {t = t} b1 b2 cut h more_parts) b c e =
-        elim (splits b1 b2 b c (sym cut ∙ e)) [
-          | inside m p q ↦ inl (parts_here (begins h b m p))
-          | behind m p q ↦ elim (parts_begin more_parts m c q) [
-            | inl f ↦ inl (parts_later b1 m p h f)
-            | inr whole ↦ inr (more t whole.0, parts_next b1 m p h whole.1)
-          ]
-        ]
+        front_begun b1 b2 b c (sym cut ∙ e) (λ m p. inl (parts_here (begins h b m p))) (λ m q. parts_begin more_parts m c q)
+        (λ m p f. inl (parts_later b1 m p h f)) (λ m p ts are. inr (more t ts, parts_next b1 m p h are))
 
     times_begin : {n i o : ℕ} {v : Values} {w : List ℕ} {ts : Trees} → TimesMean d n i o v w ts → (b c : List ℕ) → w ≡ b ++ c → TimesBegun n i o v b
     times_begin (times_end zero h) b c e = inr (none, times_end zero (front_empty b c (sym e ∙ h)))
     times_begin (times_next {t = t} m is b1 b2 cut h others) b c e =
-        elim (splits b1 b2 b c (sym cut ∙ e)) [
-          | inside r p q ↦ inl (times_here (omega arith) (begins h b r p))
-          | behind r p q ↦ elim (times_begin others r c q) [
-            | inl f ↦ inl (times_later m is b1 r p h f)
-            | inr whole ↦ inr (more t whole.0, times_next m is b1 r p h whole.1)
-          ]
-        ]
+        front_begun b1 b2 b c (sym cut ∙ e) (λ r p. inl (times_here (omega arith) (begins h b r p))) (λ r q. times_begin others r c q)
+        (λ r p f. inl (times_later m is b1 r p h f)) (λ r p ts are. inr (more t ts, times_next m is b1 r p h are))
 
     many_begin : {i o : ℕ} {v : Values} {w : List ℕ} {ts : Trees} → ManyMean d i o v w ts → (b c : List ℕ) → w ≡ b ++ c → ManyBegun i o v b
     many_begin (many_end h) b c e = inr (none, many_end (front_empty b c (sym e ∙ h)))
     many_begin (many_next {t = t} b1 b2 cut some h others) b c e =
-        elim (splits b1 b2 b c (sym cut ∙ e)) [
-          | inside r p q ↦ inl (many_here (begins h b r p))
-          | behind r p q ↦ elim (many_begin others r c q) [
-            | inl f ↦ inl (many_later b1 r p some h f)
-            | inr whole ↦ inr (more t whole.0, many_next b1 r p some h whole.1)
-          ]
-        ]
+        front_begun b1 b2 b c (sym cut ∙ e) (λ r p. inl (many_here (begins h b r p))) (λ r q. many_begin others r c q)
+        (λ r p f. inl (many_later b1 r p some h f)) (λ r p ts are. inr (more t ts, many_next b1 r p some h are))
 
     lead_begins : {parts : List ℕ} {o : ℕ} {v : Values} {w : List ℕ} {ts : Trees} → LeadMean d parts o v w ts → (b c : List ℕ) → w ≡ b ++ c → PartsFollow d parts o v b
     lead_begins (lead_last some h) b c e = parts_here (begins h b c e)

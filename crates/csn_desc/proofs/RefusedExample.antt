@@ -9,6 +9,7 @@ use Rattle.csn_desc.specs.Means.{NodeMeans, PartsMean, means_lits, means_field, 
 use Rattle.csn_desc.specs.Follows.{NFollow, NodeFollows, PartsFollow, follows_at, follows_whole, follows_lits, follows_field, follows_seq, follows_named, parts_here, parts_later}
 use Rattle.csn_desc.specs.Examples.{A, fields, octet_B5, B5IsRefusedAtThree}
 use Rattle.csn_desc.proofs.Nodewise.{meaning_at, follow_at}
+use Rattle.csn_desc.proofs.Splits.{behind_front}
 use Rattle.csn_desc.proofs.Prefixes.{prefix_followed, string_followed}
 
 -- the field of A has three bits
@@ -37,11 +38,7 @@ literal_begins_zero {bit = bit} {b = b} (follows_lits whole rest cut h) =
 
 -- behind three bits of these four stands a 1
 one_behind : (b1 b2 : List ℕ) → 1 ∷ 0 ∷ 1 ∷ 1 ∷ [] ≡ b1 ++ b2 → length b1 ≡ 3 → b2 ≡ 1 ∷ []
-one_behind [] b2 cut three = absurd (omega arith)
-one_behind (x ∷ []) b2 cut three = absurd (omega arith)
-one_behind (x ∷ y ∷ []) b2 cut three = absurd (omega arith)
-one_behind (x ∷ y ∷ z ∷ []) b2 cut three = cc
-one_behind (x ∷ y ∷ z ∷ w ∷ b) b2 cut three = absurd (omega arith)
+one_behind b1 b2 = behind_front (1 ∷ 0 ∷ 1 ∷ 1 ∷ []) b1 b2 3
 
 -- the rest of the description does not begin with a 1
 no_one_means : {o : ℕ} {v : Values} {b : List ℕ} {t : _} → PartsMean fields (3 ∷ 4 ∷ []) o v b t → b ≡ 1 ∷ [] → ⊥
