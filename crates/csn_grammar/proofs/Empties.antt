@@ -1,5 +1,5 @@
 -- A well-formed expression follows the empty bits, where the labels that it sees have values.
-use Rattle.std.proofs.Common.{◌≡◌, ℕ, zero, suc, ◌+◌, ◌*◌, List, [], ◌∷◌, inl, inr, refl, ap, subst, arith, Some, None}
+use Rattle.std.proofs.Common.{◌≡◌, ℕ, zero, suc, ◌+◌, ◌*◌, List, [], ◌∷◌, inl, inr, refl, arith, Some, None}
 use Rattle.std.specs.Prelude.{replicate, IsSome}
 use Rattle.std.proofs.lemmas.List.{length-replicate}
 use Rattle.csn_desc.specs.declared.reading.Reading.{Reading}
@@ -14,11 +14,11 @@ use Rattle.csn_grammar.specs.ExprV.{ExprV, expr, power, ExprsV}
 use Rattle.csn_grammar.specs.RulesV.{RulesV}
 use Rattle.csn_grammar.specs.Forms.{unit_of}
 use Rattle.csn_grammar.specs.Environment.{Env, value_of, count_of}
-use Rattle.csn_grammar.specs.Void.{Void, SomeVoid, void_none, void_name, void_group, void_labelled, void_window, void_seq, void_choice, void_received, void_sent, void_here, void_later}
+use Rattle.csn_grammar.specs.Void.{Void, SomeVoid, void_group, void_labelled, void_seq, void_choice, void_here, void_later}
 use Rattle.csn_grammar.specs.Meaning.{means_lits, means_null, means_bit, means_octet, means_field, means_rest, means_spare_bit, means_spare_low, means_padding, means_seq, means_times, means_many, means_cut_all, items_end, times_end, many_end}
 use Rattle.csn_grammar.specs.Follow.{Follow, RuleFollows, follows_whole, follows_leaf, follows_seq, follows_choice, follows_times, follows_window, follows_labelled, follows_name, follows_group, follows_received, follows_sent, items_here, times_here, follows_plain, follows_tail}
 use Rattle.csn_grammar.specs.Formed.{IsCount, Formed, ItemsFormed, RuleFormed, HaveValues, formed_lits, formed_null, formed_bit, formed_octet, formed_field, formed_rest, formed_spare_bit, formed_spare_low, formed_padding, formed_seq, formed_choice, formed_times, formed_many, formed_cut, formed_window, formed_labelled, formed_name, formed_group, formed_received, formed_sent, formed_end, formed_next, each_next, formed_plain, formed_tail}
-use Rattle.csn_grammar.proofs.VoidFacts.{same_window, same_rule, none_kept, tail_void, spare_bit_full, spare_low_full, padding_full, no_string_full}
+use Rattle.csn_grammar.proofs.VoidFacts.{none_kept, tail_void, spare_bit_full, spare_low_full, padding_full, part_void, body_void, left_void, right_void}
 use Rattle.csn_grammar.proofs.Prefixes.{field_leaf, spare_bit_name, spare_low_name, padding_name, ItemsBegun, begun}
 use Rattle.csn_bits.proofs.Packing.{IsBits-zeros}
 
@@ -35,9 +35,6 @@ has_count seen env (Linear m label c) values is = found (value_of env label) ref
     found (Some x) e some = (m * x + c, rw e refl)
 
 module _ (rules : RulesV) (r : Reading) where
-  along : {x y : ExprV} → x ≡ y → Void rules r x → Void rules r y
-  along e v = let P : ExprV → Type 0 = λ z. Void rules r z in subst P e v
-
   -- ---- what is well formed is not empty of strings
 
   mutual
@@ -56,17 +53,12 @@ module _ (rules : RulesV) (r : Reading) where
     formed_full (formed_times is count h) v = elim v [ ]
     formed_full (formed_many is h) v = elim v [ ]
     formed_full (formed_cut h) v = elim v [ ]
-    formed_full (formed_window {x = x} {y = y} w at count h) (void_window v is void) =
-        formed_full h (along (ap (λ q. q.part) (same_window x y is at)) void)
+    formed_full (formed_window w at count h) v = formed_full h (part_void rules r at v)
     formed_full (formed_labelled h) (void_labelled v) = formed_full h v
-    formed_full (formed_name {n = n} rule at h) (void_none p) = no_string_full rules r n rule p at
-    formed_full (formed_name {n = n} rule at h) (void_name other is v) =
-        rule_formed_full h (along (ap (λ q. q.body) (same_rule rules n is at)) v)
+    formed_full (formed_name rule at h) v = rule_formed_full h (body_void rules r at v)
     formed_full (formed_group h) (void_group v) = formed_full h v
-    formed_full (formed_received is h) (void_received q v) = formed_full h v
-    formed_full (formed_received is h) (void_sent q v) = cc
-    formed_full (formed_sent is h) (void_received q v) = cc
-    formed_full (formed_sent is h) (void_sent q v) = formed_full h v
+    formed_full (formed_received is h) v = formed_full h (left_void rules r is v)
+    formed_full (formed_sent is h) v = formed_full h (right_void rules r is v)
 
     items_formed_full : {seen : List (List ℕ)} {xs : ExprsV} → ItemsFormed rules r seen xs
         → SomeVoid rules r xs → ⊥

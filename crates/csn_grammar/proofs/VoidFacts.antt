@@ -1,14 +1,16 @@
 -- What is empty of strings means no bits and follows none, and the alternatives of a choice are kept in one
 -- way.
-use Rattle.std.proofs.Common.{◌≡◌, ℕ, true, false, List, [], ◌∷◌, refl, sym, ◌∙◌, ap, subst, codes, Option, Some, None}
-use Rattle.std.specs.Prelude.{slice_get}
+use Rattle.std.proofs.Common.{◌≡◌, ℕ, Bool, true, false, List, [], ◌∷◌, refl, sym, ◌∙◌, ap, subst, codes, Option, Some, None}
+use Rattle.std.specs.Prelude.{slice_get, if◌then◌else◌}
+use Rattle.std.specs.List.{find}
 use Rattle.std.specs.Option.{option_or}
 use Rattle.csn_desc.specs.declared.reading.Reading.{Reading}
+use Rattle.csn_desc.specs.declared.reading.Reading.TheVariants.{Received, Sent}
 use Rattle.csn_desc.specs.TreeV.{TreeV, Trees}
 use Rattle.csn_grammar.specs.declared.rules.Rule.{Rule}
-use Rattle.csn_grammar.specs.ExprV.{ExprV, expr, lits, name, group, seq, choice, ExprsV, no_item, item, BranchesV, no_branch, branch}
+use Rattle.csn_grammar.specs.ExprV.{ExprV, expr, lits, name, group, seq, choice, both, sends, ExprsV, no_item, item, BranchesV, no_branch, branch}
 use Rattle.csn_grammar.specs.RulesV.{RulesV}
-use Rattle.csn_grammar.specs.Names.{is_built_in, rule_of}
+use Rattle.csn_grammar.specs.Names.{same_name, is_built_in, rule_of}
 use Rattle.csn_grammar.specs.Forms.{WindowV, window_of}
 use Rattle.csn_grammar.specs.Environment.{Frame, Env}
 use Rattle.csn_grammar.specs.TailForm.{WordV, EndV, TailV, word_of, again_of, end_with, end_of, last_item, front_items, tail_of_body}
@@ -28,6 +30,32 @@ same_window x y p q = cc
 pub same_rule : (rules : RulesV) (n : List ℕ) {a b : Rule} → rule_of rules n ≡ Some a
     → rule_of rules n ≡ Some b → a ≡ b
 same_rule rules n p q = cc
+
+-- ---- the rule of a name is one of the rules
+
+found_has :
+    (P : Rule → Type 0) (Each : RulesV → Type 0) → ((first : Rule) (rest : RulesV) → Each (first ∷ rest) → P first × Each rest)
+    → (rules : RulesV) (n : List ℕ) (rule : Rule) → Each rules → find (λ rule. same_name rule.name n) rules ≡ Some rule → P rule
+found_has P Each split [] n rule h at = absurd (cc)
+found_has P Each split (first ∷ rules) n rule h at =
+    here (same_name first.name n) at (found_has P Each split rules n rule (split first rules h).1)
+  where
+    here :
+        (b : Bool)
+        → (if b then Some first else find (λ rule. same_name rule.name n) rules) ≡ Some rule
+        → (find (λ rule. same_name rule.name n) rules ≡ Some rule → P rule) → P rule
+    here true is later = let same : first ≡ rule = cc in subst P same (split first rules h).0
+    here false is later = later is
+
+-- what holds of each rule holds of the rule of a name
+pub rule_has :
+    (P : Rule → Type 0) (Each : RulesV → Type 0) → ((first : Rule) (rest : RulesV) → Each (first ∷ rest) → P first × Each rest)
+    → (rules : RulesV) (n : List ℕ) (rule : Rule) → Each rules → rule_of rules n ≡ Some rule → P rule
+rule_has P Each split rules n rule h at = by_name (is_built_in n) at
+  where
+    by_name : (b : Bool) → (if b then None else find (λ rule. same_name rule.name n) rules) ≡ Some rule → P rule
+    by_name true is = absurd (cc)
+    by_name false is = found_has P Each split rules n rule h is
 
 module _ (rules : RulesV) (r : Reading) where
   along : {x y : ExprV} → x ≡ y → Void rules r x → Void rules r y
@@ -115,7 +143,7 @@ module _ (rules : RulesV) (r : Reading) where
   tail_void n (expr s e (seq (item x (item y ys)))) tail p (void_seq v) = tail_found n x y ys tail p v
   tail_void n x tail p v = cc
 
-  -- ---- no meaning
+  -- ---- names that are built in
 
   spare_full : {s e : ℕ} (n m : List ℕ) → n ≡ m → is_built_in m ≡ true → (m ≡ codes "no string" → ⊥)
       → Void rules r (expr s e (name n)) → ⊥
@@ -137,6 +165,30 @@ module _ (rules : RulesV) (r : Reading) where
   pub no_string_full : (n : List ℕ) (rule : Rule) → n ≡ codes "no string" → rule_of rules n ≡ Some rule → ⊥
   no_string_full n rule p at = no_rule rules (codes "no string") rule refl (sym (ap (rule_of rules) p) ∙ at)
 
+  -- ---- the part that makes a form empty of strings
+
+  -- of a window, the part whose width the other side says
+  pub part_void : {s e : ℕ} {x y : ExprV} {w : WindowV} → window_of x y ≡ Some w → Void rules r (expr s e (both x y))
+      → Void rules r w.part
+  part_void {x = x} {y = y} at (void_window v is void) = along (ap (λ q. q.part) (same_window x y is at)) void
+
+  -- of a name, what its rule says
+  pub body_void : {s e : ℕ} {n : List ℕ} {rule : Rule} → rule_of rules n ≡ Some rule → Void rules r (expr s e (name n))
+      → Void rules r rule.body
+  body_void {n = n} {rule = rule} at (void_none p) = absurd (no_string_full n rule p at)
+  body_void {n = n} at (void_name other is v) = along (ap (λ q. q.body) (same_rule rules n is at)) v
+
+  -- of `x = y`, the side of the reading
+  pub left_void : {s e : ℕ} {x y : ExprV} → r ≡ Received → Void rules r (expr s e (sends x y)) → Void rules r x
+  left_void is (void_received q v) = v
+  left_void is (void_sent q v) = absurd (cc)
+
+  pub right_void : {s e : ℕ} {x y : ExprV} → r ≡ Sent → Void rules r (expr s e (sends x y)) → Void rules r y
+  right_void is (void_received q v) = absurd (cc)
+  right_void is (void_sent q v) = v
+
+  -- ---- nothing meant
+
   mutual
     pub means_full : {x : ExprV} {o : ℕ} {env : Env} {b : List ℕ} {t : TreeV} → Means rules r x o env b t
         → Void rules r x → ⊥
@@ -156,17 +208,12 @@ module _ (rules : RulesV) (r : Reading) where
     means_full (means_many is h) v = elim v [ ]
     means_full (means_cut_all h) v = elim v [ ]
     means_full (means_cut h) v = elim v [ ]
-    means_full (means_window {x = x} {y = y} w n at count wide h) (void_window v is void) =
-        means_full h (along (ap (λ q. q.part) (same_window x y is at)) void)
+    means_full (means_window w n at count wide h) v = means_full h (part_void at v)
     means_full (means_labelled h) (void_labelled v) = means_full h v
-    means_full (means_name {n = n} rule at h) (void_none p) = no_string_full n rule p at
-    means_full (means_name {n = n} rule at h) (void_name other is v) =
-        rule_full h (along (ap (λ q. q.body) (same_rule rules n is at)) v)
+    means_full (means_name rule at h) v = rule_full h (body_void at v)
     means_full (means_group h) (void_group v) = means_full h v
-    means_full (means_received is h) (void_received r v) = means_full h v
-    means_full (means_received is h) (void_sent r v) = cc
-    means_full (means_sent is h) (void_received r v) = cc
-    means_full (means_sent is h) (void_sent r v) = means_full h v
+    means_full (means_received is h) v = means_full h (left_void is v)
+    means_full (means_sent is h) v = means_full h (right_void is v)
 
     pub items_full : {xs : ExprsV} {o : ℕ} {frame : Frame} {env : Env} {b : List ℕ} {ts : Trees}
         → ItemsMean rules r xs o frame env b ts → SomeVoid rules r xs → ⊥
@@ -196,17 +243,12 @@ module _ (rules : RulesV) (r : Reading) where
     follows_full (follows_times n is count h) v = elim v [ ]
     follows_full (follows_many is h) v = elim v [ ]
     follows_full (follows_cut h) v = elim v [ ]
-    follows_full (follows_window {x = x} {y = y} w n at count wide h) (void_window v is void) =
-        follows_full h (along (ap (λ q. q.part) (same_window x y is at)) void)
+    follows_full (follows_window w n at count wide h) v = follows_full h (part_void at v)
     follows_full (follows_labelled h) (void_labelled v) = follows_full h v
-    follows_full (follows_name {n = n} rule at h) (void_none p) = no_string_full n rule p at
-    follows_full (follows_name {n = n} rule at h) (void_name other is v) =
-        rule_follows_full h (along (ap (λ q. q.body) (same_rule rules n is at)) v)
+    follows_full (follows_name rule at h) v = rule_follows_full h (body_void at v)
     follows_full (follows_group h) (void_group v) = follows_full h v
-    follows_full (follows_received is h) (void_received r v) = follows_full h v
-    follows_full (follows_received is h) (void_sent r v) = cc
-    follows_full (follows_sent is h) (void_received r v) = cc
-    follows_full (follows_sent is h) (void_sent r v) = follows_full h v
+    follows_full (follows_received is h) v = follows_full h (left_void is v)
+    follows_full (follows_sent is h) v = follows_full h (right_void is v)
 
     pub rule_follows_full : {rule : Rule} {o : ℕ} {env : Env} {b : List ℕ}
         → RuleFollows rules r rule o env b → Void rules r rule.body → ⊥

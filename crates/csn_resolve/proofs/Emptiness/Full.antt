@@ -1,12 +1,11 @@
 -- What is empty of strings gives no nodes.
-use Rattle.std.proofs.Common.{◌≡◌, ℕ, List, [], ◌∷◌, length, ap, subst, arith}
+use Rattle.std.proofs.Common.{◌≡◌, ℕ, List, [], ◌∷◌, length, ap, arith}
 use Rattle.csn_desc.specs.declared.reading.Reading.{Reading}
 use Rattle.csn_grammar.specs.declared.rules.Rule.{Rule}
 use Rattle.csn_grammar.specs.ExprV.{ExprV, ExprsV}
 use Rattle.csn_grammar.specs.RulesV.{RulesV}
-use Rattle.csn_grammar.specs.Forms.{WindowV}
-use Rattle.csn_grammar.specs.Void.{Void, SomeVoid, void_none, void_name, void_group, void_labelled, void_window, void_seq, void_choice, void_received, void_sent, void_here, void_later}
-use Rattle.csn_grammar.proofs.VoidFacts.{same_window, same_rule, none_kept, tail_void, spare_bit_full, spare_low_full, padding_full, no_string_full}
+use Rattle.csn_grammar.specs.Void.{Void, SomeVoid, void_group, void_labelled, void_seq, void_choice, void_here, void_later}
+use Rattle.csn_grammar.proofs.VoidFacts.{none_kept, tail_void, spare_bit_full, spare_low_full, padding_full, part_void, body_void, left_void, right_void}
 use Rattle.csn_resolve.specs.Seen.{Frame, Seen}
 use Rattle.csn_resolve.specs.Gives.{Placed, Gives, ItemsGive, RuleGives, gives_lits, gives_null, gives_bit, gives_octet, gives_field, gives_rest, gives_spare_bit, gives_spare_low, gives_padding, gives_seq, gives_choice, gives_only, gives_times, gives_many, gives_cut, gives_window, gives_labelled, gives_name, gives_group, gives_received, gives_sent, items_end, items_next, rule_plain, rule_tail}
 
@@ -32,20 +31,12 @@ module _ (rules : RulesV) (r : Reading) where
     gives_full (gives_times c none at_count h p) v = elim v [ ]
     gives_full (gives_many none h p) v = elim v [ ]
     gives_full (gives_cut h p) v = elim v [ ]
-    gives_full (gives_window {x = x} {y = y} w c is at_count h p) (void_window w' is' v) =
-        let same : w' ≡ w = same_window x y is' is in
-        let P : WindowV → Type 0 = λ z. Void rules r z.part in
-        gives_full h (subst P same v)
+    gives_full (gives_window w c is at_count h p) v = gives_full h (part_void rules r is v)
     gives_full (gives_labelled h p) (void_labelled v) = gives_full h v
-    gives_full (gives_name {n = n} rule is h) (void_none none) = no_string_full rules r n rule none is
-    gives_full (gives_name {n = n} rule is h) (void_name rule' is' v) =
-        let P : Rule → Type 0 = λ z. Void rules r z.body in
-        rule_full h (subst P (same_rule rules n is' is) v)
+    gives_full (gives_name rule is h) v = rule_full h (body_void rules r is v)
     gives_full (gives_group h) (void_group v) = gives_full h v
-    gives_full (gives_received p h) (void_received q v) = gives_full h v
-    gives_full (gives_received p h) (void_sent q v) = cc
-    gives_full (gives_sent p h) (void_received q v) = cc
-    gives_full (gives_sent p h) (void_sent q v) = gives_full h v
+    gives_full (gives_received p h) v = gives_full h (left_void rules r p v)
+    gives_full (gives_sent p h) v = gives_full h (right_void rules r p v)
 
     items_full :
         {xs : ExprsV} {at : ℕ} {frame : Frame ℕ} {seen : Seen ℕ} {parts : List ℕ} {nodes : List Placed}

@@ -2,13 +2,13 @@
 use Rattle.std.proofs.Common.{◌≡◌, ℕ, ◌≤◌, Bool, true, false, List, [], ◌∷◌, length, Option, Some, None, subst, arith}
 use Rattle.std.specs.Prelude.{if◌then◌else◌}
 use Rattle.std.specs.Option.{option_map, option_or}
-use Rattle.std.specs.List.{find}
 use Rattle.csn_grammar.specs.declared.rules.Rule.{Rule}
 use Rattle.csn_grammar.specs.ExprV.{ExprV, expr, lits, name, group, seq, choice, ExprsV, no_item, item, no_branch, branch, item_list}
 use Rattle.csn_grammar.specs.RulesV.{RulesV}
-use Rattle.csn_grammar.specs.Names.{same_name, is_built_in, rule_of}
+use Rattle.csn_grammar.specs.Names.{same_name, rule_of}
 use Rattle.csn_grammar.specs.TailForm.{WordV, EndV, TailV, word_of, again_of, end_with, end_of, last_item, front_items, tail_of_body, tail_of}
 use Rattle.csn_grammar.specs.Shaped.{IsShaped, ItemsShaped, AreShaped}
+use Rattle.csn_grammar.proofs.VoidFacts.{rule_has}
 
 -- a word, where there is one, is not empty
 abbrev WordShaped : Option WordV → Type 0
@@ -86,30 +86,10 @@ pub tail_shaped : (rule : Rule) (tail : TailV) → IsShaped rule.body → tail_o
 tail_shaped rule tail h p = body_shaped rule.name rule.body tail h p
 
 -- the rule of a name is one of the rules
-found_shaped :
-    (rules : RulesV) (n : List ℕ) (rule : Rule)
-    → AreShaped rules → find (λ rule. same_name rule.name n) rules ≡ Some rule → IsShaped rule.body
-found_shaped [] n rule h at = absurd (cc)
-found_shaped (first ∷ rules) n rule h at = here (same_name first.name n) at (found_shaped rules n rule h.1)
-  where
-    here :
-        (b : Bool)
-        → (if b then Some first else find (λ rule. same_name rule.name n) rules) ≡ Some rule
-        → (find (λ rule. same_name rule.name n) rules ≡ Some rule → IsShaped rule.body) → IsShaped rule.body
-    here true is later =
-        let same : first ≡ rule = cc in let P : Rule → Type 0 = λ z. IsShaped z.body in subst P same h.0
-    here false is later = later is
-
 pub rule_shaped :
     (rules : RulesV) (n : List ℕ) (rule : Rule)
     → AreShaped rules → rule_of rules n ≡ Some rule → IsShaped rule.body
-rule_shaped rules n rule h at = by_name (is_built_in n) at
-  where
-    by_name :
-        (b : Bool)
-        → (if b then None else find (λ rule. same_name rule.name n) rules) ≡ Some rule → IsShaped rule.body
-    by_name true is = absurd (cc)
-    by_name false is = found_shaped rules n rule h is
+rule_shaped = rule_has (λ rule. IsShaped rule.body) AreShaped (λ first rest h. h)
 
 pub again_some : (rule : Rule) (tail : TailV) → tail_of rule ≡ Some tail → IsShaped rule.body → 1 ≤ length tail.end.again.run
 again_some rule tail p h = (tail_shaped rule tail h p).again
