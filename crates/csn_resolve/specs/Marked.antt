@@ -1,14 +1,11 @@
 -- Rules that are marked as passing a test. These are words of the private functions that mark them; no public
 -- clause cites them.
-use Rattle.std.specs.Prelude.{◌≡◌, ℕ, suc, Bool, true, false, List, [], ◌∷◌, length, slice_get, Option, Some, None, refl}
-use Rattle.std.proofs.Common.{ap}
-use Rattle.std.specs.Coded.{Coded, code_by, coded×}
-use base.Stored.{Gv, gnum, gcons}
+use Rattle.std.specs.Prelude.{◌≡◌, ℕ, suc, Bool, true, false, List, [], ◌∷◌, length, slice_get, Option, Some, None}
 use Rattle.csn_desc.specs.declared.reading.Reading.{Reading}
-use Rattle.csn_desc.specs.declared.reading.Reading.TheVariants.{Received, Sent}
+use Rattle.csn_desc.specs.declared.reading.Reading.TheVariants.{Sent}
 use Rattle.csn_grammar.specs.declared.rules.Rule.{Rule}
 use Rattle.csn_grammar.specs.ExprV.{ExprV}
-use Rattle.csn_grammar.specs.RulesV.{RulesV, rules_code}
+use Rattle.csn_grammar.specs.RulesV.{RulesV}
 use Rattle.csn_grammar.specs.Void as grammar
 use Rattle.csn_resolve.specs.Counts as counts
 use Rattle.csn_resolve.specs.declared.marks.Test.{Test}
@@ -20,29 +17,6 @@ use Rattle.csn_resolve.specs.Numbers.{number_in}
 pub record MarksV : Type 0 where
   pub rules : RulesV
   pub test : Test
-
-abbrev pub reading_number : Reading → Gv
-reading_number Received = gnum 0
-reading_number Sent = gnum 1
-
-pub reading_number-one : (x y : Reading) → reading_number x ≡ reading_number y → x ≡ y
-reading_number-one Received Received p = refl
-reading_number-one Sent Sent p = refl
-reading_number-one _ _ p = cc
-
-abbrev pub test_number : Test → Gv
-test_number (Void r) = gcons (gnum 0) (reading_number r)
-test_number (Narrow r) = gcons (gnum 1) (reading_number r)
-
-pub test_number-one : (x y : Test) → test_number x ≡ test_number y → x ≡ y
-test_number-one (Void r) (Void q) p = ap Void (reading_number-one r q (cc))
-test_number-one (Narrow r) (Narrow q) p = ap Narrow (reading_number-one r q (cc))
-test_number-one _ _ p = cc
-
-abbrev pub marks_code : Coded MarksV
-marks_code =
-    code_by (RulesV × Test) (coded× rules_code (record { code = test_number; inj = test_number-one }))
-    (λ m. (m.rules, m.test)) (λ p. record { rules = p.0; test = p.1 }) (λ _. refl)
 
 -- an expression passes a test
 abbrev pub Passes : RulesV → Test → ExprV → Type 0

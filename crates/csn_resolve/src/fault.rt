@@ -3,7 +3,6 @@ ghost use Rattle.csn_resolve.specs.declared.fault.ResolveFault.TheVariants.{NoMe
 
 use crate::why::Why;
 use csn_bits::NoMemory;
-use std::alloc::AllocFailed;
 
 /// Why a named rule gives no description.
 #[derive(Clone, Copy, Debug, Drop, PartialEq, Eq)]
@@ -17,14 +16,6 @@ impl From<NoMemory> for ResolveFault {
     ghost from_gives = { λ _ e. e ≡ no_memory };
 
     fn from(_e: NoMemory) -> ResolveFault {
-        ResolveFault::NoMemory
-    }
-}
-
-impl<T: Drop> From<AllocFailed<T>> for ResolveFault {
-    ghost from_gives = { λ _ e. e ≡ no_memory };
-
-    fn from(_e: AllocFailed<T>) -> ResolveFault {
         ResolveFault::NoMemory
     }
 }

@@ -2,7 +2,7 @@ ghost use Rattle.std.specs.Prelude.{◌≡◌, ◌≤◌, List, length};
 ghost use Rattle.csn_resolve.specs.Steps.{Step};
 ghost use Rattle.csn_resolve.specs.Counts.{CountSteps, is_zero, is_too_large, size_steps};
 ghost use Rattle.csn_resolve.specs.Walk.{PartLeft, BranchLeft, TurnLeft};
-ghost use Rattle.csn_resolve.specs.Going.{Checks, LeafGoes, NumberGoes};
+ghost use Rattle.csn_resolve.specs.Going.{Checks, LeafGoes};
 ghost use Rattle.csn_resolve.specs.Views.{count_view, seen_view, tail_view};
 
 use crate::around::Seen;
@@ -101,23 +101,9 @@ impl<'a> Walker<'a> {
     ) -> Result<bool, ResolveFault>
         ensures { LeafGoes self.now.names.now self.now.reading (seen_view self.now.reading seen.now) place part.now count.now result }
     {
-        match count {
-            Exponent::Any => Ok(matches!(part.form, Form::Bit)),
-            Exponent::Number(_) => self.is_field(seen, place, part, count),
-            Exponent::Linear { .. } => self.is_field(seen, place, part, count),
+        if let Exponent::Any = count {
+            return Ok(matches!(part.form, Form::Bit));
         }
-    }
-
-    /// A number exponent of a part that begins at `place` is checked: whether the part is a field.
-    fn is_field(
-        &self,
-        seen: &Seen<'_>,
-        place: u32,
-        part: &Expr,
-        count: &Exponent,
-    ) -> Result<bool, ResolveFault>
-        ensures { NumberGoes self.now.names.now self.now.reading (seen_view self.now.reading seen.now) place part.now count.now result }
-    {
         self.check_count(seen, place, count)?;
         Ok(unit_of(part).is_some())
     }

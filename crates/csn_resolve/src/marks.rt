@@ -31,11 +31,13 @@ pub(crate) struct Marks<'a> {
 }
 
 impl<'a> Model for Marks<'a> {
-    ghost use Rattle.csn_resolve.specs.Marked.{MarksV, marks_code, AreLeast};
+    ghost use Rattle.std.specs.Coded.{codes};
+    ghost use Rattle.csn_grammar.specs.RulesV.{rules_code};
+    ghost use Rattle.csn_resolve.specs.Marked.{MarksV, AreLeast};
 
     ghost Value = { MarksV };
 
-    ghost coded = { marks_code };
+    ghost coded = { Prim.hlevel (codes, rules_code) };
 
     ghost view = { λ m. record { rules = m.names.now; test = m.test } };
 

@@ -7,6 +7,7 @@ ghost use Rattle.csn_resolve.specs.Numbers.{number_in};
 
 use crate::fault::ResolveFault;
 use crate::why::Why;
+use csn_bits::NoMemory;
 use csn_grammar::{BuiltIn, Rule, Rules};
 use indexmap::IndexSet;
 use std::alloc::Global;
@@ -54,7 +55,7 @@ impl<'a> Names<'a> {
         for at in 0..rules.len() {
             let rule = rules.get(at);
             let name = rule.name.bytes();
-            if is_built_in(name) || !numbers.insert(name)? {
+            if is_built_in(name) || !numbers.insert(name).map_err(|_| NoMemory)? {
                 return Err(ResolveFault::Refused {
                     why: Why::DefinedTwice,
                     place: rule.span.start,

@@ -77,17 +77,33 @@ module _ (d : DescV) (at : ℕ) (env : Env) (seen : Seen ℕ) where
   split_parts (i ∷ parts) others {v = v} from a (node.parts_next b1 b2 joins h later) =
       split_next b1 joins h (split_parts parts others from.1 (agree_kept d.nodes at i b1 v env seen from.0 a) later)
 
+  -- what goes on in others goes on in parts that have trees with the others behind them
+  join_behind :
+      (F : List ℕ → ℕ → Values → List ℕ → Trees → Type 0)
+      → ((i : ℕ) (parts : List ℕ) (o : ℕ) (v : Values) (b b1 b2 : List ℕ) (t : TreeV) (us : Trees) → b ≡ b1 ++ b2 → NMeans d i o v b1 t
+      → F parts (o + length b1) (with_value d.nodes i b1 v) b2 us → F (i ∷ parts) o v b (more t us))
+      → (parts others : List ℕ) {o : ℕ} {v : Values} {b1 b2 : List ℕ} {ts us : Trees}
+      → AllFrom at parts → Agree at v env seen → PartsMean d parts o v b1 ts
+      → ((w : Values) → Agree at w env seen → F others (o + length b1) w b2 us)
+      → F (parts ++ others) o v (b1 ++ b2) (with_trees ts us)
+  join_behind F next [] others {o = o} {v = v} {b1 = b1} {b2 = b2} {us = us} from a (node.parts_end p) later =
+      let here : o + length b1 ≡ o = omega (arith, ap length p) in
+      let P : ℕ → Type 0 = λ z. F others z v b2 us in
+      let Q : List ℕ → Type 0 = λ z. F others o v (z ++ b2) us in
+      subst Q (sym p) (subst P here (later v a))
+  join_behind F next (i ∷ parts) others {o = o} {v = v} {b2 = b2} {us = us} from a (node.parts_next {t = t} c1 c2 joins h first) later =
+      let there : o + length (c1 ++ c2) ≡ (o + length c1) + length c2 = omega (arith, length-append c1 c2) in
+      let P : Values → ℕ → Type 0 = λ w z. F others z w b2 us in
+      next i (parts ++ others) o v _ c1 (c2 ++ b2) t _ (ap (λ z. z ++ b2) joins ∙ append_assoc c1 c2 b2) h
+      (join_behind F next parts others from.1 (agree_kept d.nodes at i c1 v env seen from.0 a) first
+      (λ w fits. subst (P w) (ap (λ z. o + length z) joins ∙ there) (later w fits)))
+
   join_parts :
       (parts others : List ℕ) {o : ℕ} {v : Values} {b1 b2 : List ℕ} {ts us : Trees}
       → AllFrom at parts → Agree at v env seen → PartsMean d parts o v b1 ts
       → ((w : Values) → Agree at w env seen → PartsMean d others (o + length b1) w b2 us)
       → PartsMean d (parts ++ others) o v (b1 ++ b2) (with_trees ts us)
-  join_parts [] others {v = v} {b2 = b2} from a (node.parts_end p) later =
-      parts_along (sym (ap (λ z. z ++ b2) p)) (parts_from (omega (arith, ap length p)) (later v a))
-  join_parts (i ∷ parts) others {v = v} {b2 = b2} from a (node.parts_next c1 c2 joins h first) later =
-      node.parts_next c1 (c2 ++ b2) (ap (λ z. z ++ b2) joins ∙ append_assoc c1 c2 b2) h
-      (join_parts parts others from.1 (agree_kept d.nodes at i c1 v env seen from.0 a) first
-      (λ w fits. parts_from (omega (arith, ap length joins, length-append c1 c2)) (later w fits)))
+  join_parts = join_behind (λ parts o v b ts. PartsMean d parts o v b ts) (λ i parts o v b b1 b2 t us joins h rest. node.parts_next b1 b2 joins h rest)
 
   data FollowSplit (parts others : List ℕ) (o : ℕ) (v : Values) (b : List ℕ) : Type 0 where
     in_parts : PartsFollow d parts o v b → FollowSplit parts others o v b
@@ -118,12 +134,9 @@ module _ (d : DescV) (at : ℕ) (env : Env) (seen : Seen ℕ) where
       → AllFrom at parts → Agree at v env seen → PartsMean d parts o v b1 ts
       → ((w : Values) → Agree at w env seen → PartsFollow d others (o + length b1) w b2)
       → PartsFollow d (parts ++ others) o v (b1 ++ b2)
-  join_follow [] others {v = v} {b2 = b2} from a (node.parts_end p) later =
-      follow_along (sym (ap (λ z. z ++ b2) p)) (follow_from (omega (arith, ap length p)) (later v a))
-  join_follow (i ∷ parts) others {v = v} {b2 = b2} from a (node.parts_next c1 c2 joins h first) later =
-      after.parts_later c1 (c2 ++ b2) (ap (λ z. z ++ b2) joins ∙ append_assoc c1 c2 b2) h
-      (join_follow parts others from.1 (agree_kept d.nodes at i c1 v env seen from.0 a) first
-      (λ w fits. follow_from (omega (arith, ap length joins, length-append c1 c2)) (later w fits)))
+  join_follow parts others from a first later =
+      join_behind (λ parts o v b ts. PartsFollow d parts o v b) (λ i parts o v b b1 b2 t us joins h rest. after.parts_later b1 b2 joins h rest)
+      parts others {us = none} from a first later
 
   more_parts :
       (parts others : List ℕ) {o : ℕ} {v : Values} {b : List ℕ}

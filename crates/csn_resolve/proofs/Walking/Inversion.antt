@@ -1,5 +1,5 @@
 -- What the steps of a walk are, by what is walked through.
-use Rattle.std.proofs.Common.{◌≡◌, ℕ, Bool, true, false, List, [], ◌∷◌, ◌++◌, append-nil, Result, Ok, Err, sym, ◌∙◌, ap, subst, Option, Some, None}
+use Rattle.std.proofs.Common.{◌≡◌, ℕ, Bool, true, false, List, [], ◌∷◌, ◌++◌, append-nil, Result, Ok, Err, refl, sym, ◌∙◌, ap, subst, Option, Some, None}
 use Rattle.std.specs.Prelude.{is_some}
 use Rattle.csn_desc.specs.declared.reading.Reading.{Reading}
 use Rattle.csn_desc.specs.declared.symbol.Symbol.{Symbol}
@@ -20,7 +20,7 @@ use Rattle.csn_resolve.specs.Gives.{start_of}
 use Rattle.csn_resolve.specs.Steps.{Step, refused}
 use Rattle.csn_resolve.specs.Counts.{CountSteps}
 use Rattle.csn_resolve.specs.Walk.{Around, inside, putting_in, behind, in_turn, is_among, entering, node_at, turn_begun, PartLeft, BranchLeft, TurnLeft, Walk, ItemsWalk, ComponentsWalk, BranchesWalk, RuleWalk, walk_lits, walk_null, walk_bit, walk_octet, walk_field, walk_rest, walk_built_in, walk_undefined, walk_recursive, walk_name, walk_group, walk_labelled, walk_seq, walk_choice, walk_times, walk_many, walk_cut, walk_window, walk_window_behind, walk_no_window, walk_sends, items_end, items_next, components_end, components_next, branches_end, branches_next, rule_plain, rule_tail}
-use Rattle.csn_resolve.specs.Going.{gone, way, Stops, LeafGoes}
+use Rattle.csn_resolve.specs.Going.{gone, way, Stops, NumberGoes, LeafGoes}
 use Rattle.csn_resolve.proofs.Walking.GoingFacts.{stops-later, stops-same, stops-second, way-on, way-third}
 use Rattle.csn_resolve.proofs.Giving.Once.{same_tail}
 use Rattle.csn_resolve.proofs.Basics.Bools.{no_both}
@@ -30,6 +30,10 @@ stops-in-second :
     (begun after : ℕ) (first second steps : List Step) (fault : ResolveFault)
     → steps ≡ first ++ second → way begun first ≡ gone after → Stops (way after second) fault → Stops (way begun steps) fault
 stops-in-second begun after first second steps fault is p h = stops-same fault (ap (way begun) is) (stops-later begun after first second fault p h)
+
+-- the steps are these, and then those of what is inside
+abbrev pub GoesIn : List Step → (List Step → Type 0) → List Step → Type 0
+GoesIn front IsInner steps = (inner : List Step) × IsInner inner × (steps ≡ front ++ inner)
 
 module _ (rules : RulesV) (r : Reading) where
   -- ---- an expression
@@ -46,29 +50,19 @@ module _ (rules : RulesV) (r : Reading) where
   pub octet-steps : {a : Around} {s e : ℕ} {steps : List Step} → Walk rules r a (expr s e octet) steps → steps ≡ node_at a s
   octet-steps (walk_octet p) = p
 
-  pub labelled-steps :
-      {a : Around} {s e : ℕ} {label : List ℕ} {x : ExprV} {steps : List Step} → Walk rules r a (expr s e (labelled label x)) steps
-      → (inner : List Step) × Walk rules r (inside a) x inner × (steps ≡ node_at a s ++ inner)
+  pub labelled-steps : {a : Around} {s e : ℕ} {label : List ℕ} {x : ExprV} {steps : List Step} → Walk rules r a (expr s e (labelled label x)) steps → GoesIn (node_at a s) (Walk rules r (inside a) x) steps
   labelled-steps (walk_labelled h p) = (_, h, p)
 
-  pub group-steps :
-      {a : Around} {s e : ℕ} {x : ExprV} {steps : List Step} → Walk rules r a (expr s e (group x)) steps
-      → (inner : List Step) × Walk rules r (inside a) x inner × (steps ≡ entering a s ++ inner)
+  pub group-steps : {a : Around} {s e : ℕ} {x : ExprV} {steps : List Step} → Walk rules r a (expr s e (group x)) steps → GoesIn (entering a s) (Walk rules r (inside a) x) steps
   group-steps (walk_group h p) = (_, h, p)
 
-  pub seq-steps :
-      {a : Around} {s e : ℕ} {xs : ExprsV} {steps : List Step} → Walk rules r a (expr s e (seq xs)) steps
-      → (inner : List Step) × ItemsWalk rules r (inside a) [] xs inner × (steps ≡ node_at a s ++ inner)
+  pub seq-steps : {a : Around} {s e : ℕ} {xs : ExprsV} {steps : List Step} → Walk rules r a (expr s e (seq xs)) steps → GoesIn (node_at a s) (ItemsWalk rules r (inside a) [] xs) steps
   seq-steps (walk_seq h p) = (_, h, p)
 
-  pub choice-steps :
-      {a : Around} {s e : ℕ} {bs : BranchesV} {steps : List Step} → Walk rules r a (expr s e (choice bs)) steps
-      → (inner : List Step) × BranchesWalk rules r (inside a) bs inner × (steps ≡ node_at a s ++ inner)
+  pub choice-steps : {a : Around} {s e : ℕ} {bs : BranchesV} {steps : List Step} → Walk rules r a (expr s e (choice bs)) steps → GoesIn (node_at a s) (BranchesWalk rules r (inside a) bs) steps
   choice-steps (walk_choice h p) = (_, h, p)
 
-  pub cut-steps :
-      {a : Around} {s e : ℕ} {xs : ExprsV} {steps : List Step} → Walk rules r a (expr s e (cut xs)) steps
-      → (inner : List Step) × ComponentsWalk rules r (inside a) [] xs inner × (steps ≡ node_at a s ++ inner)
+  pub cut-steps : {a : Around} {s e : ℕ} {xs : ExprsV} {steps : List Step} → Walk rules r a (expr s e (cut xs)) steps → GoesIn (node_at a s) (ComponentsWalk rules r (inside a) [] xs) steps
   cut-steps (walk_cut h p) = (_, h, p)
 
   pub sends-steps :
@@ -230,39 +224,19 @@ module _ (rules : RulesV) (r : Reading) where
   pub walk-in : {a b : Around} {x : ExprV} {steps : List Step} → b ≡ a → Walk rules r a x steps → Walk rules r b x steps
   walk-in {x = x} {steps = steps} p h = let Q : Around → Type 0 = λ z. Walk rules r z x steps in subst Q (sym p) h
 
-  pub items-in :
-      {a b : Around} {frame : Frame ExprV} {xs : ExprsV} {steps : List Step} → b ≡ a
-      → ItemsWalk rules r a frame xs steps → ItemsWalk rules r b frame xs steps
-  items-in {frame = frame} {xs = xs} {steps = steps} p h = let Q : Around → Type 0 = λ z. ItemsWalk rules r z frame xs steps in subst Q (sym p) h
-
-  pub components-in :
-      {a b : Around} {frame : Frame ExprV} {xs : ExprsV} {steps : List Step} → b ≡ a
-      → ComponentsWalk rules r a frame xs steps → ComponentsWalk rules r b frame xs steps
-  components-in {frame = frame} {xs = xs} {steps = steps} p h = let Q : Around → Type 0 = λ z. ComponentsWalk rules r z frame xs steps in subst Q (sym p) h
-
   pub branches-in :
       {a b : Around} {bs : BranchesV} {steps : List Step} → b ≡ a → BranchesWalk rules r a bs steps → BranchesWalk rules r b bs steps
   branches-in {bs = bs} {steps = steps} p h = let Q : Around → Type 0 = λ z. BranchesWalk rules r z bs steps in subst Q (sym p) h
 
-  pub items-as :
-      {a : Around} {frame : Frame ExprV} {xs ys : ExprsV} {steps : List Step} → xs ≡ ys
-      → ItemsWalk rules r a frame xs steps → ItemsWalk rules r a frame ys steps
-  items-as {a} {frame = frame} {steps = steps} p h = let Q : ExprsV → Type 0 = λ z. ItemsWalk rules r a frame z steps in subst Q p h
+  pub items-like :
+      {a b : Around} {frame other : Frame ExprV} {xs ys : ExprsV} {steps : List Step} → b ≡ a → other ≡ frame → xs ≡ ys
+      → ItemsWalk rules r a frame xs steps → ItemsWalk rules r b other ys steps
+  items-like p q e h = rw (p, q, ← e) h
 
-  pub items-behind :
-      {a : Around} {frame other : Frame ExprV} {xs : ExprsV} {steps : List Step} → other ≡ frame
-      → ItemsWalk rules r a frame xs steps → ItemsWalk rules r a other xs steps
-  items-behind {a} {xs = xs} {steps = steps} p h = let Q : Frame ExprV → Type 0 = λ z. ItemsWalk rules r a z xs steps in subst Q (sym p) h
-
-  pub components-as :
-      {a : Around} {frame : Frame ExprV} {xs ys : ExprsV} {steps : List Step} → xs ≡ ys
-      → ComponentsWalk rules r a frame xs steps → ComponentsWalk rules r a frame ys steps
-  components-as {a} {frame = frame} {steps = steps} p h = let Q : ExprsV → Type 0 = λ z. ComponentsWalk rules r a frame z steps in subst Q p h
-
-  pub components-behind :
-      {a : Around} {frame other : Frame ExprV} {xs : ExprsV} {steps : List Step} → other ≡ frame
-      → ComponentsWalk rules r a frame xs steps → ComponentsWalk rules r a other xs steps
-  components-behind {a} {xs = xs} {steps = steps} p h = let Q : Frame ExprV → Type 0 = λ z. ComponentsWalk rules r a z xs steps in subst Q (sym p) h
+  pub components-like :
+      {a b : Around} {frame other : Frame ExprV} {xs ys : ExprsV} {steps : List Step} → b ≡ a → other ≡ frame → xs ≡ ys
+      → ComponentsWalk rules r a frame xs steps → ComponentsWalk rules r b other ys steps
+  components-like p q e h = rw (p, q, ← e) h
 
   pub branches-as :
       {a : Around} {bs cs : BranchesV} {steps : List Step} → bs ≡ cs → BranchesWalk rules r a bs steps → BranchesWalk rules r a cs steps
@@ -282,6 +256,14 @@ module _ (rules : RulesV) (r : Reading) where
       subst Q (sym is) (subst P start (tail-steps tail at h))
 
   -- ---- a part with an exponent, where the exponent was checked
+
+  -- an exponent that counts asks no more than its number does
+  pub number-leaf :
+      (seen : Seen ExprV) (place : ℕ) (x : ExprV) (k : Exponent) (answer : Result Bool ResolveFault) → (k ≡ Any → ⊥)
+      → NumberGoes rules r seen place x k answer → LeafGoes rules r seen place x k answer
+  number-leaf seen place x Any answer other h = absurd (other refl)
+  number-leaf seen place x (Number n) answer other h = h
+  number-leaf seen place x (Linear m label c) answer other h = h
 
   same-answer : {b c : Bool} → ◌≡◌ {A = Result Bool ResolveFault} (Ok b) (Ok c) → b ≡ c
   same-answer p = cc

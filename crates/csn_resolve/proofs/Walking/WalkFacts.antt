@@ -1,5 +1,5 @@
 -- What the private functions that walk pass on, in terms of the walk.
-use Rattle.std.proofs.Common.{◌≡◌, ℕ, zero, suc, ◌+◌, List, [], ◌∷◌, take, drop, slice_get, Some, sym, ◌∙◌, ap, subst, arith}
+use Rattle.std.proofs.Common.{◌≡◌, ℕ, zero, suc, ◌+◌, List, [], ◌∷◌, take, drop, slice_get, Some, refl, sym, ◌∙◌, ap, subst, arith}
 use Rattle.std.specs.Borrow.{Bor}
 use Rattle.csn_desc.specs.declared.reading.Reading.{Reading}
 use Rattle.csn_grammar.specs.declared.rules.Rule.{Rule}
@@ -16,7 +16,7 @@ use Rattle.csn_resolve.specs.Walk.{Around, putting_in, behind, outermost, Walk, 
 use Rattle.csn_resolve.specs.Views.{entered_view, frame_after, seen_view, around_view}
 use Rattle.csn_resolve.proofs.Basics.Parts.{drop_at}
 use Rattle.csn_resolve.proofs.Naming.ViewFacts.{entered-Rule, entered-Nothing, seen-Behind, seen-Nothing}
-use Rattle.csn_resolve.proofs.Walking.Inversion.{items-as, components-as, branches-as}
+use Rattle.csn_resolve.proofs.Walking.Inversion.{items-like, components-like, branches-as}
 
 module _ (rules : RulesV) (r : Reading) where
   pub behind-in :
@@ -54,12 +54,12 @@ module _ (rules : RulesV) (r : Reading) where
   pub items-at :
       {a : Around} {frame : Frame ExprV} (xs : List ExprV) (at : ℕ) (x : ExprV) {steps : List Step} → slice_get xs at ≡ Some x
       → ItemsWalk rules r a frame (exprs_of (drop at xs)) steps → ItemsWalk rules r a frame (item x (exprs_of (drop (at + 1) xs))) steps
-  items-at xs at x here h = items-as rules r (ap exprs_of (drop_at xs at x here)) h
+  items-at xs at x here h = items-like rules r refl refl (ap exprs_of (drop_at xs at x here)) h
 
   pub components-at :
       {a : Around} {frame : Frame ExprV} (xs : List ExprV) (at : ℕ) (x : ExprV) {steps : List Step} → slice_get xs at ≡ Some x
       → ComponentsWalk rules r a frame (exprs_of (drop at xs)) steps → ComponentsWalk rules r a frame (item x (exprs_of (drop (at + 1) xs))) steps
-  components-at xs at x here h = components-as rules r (ap exprs_of (drop_at xs at x here)) h
+  components-at xs at x here h = components-like rules r refl refl (ap exprs_of (drop_at xs at x here)) h
 
   pub branches-at :
       {a : Around} (bs : List BranchV) (at : ℕ) (c : BranchV) {steps : List Step} → slice_get bs at ≡ Some c

@@ -9,7 +9,7 @@ use Rattle.csn_resolve.specs.Walk.{is_among}
 use Rattle.csn_resolve.specs.Numbers.{rule_names}
 use Rattle.csn_resolve.proofs.Basics.Parts.{take_next}
 use Rattle.csn_resolve.proofs.Naming.NumberFacts.{taken_after, among-taken, key_there, twice-taken, twice-new, names-append, keys-append, own-append}
-use Rattle.csn_resolve.proofs.names.Names.list.Goals.{then-is_built_in-via-then-is_built_in, then-is_built_in-via-else-is_built_in+in_ok-insert+then-not-branch}
+use Rattle.csn_resolve.proofs.names.Names.list.Goals.{then-is_built_in-via-then-is_built_in, then-is_built_in-via-else-is_built_in+in_ok-map_err+then-not-branch}
 use Rattle.csn_resolve.proofs.names.Names.list.Goals as goal
 
 pub returns-then-is_built_in-clause-twice : goal.returns-then-is_built_in-clause-twice
@@ -22,7 +22,7 @@ returns-then-is_built_in-clause-twice c =
       | then-is_built_in-via-then-is_built_in w ↦
           let built : is_built_in c.get-rule.result.now.name ≡ true = ap is_built_in (sym c.bytes-name.ensures.value) ∙ (sym c.is_built_in.ensures ∙ w.if-is_built_in.true) in
           found (among-taken name built_in_names before ∙ or_right (list_any (λ (rule : Rule). same_name rule.name name) before) (is_among name built_in_names) built)
-      | then-is_built_in-via-else-is_built_in+in_ok-insert+then-not-branch w ↦
+      | then-is_built_in-via-else-is_built_in+in_ok-map_err+then-not-branch w ↦
           let there : list_any (λ (k : Bor (List ℕ)). pointwise nat_eq c.bytes-name.result.now k.now) c.loop-at.numbers.keys ≡ true = search rules in
           let known : list_any (λ (rule : Rule). same_name rule.name c.get-rule.result.now.name) (take c.loop-at.at c.args.rules.now) ≡ true =
           ap (λ (n : List ℕ). list_any (λ (rule : Rule). same_name rule.name n) (take c.loop-at.at c.args.rules.now)) (sym c.bytes-name.ensures.value)

@@ -1,4 +1,4 @@
-use Rattle.std.proofs.Common.{◌≡◌, ◌<◌, ℕ, Bool, true, false, List, [], Ok, Some, None, take, drop, sym, ◌∙◌, ap, subst, take_all, arith}
+use Rattle.std.proofs.Common.{◌≡◌, ◌<◌, ℕ, Bool, true, false, List, [], Ok, Some, None, take, drop, refl, sym, ◌∙◌, ap, subst, take_all, arith}
 use Rattle.std.proofs.lemmas.List.{drop_all}
 use Rattle.csn_grammar.specs.ExprV.{ExprV, BranchV, expr, power, both, exprs_of, branches_of}
 use Rattle.csn_grammar.specs.ExprCode.{expr_size}
@@ -12,7 +12,7 @@ use Rattle.csn_resolve.proofs.Basics.Parts.{item_size, branch_size_of, take_get,
 use Rattle.csn_resolve.proofs.Walking.DepthFacts.{in_deepest, entered}
 use Rattle.csn_resolve.proofs.Naming.ViewFacts.{known, frame-more}
 use Rattle.csn_resolve.proofs.Walking.GoingFacts.{exit-stops, stops-same, stops-in, stops-first, stops-later, stops-second, stops-third, goes-same, goes-after, goes-on, goes-third, way-on, way-third, refused-after}
-use Rattle.csn_resolve.proofs.Walking.Inversion.{lits-steps, null-steps, bit-steps, octet-steps, labelled-steps, group-steps, seq-steps, choice-steps, cut-steps, sends-steps, built-in-steps, name-steps, undefined-steps, recursive-steps, rule-steps, power-steps, both-steps, window-steps, window-behind-steps, no-window-steps, items-end-steps, items-next-steps, components-end-steps, components-next-steps, branches-end-steps, branches-next-steps, as-form, walk-in, items-in, components-in, branches-in, items-as, items-behind, components-as, components-behind, branches-as, count-at, tail-steps-at, power-stop, power-leaf, power-part}
+use Rattle.csn_resolve.proofs.Walking.Inversion.{lits-steps, null-steps, bit-steps, octet-steps, labelled-steps, group-steps, seq-steps, choice-steps, cut-steps, sends-steps, built-in-steps, name-steps, undefined-steps, recursive-steps, rule-steps, power-steps, both-steps, window-steps, window-behind-steps, no-window-steps, items-end-steps, items-next-steps, components-end-steps, components-next-steps, branches-end-steps, branches-next-steps, as-form, walk-in, branches-in, items-like, components-like, branches-as, count-at, tail-steps-at, power-stop, power-leaf, power-part}
 use Rattle.csn_resolve.proofs.Walking.WalkFacts.{behind-in, putting-in, items-at, components-at, branches-at, branch-left-as}
 use Rattle.csn_resolve.proofs.walker.Walker.+walk.Goals as goal
 
@@ -97,7 +97,7 @@ walk-returns-in_ok-begun-in-Seq t c =
     let is = known c.args.x.now c.x.inside.span c.x.inside.form _ c.x.view_is c.in-Seq.is in
     let parts = seq-steps c.args.self.now.names.now c.args.self.now.reading (as-form c.args.self.now.names.now c.args.self.now.reading is h) in
     let all : c.in-Seq.items ≡ take c.len.result c.in-Seq.items = sym (take_all c.len.result c.in-Seq.items (omega (arith, c.len.ensures.len))) in
-    let inner = items-as c.args.self.now.names.now c.args.self.now.reading (ap exprs_of all) (items-in c.args.self.now.names.now c.args.self.now.reading (c.inside-in-Seq.ensures.around c.args.self.now.reading) parts.1) in
+    let inner = items-like c.args.self.now.names.now c.args.self.now.reading (c.inside-in-Seq.ensures.around c.args.self.now.reading) refl (ap exprs_of all) parts.1 in
     goes-after c.args.begun.nodes c.in_ok-begun-in-Seq.begun.nodes (node_at (around_view c.args.self.now.reading c.args.around) c.x.inside.span.start) parts.0 steps c.walk_items.result parts.2 c.in_ok-begun-in-Seq.ensures.steps (c.walk_items.ensures parts.0 inner)
 
 pub walk-returns-in_ok-begun-in-Choice : goal.walk-returns-in_ok-begun-in-Choice
@@ -113,7 +113,7 @@ walk-returns-in_ok-begun-in-Cut t c =
     λ steps h.
     let is = known c.args.x.now c.x.inside.span c.x.inside.form _ c.x.view_is c.in-Cut.is in
     let parts = cut-steps c.args.self.now.names.now c.args.self.now.reading (as-form c.args.self.now.names.now c.args.self.now.reading is h) in
-    let inner = components-in c.args.self.now.names.now c.args.self.now.reading (c.inside-in-Cut.ensures.around c.args.self.now.reading) parts.1 in
+    let inner = components-like c.args.self.now.names.now c.args.self.now.reading (c.inside-in-Cut.ensures.around c.args.self.now.reading) refl refl parts.1 in
     goes-after c.args.begun.nodes c.in_ok-begun-in-Cut.begun.nodes (node_at (around_view c.args.self.now.reading c.args.around) c.x.inside.span.start) parts.0 steps c.walk_components.result parts.2 c.in_ok-begun-in-Cut.ensures.steps (c.walk_components.ensures parts.0 inner)
 
 pub walk-returns-in_err-begun-in-Sends : goal.walk-returns-in_err-begun-in-Sends
@@ -272,14 +272,14 @@ walk_components-loop-at-preserved t c =
     let before = c.loop-at.invariant steps h in
     let parts = components-next-steps c.args.self.now.names.now c.args.self.now.reading (components-at c.args.self.now.names.now c.args.self.now.reading c.args.items.now c.loop-at.at c.get-item.result.now c.get-item.ensures before.1) in
     let first = walk-in c.args.self.now.names.now c.args.self.now.reading (c.behind.ensures.around c.args.self.now.reading) (behind-in c.args.self.now.names.now c.args.self.now.reading c.args.around c.args.items c.loop-at.at parts.3) in
-    (parts.2, components-behind c.args.self.now.names.now c.args.self.now.reading (frame-more c.args.self.now.reading c.args.items.now c.loop-at.at c.get-item.result.now c.get-item.ensures) parts.5, before.2 ∙ way-third c.loop-at.begun.nodes c.in_ok-begun.begun.nodes c.in_ok-begun.begun.nodes parts.0 parts.1 parts.2 before.0 parts.6 (c.in_ok-begun.ensures parts.0 first) (c.in_ok-leave_part.ensures parts.1 parts.4 c.in_ok-begun.begun.nodes))
+    (parts.2, components-like c.args.self.now.names.now c.args.self.now.reading refl (frame-more c.args.self.now.reading c.args.items.now c.loop-at.at c.get-item.result.now c.get-item.ensures) refl parts.5, before.2 ∙ way-third c.loop-at.begun.nodes c.in_ok-begun.begun.nodes c.in_ok-begun.begun.nodes parts.0 parts.1 parts.2 before.0 parts.6 (c.in_ok-begun.ensures parts.0 first) (c.in_ok-leave_part.ensures parts.1 parts.4 c.in_ok-begun.begun.nodes))
 
 pub walk_components-returns : goal.walk_components-returns
 walk_components-returns t c =
     λ steps h.
     let before = c.loop-at.invariant steps h in
     let none : drop c.loop-at.at c.args.items.now ≡ [] = drop_all c.loop-at.at c.args.items.now (omega (arith, c.len-at-end.ensures.len)) in
-    before.2 ∙ ap (way c.loop-at.begun.nodes) (components-end-steps c.args.self.now.names.now c.args.self.now.reading (components-as c.args.self.now.names.now c.args.self.now.reading (ap exprs_of none) before.1))
+    before.2 ∙ ap (way c.loop-at.begun.nodes) (components-end-steps c.args.self.now.names.now c.args.self.now.reading (components-like c.args.self.now.names.now c.args.self.now.reading refl refl (ap exprs_of none) before.1))
 
 pub walk_items-walk-requires : goal.walk_items-walk-requires
 walk_items-walk-requires t c =
@@ -302,14 +302,14 @@ walk_items-loop-at-preserved t c =
     let few : c.loop-at.at < c.args.count = c.loop-at-test.true in
     let parts = items-next-steps c.args.self.now.names.now c.args.self.now.reading (items-at c.args.self.now.names.now c.args.self.now.reading (take c.args.count c.args.items.now) c.loop-at.at c.get.result.now (take_get c.args.items.now c.args.count c.loop-at.at c.get.result.now few c.get.ensures) before.1) in
     let first = walk-in c.args.self.now.names.now c.args.self.now.reading (c.behind.ensures.around c.args.self.now.reading) (behind-in c.args.self.now.names.now c.args.self.now.reading c.args.around c.args.items c.loop-at.at parts.2) in
-    (parts.1, items-behind c.args.self.now.names.now c.args.self.now.reading (frame-more c.args.self.now.reading c.args.items.now c.loop-at.at c.get.result.now c.get.ensures) parts.3, before.2 ∙ (ap (way c.loop-at.begun.nodes) parts.4 ∙ way-on c.loop-at.begun.nodes c.in_ok-begun.begun.nodes parts.0 parts.1 (c.in_ok-begun.ensures parts.0 first)))
+    (parts.1, items-like c.args.self.now.names.now c.args.self.now.reading refl (frame-more c.args.self.now.reading c.args.items.now c.loop-at.at c.get.result.now c.get.ensures) refl parts.3, before.2 ∙ (ap (way c.loop-at.begun.nodes) parts.4 ∙ way-on c.loop-at.begun.nodes c.in_ok-begun.begun.nodes parts.0 parts.1 (c.in_ok-begun.ensures parts.0 first)))
 
 pub walk_items-returns : goal.walk_items-returns
 walk_items-returns t c =
     λ steps h.
     let before = c.loop-at.invariant steps h in
     let none : drop c.loop-at.at (take c.args.count c.args.items.now) ≡ [] = drop_all c.loop-at.at (take c.args.count c.args.items.now) (omega (arith, take_short c.args.count c.args.items.now)) in
-    before.2 ∙ ap (way c.loop-at.begun.nodes) (items-end-steps c.args.self.now.names.now c.args.self.now.reading (items-as c.args.self.now.names.now c.args.self.now.reading (ap exprs_of none) before.1))
+    before.2 ∙ ap (way c.loop-at.begun.nodes) (items-end-steps c.args.self.now.names.now c.args.self.now.reading (items-like c.args.self.now.names.now c.args.self.now.reading refl refl (ap exprs_of none) before.1))
 
 pub walk_name-returns-then-is_built_in : goal.walk_name-returns-then-is_built_in
 walk_name-returns-then-is_built_in t c =
@@ -417,19 +417,19 @@ pub walk_tail-returns-in_err-begun-3 : goal.walk_tail-returns-in_err-begun-3
 walk_tail-returns-in_err-begun-3 t c =
     λ rule steps at start h.
     let parts = tail-steps-at c.args.self.now.names.now c.args.self.now.reading (tail_view c.args.tail) (around_view c.args.self.now.reading c.inside-inner.result) c.args.place at start (c.inside-inner.ensures.around c.args.self.now.reading) h in
-    let turn = items-in c.args.self.now.names.now c.args.self.now.reading (c.in_ok-turn.ensures.around c.args.self.now.reading) parts.4 in
+    let turn = items-like c.args.self.now.names.now c.args.self.now.reading (c.in_ok-turn.ensures.around c.args.self.now.reading) refl refl parts.4 in
     exit-stops c.args.begun.nodes steps _ c.from_residual-in_err-begun-3.result c.from_residual-in_err-begun-3.ensures.1 (stops-same _ (ap (way c.args.begun.nodes) parts.6) (stops-later c.args.begun.nodes c.in_ok-begun.begun.nodes (node_at (around_view c.args.self.now.reading c.args.around) c.args.place) _ _ c.in_ok-begun.ensures.steps (stops-later c.in_ok-begun.begun.nodes c.in_ok-begun-2.begun.nodes parts.0 _ _ (c.in_ok-begun-2.ensures parts.0 parts.3) (stops-later c.in_ok-begun-2.begun.nodes c.in_ok-turn.turn.begun.nodes (turn_begun (around_view c.args.self.now.reading c.inside-inner.result) (end_view c.args.tail.end)) _ _ (c.in_ok-turn.ensures.steps c.args.self.now.reading) (stops-first c.in_ok-turn.turn.begun.nodes parts.1 _ _ (c.in_err-begun-3.ensures parts.1 turn))))))
 
 pub walk_tail-returns-in_err-leave_turn : goal.walk_tail-returns-in_err-leave_turn
 walk_tail-returns-in_err-leave_turn t c =
     λ rule steps at start h.
     let parts = tail-steps-at c.args.self.now.names.now c.args.self.now.reading (tail_view c.args.tail) (around_view c.args.self.now.reading c.inside-inner.result) c.args.place at start (c.inside-inner.ensures.around c.args.self.now.reading) h in
-    let turn = items-in c.args.self.now.names.now c.args.self.now.reading (c.in_ok-turn.ensures.around c.args.self.now.reading) parts.4 in
+    let turn = items-like c.args.self.now.names.now c.args.self.now.reading (c.in_ok-turn.ensures.around c.args.self.now.reading) refl refl parts.4 in
     exit-stops c.args.begun.nodes steps _ c.from_residual-in_err-leave_turn.result c.from_residual-in_err-leave_turn.ensures.1 (stops-same _ (ap (way c.args.begun.nodes) parts.6) (stops-later c.args.begun.nodes c.in_ok-begun.begun.nodes (node_at (around_view c.args.self.now.reading c.args.around) c.args.place) _ _ c.in_ok-begun.ensures.steps (stops-later c.in_ok-begun.begun.nodes c.in_ok-begun-2.begun.nodes parts.0 _ _ (c.in_ok-begun-2.ensures parts.0 parts.3) (stops-later c.in_ok-begun-2.begun.nodes c.in_ok-turn.turn.begun.nodes (turn_begun (around_view c.args.self.now.reading c.inside-inner.result) (end_view c.args.tail.end)) _ _ (c.in_ok-turn.ensures.steps c.args.self.now.reading) (stops-later c.in_ok-turn.turn.begun.nodes c.in_ok-begun-3.begun.nodes parts.1 _ _ (c.in_ok-begun-3.ensures parts.1 turn) (stops-first c.in_ok-begun-3.begun.nodes parts.2 _ _ (c.in_err-leave_turn.ensures parts.2 parts.5 c.in_ok-begun-3.begun.nodes)))))))
 
 pub walk_tail-returns : goal.walk_tail-returns
 walk_tail-returns t c =
     λ rule steps at start h.
     let parts = tail-steps-at c.args.self.now.names.now c.args.self.now.reading (tail_view c.args.tail) (around_view c.args.self.now.reading c.inside-inner.result) c.args.place at start (c.inside-inner.ensures.around c.args.self.now.reading) h in
-    let turn = items-in c.args.self.now.names.now c.args.self.now.reading (c.in_ok-turn.ensures.around c.args.self.now.reading) parts.4 in
+    let turn = items-like c.args.self.now.names.now c.args.self.now.reading (c.in_ok-turn.ensures.around c.args.self.now.reading) refl refl parts.4 in
     goes-after c.args.begun.nodes c.in_ok-begun.begun.nodes (node_at (around_view c.args.self.now.reading c.args.around) c.args.place) _ steps c.begin-2.result parts.6 c.in_ok-begun.ensures.steps (goes-on c.in_ok-begun.begun.nodes c.in_ok-begun-2.begun.nodes parts.0 _ c.begin-2.result (c.in_ok-begun-2.ensures parts.0 parts.3) (goes-on c.in_ok-begun-2.begun.nodes c.in_ok-turn.turn.begun.nodes (turn_begun (around_view c.args.self.now.reading c.inside-inner.result) (end_view c.args.tail.end)) _ c.begin-2.result (c.in_ok-turn.ensures.steps c.args.self.now.reading) (goes-on c.in_ok-turn.turn.begun.nodes c.in_ok-begun-3.begun.nodes parts.1 _ c.begin-2.result (c.in_ok-begun-3.ensures parts.1 turn) (goes-on c.in_ok-begun-3.begun.nodes c.in_ok-begun-3.begun.nodes parts.2 _ c.begin-2.result (c.in_ok-leave_turn.ensures parts.2 parts.5 c.in_ok-begun-3.begun.nodes) c.begin-2.ensures.steps))))
