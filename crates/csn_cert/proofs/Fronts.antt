@@ -1,6 +1,7 @@
 -- What stands in front of a text is one thing alone.
-use Rattle.std.proofs.Common.{◌≡◌, ℕ, List, [], ◌∷◌, ◌++◌, length, flat_map, refl, sym, ap, ◌∙◌, arith, append_assoc}
+use Rattle.std.proofs.Common.{◌≡◌, ℕ, List, [], ◌∷◌, ◌++◌, length, flat_map, take, refl, sym, ap, ◌∙◌, append_assoc}
 use Rattle.std.specs.List.{AllByRecursion}
+use Rattle.std.proofs.Math.Seq.{take-append_seam}
 use Rattle.std.proofs.lemmas.List.{append_cancel_left}
 
 -- the things of a kind are told apart in front of texts
@@ -16,14 +17,8 @@ tails x y a b same = cc
 
 -- texts that agree have the same fronts of one length
 pub front_same : (xs ys a b : List ℕ) → length xs ≡ length ys → xs ++ a ≡ ys ++ b → xs ≡ ys
-front_same [] [] a b long same = refl
-front_same [] (y ∷ ys) a b long same = absurd (omega arith)
-front_same (x ∷ xs) [] a b long same = absurd (omega arith)
-front_same (x ∷ xs) (y ∷ ys) a b long same =
-    let first : x ≡ y = cc in
-    let others : xs ++ a ≡ ys ++ b = cc in
-    let rest : xs ≡ ys = front_same xs ys a b (omega arith) others in
-    cc
+front_same xs ys a b long same =
+    sym (take-append_seam xs a) ∙ ap (take (length xs)) same ∙ ap (λ n. take n (ys ++ b)) long ∙ take-append_seam ys b
 
 pub behind_same : (xs ys a b : List ℕ) → length xs ≡ length ys → xs ++ a ≡ ys ++ b → a ≡ b
 behind_same xs ys a b long same = append_cancel_left ys a b (ap (λ l. l ++ a) (sym (front_same xs ys a b long same)) ∙ same)
