@@ -8,12 +8,11 @@ use Rattle.csn_look.specs.Keys.{IsNotFirm, IsFirm}
 use Rattle.csn_look.specs.Starts.{InStart, NodeStarts, starts_at, starts_choice}
 use Rattle.csn_look.specs.Reached.{Reached}
 use Rattle.csn_look.proofs.Handing.ReachedParts.{reached_small}
-use Rattle.csn_claims.proofs.Pieces.{order, equal_numbers, first_less, second_less}
 use Rattle.csn_certify.specs.declared.conflict.Conflict.{Conflict}
 use Rattle.csn_certify.specs.declared.conflict.Conflict.TheVariants.{TwoEmpty, NotFirm, Overlap, EmptyClash, LoopClash, NotLast}
 use Rattle.csn_certify.specs.Conflicts.{IsNull, IsConflict, two_empty, choice_not_firm, empty_clash, rank_of, NotAfter}
 use Rattle.csn_certify.specs.Search.{IsUnder, IsFirstUnder, IsNullAt, IsLeastFrom, IsClashing}
-use Rattle.csn_certify.proofs.Searching.{IsBranch, NoneBelow, none_of, gone_through, found_at, last_class, by_number, first_behind, least_number, first_of_one, branch_clash, branch_octet}
+use Rattle.csn_certify.proofs.Searching.{NoneBelow, none_of, gone_through, found_at, last_class, by_number, first_behind, least_number, first_of_one, branch_at}
 use Rattle.csn_certify.proofs.ConflictKinds.{ChoiceFits, choice_fits}
 
 -- what takes no bits begins with none
@@ -110,15 +109,6 @@ module _ (d : DescV) (node : ℕ) (parts : List ℕ) (at : slice_get d.nodes nod
   of_firm : (front : List ℕ) (c : Conflict) → IsUnder (node ∷ 2 ∷ front) c → IsConflict d 12 c → IsNotFirmAt d parts node c
   of_firm front c under holds = firm_fits c (front ++ under.0, under.1) (choice_fits d node (2 ∷ front) parts c at under holds)
 
-  -- no rank ends before the alternative
-  branch_firm : IsBranch (node ∷ 2 ∷ [])
-  branch_firm (TwoEmpty k i j) is = cc
-  branch_firm (NotFirm k i) is = cc
-  branch_firm (Overlap k o i j v w) is = cc
-  branch_firm (EmptyClash k o b) is = cc
-  branch_firm (LoopClash k o b) is = cc
-  branch_firm (NotLast k o) is = cc
-
   -- the alternative of a conflict
   same_alternative : (i k : ℕ) (c : Conflict) → IsUnder (node ∷ 2 ∷ i ∷ []) c → c ≡ NotFirm node k → k ≡ i
   same_alternative i k c under is =
@@ -150,7 +140,7 @@ module _ (d : DescV) (node : ℕ) (parts : List ℕ) (at : slice_get d.nodes nod
 
   pub not_firm_found : (i p : ℕ) → slice_get parts i ≡ Some p → ¬ IsNull d p → IsNotFirm d 12 p → NoneBelow d (node ∷ 2 ∷ []) i → IsFirstUnder d (node ∷ 2 ∷ []) (Some (NotFirm node i))
   not_firm_found i p is_part real bad below =
-      found_at d (node ∷ 2 ∷ []) i (NotFirm node i) branch_firm below (not_firm_at i p is_part real bad)
+      found_at d (node ∷ 2 ∷ []) i (NotFirm node i) (branch_at (node ∷ 2 ∷ []) refl) below (not_firm_at i p is_part real bad)
 
   pub all_firm : (count : ℕ) → length parts ≤ count → NoneBelow d (node ∷ 2 ∷ []) count → IsFirstUnder d (node ∷ 2 ∷ []) None
   all_firm count all below c under holds =
@@ -185,7 +175,7 @@ module _ (d : DescV) (node : ℕ) (parts : List ℕ) (at : slice_get d.nodes nod
   -- a choice that is not reached there has none
   pub not_reached : (octet : ℕ) → ¬ Reached d node octet → IsFirstUnder d (node ∷ 3 ∷ octet ∷ []) None
   not_reached octet apart =
-      none_of d (node ∷ 3 ∷ octet ∷ []) (branch_octet node octet) (λ x c under holds. apart (octet_class octet x c under holds).1)
+      none_of d (node ∷ 3 ∷ octet ∷ []) (branch_at (node ∷ 3 ∷ octet ∷ []) refl) (λ x c under holds. apart (octet_class octet x c under holds).1)
 
   below_three : (octet : ℕ) → NoneBelow d (node ∷ 3 ∷ octet ∷ []) 3
   below_three octet x less c under holds =
@@ -193,11 +183,11 @@ module _ (d : DescV) (node : ℕ) (parts : List ℕ) (at : slice_get d.nodes nod
 
   -- overlaps come before clashes
   pub overlap_found : (octet : ℕ) (c : Conflict) → IsFirstUnder d (node ∷ 3 ∷ octet ∷ 3 ∷ []) (Some c) → IsFirstUnder d (node ∷ 3 ∷ octet ∷ []) (Some c)
-  overlap_found octet c h = found_at d (node ∷ 3 ∷ octet ∷ []) 3 c (branch_octet node octet) (below_three octet) h
+  overlap_found octet c h = found_at d (node ∷ 3 ∷ octet ∷ []) 3 c (branch_at (node ∷ 3 ∷ octet ∷ []) refl) (below_three octet) h
 
   pub clashes_after : (octet : ℕ) (r : Option Conflict) → IsFirstUnder d (node ∷ 3 ∷ octet ∷ 3 ∷ []) None → IsFirstUnder d (node ∷ 3 ∷ octet ∷ 4 ∷ []) r → IsFirstUnder d (node ∷ 3 ∷ octet ∷ []) r
   clashes_after octet r none h =
-      last_class d (node ∷ 3 ∷ octet ∷ []) 4 r (branch_octet node octet) below past h
+      last_class d (node ∷ 3 ∷ octet ∷ []) 4 r (branch_at (node ∷ 3 ∷ octet ∷ []) refl) below past h
     where
       below : NoneBelow d (node ∷ 3 ∷ octet ∷ []) 4
       below x less c under holds =
@@ -259,5 +249,5 @@ module _ (d : DescV) (node : ℕ) (parts : List ℕ) (at : slice_get d.nodes nod
   -- the octet positions have been gone through
   pub octets_end : (count : ℕ) → 8 ≤ count → NoneBelow d (node ∷ 3 ∷ []) count → IsFirstUnder d (node ∷ 3 ∷ []) None
   octets_end count all below =
-      gone_through d (node ∷ 3 ∷ []) count (branch_clash node) below
+      gone_through d (node ∷ 3 ∷ []) count (branch_at (node ∷ 3 ∷ []) refl) below
       (λ x over. not_reached d node parts at x (λ reached. let small = reached_small d reached in absurd (omega (arith, small, over, all))))

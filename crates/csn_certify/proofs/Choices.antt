@@ -45,12 +45,8 @@ module _ (d : DescV) (parts : List ℕ) (octet : ℕ) (held : List ℕ) where
         let P : List ℕ → Type 0 = λ l. marks.IsWord l in
         let front = word_front h.front h.back (subst P h.parts word) in
         record {
-          part = part;
-          word = h.front;
-          mark = h.whole;
-          is_part = at;
+          own = record { part = part; word = h.front; mark = h.whole; is_part = at; key = (are h.front h.whole front).0 h.key };
           takes_bits = real;
-          key = (are h.front h.whole front).0 h.key;
           begins = (h.back, h.parts);
         }
 
@@ -69,11 +65,7 @@ module _ (d : DescV) (parts : List ℕ) (octet : ℕ) (held : List ℕ) where
           key =
               record {
                 j = j;
-                part = part;
-                word = held ++ h.next ∷ h.back;
-                mark = h.whole;
-                is_part = at;
-                key = (are (held ++ h.next ∷ h.back) h.whole h.word).0 h.key;
+                own = record { part = part; word = held ++ h.next ∷ h.back; mark = h.whole; is_part = at; key = (are (held ++ h.next ∷ h.back) h.whole h.word).0 h.key };
                 begins = (h.next ∷ h.back, refl);
                 not_all = omega (arith, longer);
               };

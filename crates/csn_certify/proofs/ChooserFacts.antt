@@ -258,11 +258,7 @@ module _ (d : DescV) (parts : List ℕ) (octet : ℕ) where
         let more = h.not_all in
         record {
           j = h.j;
-          part = h.part;
-          word = h.word;
-          mark = h.mark;
-          is_part = h.is_part;
-          key = h.key;
+          own = h.own;
           begins = (begun.0 ++ h.begins.0, h.begins.1 ∙ ap (λ l. l ++ h.begins.0) begun.1 ∙ append_assoc front begun.0 h.begins.0);
           not_all = omega (arith, size, more, length-append front begun.0);
         }
@@ -271,13 +267,13 @@ module _ (d : DescV) (parts : List ℕ) (octet : ℕ) where
     key_back {j} h = by_order (begun_both h.word h.begins.0 front begun.0 [] [] {b = held} {c = held} h.begins.1 begun.1 refl)
       where
         its : (rest : List ℕ) → front ≡ h.word ++ rest → BeginsWithKey d 12 parts octet front j
-        its rest e = record { part = h.part; word = h.word; mark = h.mark; is_part = h.is_part; takes_bits = h.takes_bits; key = h.key; begins = (rest, e) }
+        its rest e = record { own = h.own; takes_bits = h.takes_bits; begins = (rest, e) }
 
         by_rest : (rest : List ℕ) → h.word ≡ front ++ rest → BeginsWithKey d 12 parts octet front j ⊎ BeginsKey d 12 parts octet front
         by_rest [] e = inl (its [] (sym (append-nil front) ∙ sym e ∙ sym (append-nil h.word)))
         by_rest (x ∷ rest) e =
             let size = ap length e in
-            inr (record { j = j; part = h.part; word = h.word; mark = h.mark; is_part = h.is_part; key = h.key; begins = (x ∷ rest, e); not_all = omega (arith, size, length-append front (x ∷ rest)) })
+            inr (record { j = j; own = h.own; begins = (x ∷ rest, e); not_all = omega (arith, size, length-append front (x ∷ rest)) })
 
         by_order : IsBegunBy h.word front ⊎ IsBegunBy front h.word → BeginsWithKey d 12 parts octet front j ⊎ BeginsKey d 12 parts octet front
         by_order (inl long) = by_rest long.0 long.1

@@ -137,7 +137,7 @@ certified c (not_last {node = node} n from at last reached ends follow) = no_las
 pub second : Picks zero_or_one 12 0 0 (1 ∷ []) false (Take 1)
 second =
     pick_key (1 ∷ 2 ∷ []) refl
-    (record { part = 2; word = 1 ∷ []; mark = true; is_part = refl; takes_bits = λ null. no_null 2 null; key = keys_at _ refl (keys_lits (kept (lit≤ tt) refl refl)); begins = ([], refl) })
+    (record { own = record { part = 2; word = 1 ∷ []; mark = true; is_part = refl; key = keys_at _ refl (keys_lits (kept (lit≤ tt) refl refl)) }; takes_bits = λ null. no_null 2 null; begins = ([], refl) })
 
 no_key : (j : ℕ) → BeginsWithKey zero_or_one 12 (1 ∷ 2 ∷ []) 0 [] j → ⊥
 no_key j h =
@@ -148,4 +148,4 @@ no_key j h =
 pub bit_needed : Picks zero_or_one 12 0 0 [] false Wait
 bit_needed =
     pick_wait (1 ∷ 2 ∷ []) refl no_key (λ i t. no_null t.part t.is_null) refl
-    (record { j = 0; part = 1; word = 0 ∷ []; mark = true; is_part = refl; key = keys_at _ refl (keys_lits (kept (lit≤ tt) refl refl)); begins = (0 ∷ [], refl); not_all = lit< tt })
+    (record { j = 0; own = record { part = 1; word = 0 ∷ []; mark = true; is_part = refl; key = keys_at _ refl (keys_lits (kept (lit≤ tt) refl refl)) }; begins = (0 ∷ [], refl); not_all = lit< tt })

@@ -16,12 +16,8 @@ use Rattle.csn_certify.specs.Picks.{IsAsked, asked_choice, asked_many, BeginsWit
 pub key_on : (d : DescV) (most : ℕ) {octet j : ℕ} {parts held front : List ℕ} → IsBegunBy held front → BeginsWithKey d most parts octet front j → BeginsWithKey d most parts octet held j
 key_on d most begun h =
     record {
-      part = h.part;
-      word = h.word;
-      mark = h.mark;
-      is_part = h.is_part;
+      own = h.own;
       takes_bits = h.takes_bits;
-      key = h.key;
       begins = (h.begins.0 ++ begun.0, begun.1 ∙ ap (λ l. l ++ begun.0) h.begins.1 ∙ append_assoc h.word h.begins.0 begun.0);
     }
 

@@ -14,9 +14,9 @@ use Rattle.csn_certify.specs.declared.conflict.Conflict.{Conflict}
 use Rattle.csn_certify.specs.declared.conflict.Conflict.TheVariants.{TwoEmpty, NotFirm, Overlap, EmptyClash, LoopClash, NotLast}
 use Rattle.csn_certify.specs.Conflicts.{IsNull, IsConflict, overlap, text_of, rank_of, NotAfter}
 use Rattle.csn_certify.specs.Search.{IsUnder, IsFirstUnder, IsLeastFrom}
-use Rattle.csn_certify.specs.Overlaps.{AreBegun, Meets, MeetsAt, MeetUnder, HasKey, IsFirstBegun, IsPart, HasKeyFrom, Overlaps}
+use Rattle.csn_certify.specs.Overlaps.{AreBegun, Meets, MeetsAt, KeyUnder, MeetUnder, HasKey, IsFirstBegun, IsPart, HasKeyFrom, Overlaps}
 use Rattle.csn_certify.proofs.SearchFacts.{denied}
-use Rattle.csn_certify.proofs.Searching.{IsBranch, NoneBelow, found_at, least_number, first_behind}
+use Rattle.csn_certify.proofs.Searching.{NoneBelow, branch_at, found_at, least_number, first_behind}
 use Rattle.csn_certify.proofs.ConflictKinds.{ChoiceFits, choice_fits}
 use Rattle.csn_look.proofs.Tables.KeyWords.{key_word}
 use Rattle.csn_certify.proofs.TablesMeet.{swapped}
@@ -84,6 +84,17 @@ module _ (d : DescV) (octet p : ℕ) (keys : List Key) (lists : ListsKeys keys (
         (λ w key begun. first_meets d octet p keys lists marks (IsOnly word) are at first least at_is w word key true is (refl, refl) (swapped word w begun)),
       )
 
+-- ---- keys that meet
+
+-- a key of a set is under no bits
+abbrev under_none : (marks word : List ℕ) (mark : Bool) (P : List ℕ → Bool → Type 0) → KeysAre marks P → IsWord word → P word mark → KeyUnder marks []
+under_none marks word mark P are is key =
+    record { key = word; mark = mark; is_word = is; in_set = (are word mark is).1 key; under = inr (word, refl) }
+
+-- and so one of a node
+abbrev key_of_node : (d : DescV) (octet p : ℕ) (word marks : List ℕ) → KeysAre marks (InKeys d 12 p octet) → HasKey d octet p word → KeyUnder marks []
+key_of_node d octet p word marks are key = under_none marks word key.0 (InKeys d 12 p octet) are (key_word d key.1) key.1
+
 -- ---- the conflict
 
 record IsOverlapAt (d : DescV) (octet : ℕ) (parts : List ℕ) (node : ℕ) (c : Conflict) : Type 0 where
@@ -136,22 +147,6 @@ module _ (d : DescV) (node : ℕ) (parts : List ℕ) (at : slice_get d.nodes nod
   rank_at : (c : Conflict) (o : IsOverlapAt d octet parts node c) → rank_of c ≡ node ∷ 3 ∷ octet ∷ 3 ∷ o.i ∷ o.j ∷ (text_of o.word_i ++ text_of o.word_j)
   rank_at c o = ap rank_of o.is
 
-  branch_overlap : IsBranch (node ∷ 3 ∷ octet ∷ 3 ∷ [])
-  branch_overlap (TwoEmpty k i j) is = cc
-  branch_overlap (NotFirm k i) is = cc
-  branch_overlap (Overlap k o i j v w) is = cc
-  branch_overlap (EmptyClash k o b) is = cc
-  branch_overlap (LoopClash k o b) is = cc
-  branch_overlap (NotLast k o) is = cc
-
-  branch_first : (i : ℕ) → IsBranch (node ∷ 3 ∷ octet ∷ 3 ∷ i ∷ [])
-  branch_first i (TwoEmpty k m n) is = cc
-  branch_first i (NotFirm k m) is = cc
-  branch_first i (Overlap k o m n v w) is = cc
-  branch_first i (EmptyClash k o b) is = cc
-  branch_first i (LoopClash k o b) is = cc
-  branch_first i (NotLast k o) is = cc
-
   same_first : (i : ℕ) (front : List ℕ) (c : Conflict) (o : IsOverlapAt d octet parts node c) → IsUnder (node ∷ 3 ∷ octet ∷ 3 ∷ i ∷ front) c → o.i ≡ i
   same_first i front c o under = let rank = rank_at c o in let is = under.1 in cc
 
@@ -187,7 +182,7 @@ module _ (d : DescV) (node : ℕ) (parts : List ℕ) (at : slice_get d.nodes nod
   overlap_some i None reached least h =
       let o = least.1 in
       absurd (h (Overlap node octet i o.key_j.j o.word_i o.word_j) (o.key_j.j ∷ (text_of o.word_i ++ text_of o.word_j), refl) (conflict_of i reached o))
-  overlap_some i (Some c) reached least h = found_at d (node ∷ 3 ∷ octet ∷ 3 ∷ []) i c branch_overlap below h
+  overlap_some i (Some c) reached least h = found_at d (node ∷ 3 ∷ octet ∷ 3 ∷ []) i c (branch_at (node ∷ 3 ∷ octet ∷ 3 ∷ []) refl) below h
     where
       below : NoneBelow d (node ∷ 3 ∷ octet ∷ 3 ∷ []) i
       below x less e under holds =
@@ -214,7 +209,7 @@ module _ (d : DescV) (node : ℕ) (parts : List ℕ) (at : slice_get d.nodes nod
       below o.j (omega (arith, all, inside)) c (text_of o.word_i ++ text_of o.word_j, rank) holds
 
   pub second_found : (i j : ℕ) (c : Conflict) → NoneBelow d (node ∷ 3 ∷ octet ∷ 3 ∷ i ∷ []) j → IsFirstUnder d (node ∷ 3 ∷ octet ∷ 3 ∷ i ∷ j ∷ []) (Some c) → IsFirstUnder d (node ∷ 3 ∷ octet ∷ 3 ∷ i ∷ []) (Some c)
-  second_found i j c below h = found_at d (node ∷ 3 ∷ octet ∷ 3 ∷ i ∷ []) j c (branch_first i) below h
+  second_found i j c below h = found_at d (node ∷ 3 ∷ octet ∷ 3 ∷ i ∷ []) j c (branch_at (node ∷ 3 ∷ octet ∷ 3 ∷ i ∷ []) refl) below h
 
   -- ---- the words of two alternatives
 
@@ -264,21 +259,11 @@ module _ (d : DescV) (node : ℕ) (parts : List ℕ) (at : slice_get d.nodes nod
     pub pair_apart : (own table word : List ℕ) → KeysAre own (InKeys d 12 p octet) → KeysAre table (InKeys d 12 q octet) → word ≡ [] → ¬ MeetUnder own table word → IsFirstUnder d (node ∷ 3 ∷ octet ∷ 3 ∷ i ∷ j ∷ []) None
     pair_apart own table word are_own are empty none c under holds =
         let pair = pair_of c under holds in
-        let is_v = key_word d pair.key_i.1 in
-        let is_w = key_word d pair.key_j.1 in
         let met : MeetUnder own table [] =
         record {
-          v = pair.word_i;
-          w = pair.word_j;
-          mark_v = pair.key_i.0;
-          mark_w = pair.key_j.0;
-          is_v = is_v;
-          is_w = is_w;
-          key_v = (are_own pair.word_i pair.key_i.0 is_v).1 pair.key_i.1;
-          key_w = (are pair.word_j pair.key_j.0 is_w).1 pair.key_j.1;
+          v = key_of_node d octet p pair.word_i own are_own pair.key_i;
+          w = key_of_node d octet q pair.word_j table are pair.key_j;
           begun = pair.begun;
-          under_v = inr (pair.word_i, refl);
-          under_w = inr (pair.word_j, refl);
         }
         in
         none (subst (λ (w : List ℕ). MeetUnder own table w) (sym empty) met)
@@ -403,39 +388,34 @@ module _ (d : DescV) (octet : ℕ) (parts : List ℕ) where
         let one : o.p ≡ p = cc in
         o.part.real (subst (λ (k : ℕ). IsNull d k) (sym one) null)
 
+    pub later_null : (from : ℕ) (keys : List ℕ) (first : Option ℕ) → from ≡ i + 1 → IsNull d p → AreLater keys first from → AreLater keys first i
+    later_null from keys first next null later =
+        let before = subst (AreLater keys first) next later in
+        (keys_null keys null before.0, least_stays first (null_overlaps null) before.1)
+
     module _ (real : ¬ IsNull d p) (own : List ℕ) (are_own : KeysAre own (InKeys d 12 p octet)) (marks : List ℕ) (are : KeysAre marks (HasKeyFrom d octet parts (i + 1))) where
       overlaps_met : Overlaps d octet parts i → MeetUnder marks own []
       overlaps_met o =
           let there = o.part.is_part in
           let one : o.p ≡ p = cc in
           let key = subst (λ (k : ℕ). HasKey d octet k o.word_i) one o.key_i in
-          let is_v = key_word d o.key_j.key in
-          let is_w = key_word d key.1 in
           record {
-            v = o.word_j;
-            w = o.word_i;
-            mark_v = o.mark_j;
-            mark_w = key.0;
-            is_v = is_v;
-            is_w = is_w;
-            key_v = (are o.word_j o.mark_j is_v).1 o.key_j;
-            key_w = (are_own o.word_i key.0 is_w).1 key.1;
+            v = under_none marks o.word_j o.mark_j (HasKeyFrom d octet parts (i + 1)) are (key_word d o.key_j.key) o.key_j;
+            w = key_of_node d octet p o.word_i own are_own key;
             begun = swapped o.word_i o.word_j o.begun;
-            under_v = inr (o.word_j, refl);
-            under_w = inr (o.word_i, refl);
           }
 
       met_overlaps : MeetUnder marks own [] → Overlaps d octet parts i
       met_overlaps m =
           record {
             p = p;
-            word_i = m.w;
-            word_j = m.v;
-            mark_j = m.mark_v;
+            word_i = m.w.key;
+            word_j = m.v.key;
+            mark_j = m.v.mark;
             part = record { is_part = at; real = real };
-            key_i = (m.mark_w, (are_own m.w m.mark_w m.is_w).0 m.key_w);
-            key_j = (are m.v m.mark_v m.is_v).0 m.key_v;
-            begun = swapped m.v m.w m.begun;
+            key_i = (m.w.mark, (are_own m.w.key m.w.mark m.w.is_word).0 m.w.in_set);
+            key_j = (are m.v.key m.v.mark m.v.is_word).0 m.v.in_set;
+            begun = swapped m.v.key m.w.key m.begun;
           }
 
       -- the least one after this alternative, by the test whether its table meets that of the later ones

@@ -212,11 +212,7 @@ module _ (d : DescV) (most : ℕ) (here : Here d) (certified : Certified d most)
         | inl both ↦ absurd (one_null other.differs at_m other.at null both)
         | inr real ↦ record {
           j = other.j;
-          part = other.part;
-          word = key.word;
-          mark = key.mark;
-          is_part = other.at;
-          key = key.key;
+          own = record { part = other.part; word = key.word; mark = key.mark; is_part = other.at; key = key.key };
           begins = (key.word, refl);
           not_all = some_bit key.word (λ nothing. some_key other.j other.at real key.key nothing);
         }
@@ -225,7 +221,7 @@ module _ (d : DescV) (most : ℕ) (here : Here d) (certified : Certified d most)
   -- the held bits begin with a key of an alternative that takes bits; and so where they are all of it
   with_key : {q : ℕ} {held word : List ℕ} {mark : Bool} (m : ℕ) (rest : List ℕ) → slice_get parts m ≡ Some q → (IsNull d q → ⊥) → InKeys d most q (o % 8) word mark → held ≡ word ++ rest → BeginsWithKey d most parts (o % 8) held m
   with_key {q} {word = word} {mark = mark} m rest at_m real key is =
-      record { part = q; word = word; mark = mark; is_part = at_m; takes_bits = real; key = key; begins = (rest, is) }
+      record { own = record { part = q; word = word; mark = mark; is_part = at_m; key = key }; takes_bits = real; begins = (rest, is) }
 
   all_held : (held word : List ℕ) → word ≡ held ++ [] → held ≡ word ++ []
   all_held held word is = sym (append-nil held) ∙ sym is ∙ sym (append-nil word)
@@ -238,11 +234,7 @@ module _ (d : DescV) (most : ℕ) (here : Here d) (certified : Certified d most)
       let size = ap length is in
       no_more (record {
         j = m;
-        part = q;
-        word = word;
-        mark = mark;
-        is_part = at_m;
-        key = key;
+        own = record { part = q; word = word; mark = mark; is_part = at_m; key = key };
         begins = (a ∷ r, is);
         not_all = omega (arith, length-append held (a ∷ r));
       })

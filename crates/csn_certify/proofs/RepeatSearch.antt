@@ -7,12 +7,11 @@ use Rattle.csn_look.specs.Nullable.{Nullable}
 use Rattle.csn_look.specs.Keys.{IsNotFirm, IsFirm}
 use Rattle.csn_look.specs.Reached.{Reached}
 use Rattle.csn_look.proofs.Handing.ReachedParts.{reached_small, end_small}
-use Rattle.csn_claims.proofs.Pieces.{order, equal_numbers, first_less, second_less}
 use Rattle.csn_certify.specs.declared.conflict.Conflict.{Conflict}
 use Rattle.csn_certify.specs.declared.conflict.Conflict.TheVariants.{TwoEmpty, NotFirm, Overlap, EmptyClash, LoopClash, NotLast}
 use Rattle.csn_certify.specs.Conflicts.{IsConflict, many_not_firm, times_not_firm, loop_clash, not_last, rank_of, NotAfter}
 use Rattle.csn_certify.specs.Search.{IsUnder, IsFirstUnder, IsLeastFrom, IsClashing, MayEndAt, IsFollowed, IsLastNode}
-use Rattle.csn_certify.proofs.Searching.{NoneBelow, gone_through, found_at, widen, least_number, by_number, first_behind, first_of_one, branch_clash}
+use Rattle.csn_certify.proofs.Searching.{NoneBelow, gone_through, found_at, widen, least_number, by_number, first_behind, first_of_one, branch_at}
 use Rattle.csn_certify.proofs.ConflictKinds.{TimesFits, ManyFits, LastFits, times_fits, many_fits, last_fits}
 
 -- ---- by number
@@ -118,7 +117,7 @@ module _ (d : DescV) (node part : ℕ) (at : slice_get d.nodes node ≡ Some (Ma
   -- the octet positions have been gone through
   pub loops_end : (count : ℕ) → 8 ≤ count → NoneBelow d (node ∷ 3 ∷ []) count → IsFirstUnder d (node ∷ 3 ∷ []) None
   loops_end count all below =
-      gone_through d (node ∷ 3 ∷ []) count (branch_clash node) below
+      gone_through d (node ∷ 3 ∷ []) count (branch_at (node ∷ 3 ∷ []) refl) below
       (λ x over. loop_not_reached x (λ reached. let small = reached_small d reached in absurd (omega (arith, small, over, all))))
 
 -- ---- what must be last
@@ -163,7 +162,7 @@ module _ (d : DescV) (node : ℕ) (last : IsLastNode d node) where
 
   pub last_found : (octet : ℕ) → MayEndAt d node octet → IsFollowed d node octet → NoneBelow d (node ∷ 3 ∷ []) octet → IsFirstUnder d (node ∷ []) (Some (NotLast node octet))
   last_found octet ends followed below =
-      last_octets (Some (NotLast node octet)) (found_at d (node ∷ 3 ∷ []) octet (NotLast node octet) (branch_clash node) below here)
+      last_octets (Some (NotLast node octet)) (found_at d (node ∷ 3 ∷ []) octet (NotLast node octet) (branch_at (node ∷ 3 ∷ []) refl) below here)
     where
       here : IsFirstUnder d (node ∷ 3 ∷ octet ∷ []) (Some (NotLast node octet))
       here = (

@@ -23,8 +23,6 @@ use Rattle.csn_look.specs.Told.{OctetsAre, SignsAre, FollowHas}
 use Rattle.csn_look.specs.Sums.{Has}
 use Rattle.csn_look.specs.FollowV.{IsFollow}
 use Rattle.csn_look.specs.NodeSets.{SetsAre, IsLookOf}
-use Rattle.csn_look.specs.LookV.{LookV}
-use Rattle.csn_look.specs.LookKeys.{IsKeysOf}
 use Rattle.csn_look.specs.Starts.{InStart, NodeStarts, PartsStart, InFirst, starts_at, starts_lits, starts_spare, starts_pad, starts_field, starts_rest, starts_seq, starts_trunc, starts_choice, starts_times, starts_many, starts_window, starts_named, starts_here, starts_later}
 use Rattle.csn_look.specs.Keys.{InKeys, IsNotFirm, IsFirm}
 use Rattle.csn_look.specs.Ends.{InEnds}
@@ -310,9 +308,9 @@ module _ (d : DescV) (parts : List ℕ) (from : ℕ) where
   null_end count all before n up null =
       let inside = slice_get_within parts n null.0 null.1 in before n up (omega (arith, all, inside)) null
 
--- a list of keys, and a table, stand for a node
-pub rows_inside : (d : DescV) (look : LookV) (i : ℕ) → IsKeysOf d look → i < length d.nodes → i < length look.rows
-rows_inside d look i keys inside = let same = keys.same in omega (arith, inside, same)
+-- a node's number is one of a table that has as many rows as there are nodes
+pub in_table : {i rows count : ℕ} → rows ≡ count → i < count → i < rows
+in_table same inside = omega (arith, inside, same)
 
 -- the least number is none, since the answer is none
 pub least_is_none : (from : ℕ) (P : ℕ → Type 0) (r : Option ℕ) → ((n : ℕ) → r ≡ Some n → ⊥) → IsLeastFrom from P r → IsLeastFrom from P None

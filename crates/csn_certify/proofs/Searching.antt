@@ -1,6 +1,6 @@
 -- Searching conflicts in the order of their ranks.
-use Rattle.std.proofs.Common.{◌≡◌, ℕ, ◌+◌, ◌<◌, ◌≤◌, ◌⊎◌, inl, inr, List, [], ◌∷◌, ◌++◌, length, refl, sym, ◌∙◌, subst, arith, append_assoc, Option, Some, None}
-use Rattle.std.specs.Prelude.{Result, Ok, Err, IfOk}
+use Rattle.std.proofs.Common.{◌≡◌, ℕ, ◌+◌, ◌<◌, ◌≤◌, ◌⊎◌, inl, inr, Bool, true, false, List, [], ◌∷◌, ◌++◌, length, get_or, refl, sym, ◌∙◌, ap, subst, arith, append_assoc, Option, Some, None}
+use Rattle.std.specs.Prelude.{Result, Ok, Err, IfOk, ◌==◌, ◌&&◌}
 use Rattle.std.proofs.lemmas.List.{append-nil}
 use Rattle.std.proofs.lemmas.Option.{slice_get_within}
 use Rattle.csn_desc.specs.Nodes.{DescV}
@@ -102,56 +102,32 @@ module _ (d : DescV) where
 
 -- ---- the numbers that ranks begin with
 
-pub branch_all : IsBranch []
-branch_all (TwoEmpty k i j) is = cc
-branch_all (NotFirm k i) is = cc
-branch_all (Overlap k o i j v w) is = cc
-branch_all (EmptyClash k o b) is = cc
-branch_all (LoopClash k o b) is = cc
-branch_all (NotLast k o) is = cc
+-- ranks go on behind these numbers: behind a node, a kind, an octet position, and of an overlap behind its kind and the
+-- first of its alternatives
+abbrev pub is_front : List ℕ → Bool
+is_front [] = true
+is_front (node ∷ []) = true
+is_front (node ∷ kind ∷ []) = true
+is_front (node ∷ kind ∷ octet ∷ []) = kind == 3
+is_front (node ∷ kind ∷ octet ∷ there ∷ []) = kind == 3 && there == 3
+is_front (node ∷ kind ∷ octet ∷ there ∷ i ∷ []) = kind == 3 && there == 3
+is_front (node ∷ kind ∷ octet ∷ there ∷ i ∷ j ∷ words) = false
 
-pub branch_node : (node : ℕ) → IsBranch (node ∷ [])
-branch_node node (TwoEmpty k i j) is = cc
-branch_node node (NotFirm k i) is = cc
-branch_node node (Overlap k o i j v w) is = cc
-branch_node node (EmptyClash k o b) is = cc
-branch_node node (LoopClash k o b) is = cc
-branch_node node (NotLast k o) is = cc
+rank_is_whole : (c : Conflict) → is_front (rank_of c) ≡ false
+rank_is_whole (TwoEmpty node i j) = refl
+rank_is_whole _ = refl
 
-pub branch_clash : (node : ℕ) → IsBranch (node ∷ 3 ∷ [])
-branch_clash node (TwoEmpty k i j) is = cc
-branch_clash node (NotFirm k i) is = cc
-branch_clash node (Overlap k o i j v w) is = cc
-branch_clash node (EmptyClash k o b) is = cc
-branch_clash node (LoopClash k o b) is = cc
-branch_clash node (NotLast k o) is = cc
-
-pub branch_octet : (node octet : ℕ) → IsBranch (node ∷ 3 ∷ octet ∷ [])
-branch_octet node octet (TwoEmpty k i j) is = cc
-branch_octet node octet (NotFirm k i) is = cc
-branch_octet node octet (Overlap k o i j v w) is = cc
-branch_octet node octet (EmptyClash k o b) is = cc
-branch_octet node octet (LoopClash k o b) is = cc
-branch_octet node octet (NotLast k o) is = cc
+pub branch_at : (front : List ℕ) → is_front front ≡ true → IsBranch front
+branch_at front more c is = let whole = rank_is_whole c in let same = ap is_front is in cc
 
 -- ---- the whole search
 
--- the node that a conflict tells
+-- the node that a conflict tells, the first number of its rank
 abbrev pub node_of : Conflict → ℕ
-node_of (TwoEmpty node i j) = node
-node_of (NotFirm node i) = node
-node_of (Overlap node octet i j v w) = node
-node_of (EmptyClash node octet bit) = node
-node_of (LoopClash node octet bit) = node
-node_of (NotLast node octet) = node
+node_of c = get_or (rank_of c) 0 0
 
 pub node_under : (node : ℕ) (front : List ℕ) (c : Conflict) → IsUnder (node ∷ front) c → node_of c ≡ node
-node_under node front (TwoEmpty k i j) h = let is = h.1 in cc
-node_under node front (NotFirm k i) h = let is = h.1 in cc
-node_under node front (Overlap k o i j v w) h = let is = h.1 in cc
-node_under node front (EmptyClash k o b) h = let is = h.1 in cc
-node_under node front (LoopClash k o b) h = let is = h.1 in cc
-node_under node front (NotLast k o) h = let is = h.1 in cc
+node_under node front c h = ap (λ l. get_or l 0 0) h.1
 
 module _ (d : DescV) where
   node_inside : (c : Conflict) → IsConflict d 12 c → node_of c < length d.nodes
@@ -166,7 +142,7 @@ module _ (d : DescV) where
 
   -- the nodes have been gone through
   pub nodes_end : (count : ℕ) → length d.nodes ≤ count → NoneBelow d [] count → IsFirstUnder d [] None
-  nodes_end count all below = gone_through d [] count branch_all below past
+  nodes_end count all below = gone_through d [] count (branch_at [] refl) below past
     where
       past : (y : ℕ) → count ≤ y → IsFirstUnder d (y ∷ []) None
       past y over c under holds =
@@ -251,14 +227,14 @@ module _ (d : DescV) where
       ]
 
   pub first_stage : (node : ℕ) (c : Conflict) → IsFirstUnder d (node ∷ 1 ∷ []) (Some c) → IsFirstUnder d (node ∷ []) (Some c)
-  first_stage node c h = found_at d (node ∷ []) 1 c (branch_node node) (stage_none node) h
+  first_stage node c h = found_at d (node ∷ []) 1 c (branch_at (node ∷ []) refl) (stage_none node) h
 
   pub second_stage : (node : ℕ) (c : Conflict) → IsFirstUnder d (node ∷ 1 ∷ []) None → IsFirstUnder d (node ∷ 2 ∷ []) (Some c) → IsFirstUnder d (node ∷ []) (Some c)
-  second_stage node c first h = found_at d (node ∷ []) 2 c (branch_node node) (none_more d (node ∷ []) 1 (stage_none node) first) h
+  second_stage node c first h = found_at d (node ∷ []) 2 c (branch_at (node ∷ []) refl) (none_more d (node ∷ []) 1 (stage_none node) first) h
 
   pub third_stage : (node : ℕ) (r : Option Conflict) → IsFirstUnder d (node ∷ 1 ∷ []) None → IsFirstUnder d (node ∷ 2 ∷ []) None → IsFirstUnder d (node ∷ 3 ∷ []) r → IsFirstUnder d (node ∷ []) r
   third_stage node r first second h =
-      last_class d (node ∷ []) 3 r (branch_node node)
+      last_class d (node ∷ []) 3 r (branch_at (node ∷ []) refl)
       (none_more d (node ∷ []) 2 (none_more d (node ∷ []) 1 (stage_none node) first) second) (stage_past node) h
 
 -- ---- answers that are not a conflict

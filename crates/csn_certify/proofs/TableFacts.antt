@@ -6,7 +6,6 @@ use Rattle.std.proofs.lemmas.Option.{slice_get_within, slice_get-get_or, get_or_
 use Rattle.std.proofs.lemmas.List.{get_or_append_left}
 use Rattle.csn_desc.specs.declared.node.Node.TheVariants.{Choice}
 use Rattle.csn_desc.specs.Nodes.{DescV}
-use Rattle.csn_look.specs.Keys.{InKeys}
 use Rattle.csn_look.specs.KeyMarks.{IsWord, has_key}
 use Rattle.csn_look.specs.LookV.{LookV}
 use Rattle.csn_look.specs.LookKeys.{table_at, IsKeysOf}
@@ -14,7 +13,7 @@ use Rattle.csn_look.specs.Reached.{Reached}
 use Rattle.csn_look.proofs.Tables.KeyWords.{key_word}
 use Rattle.csn_certify.specs.declared.pick_table.Entry.{Entry}
 use Rattle.csn_certify.specs.declared.pick_table.Entry.TheVariants.{Refuse, Wait, Take}
-use Rattle.csn_certify.specs.Picks.{BeginsWithKey, BeginsKey}
+use Rattle.csn_certify.specs.Picks.{AlternativeKey, BeginsWithKey, BeginsKey}
 use Rattle.csn_certify.specs.Choosing.{AreWithoutKey}
 use Rattle.csn_certify.specs.PickTables.{PickTableV, PickTablesV, entry_at, Tells, IsPickTable, table_of, HasNumber, HasTable, HaveTables, ArePickTables}
 use Rattle.csn_certify.specs.Filling.{HaveSameTables}
@@ -45,33 +44,33 @@ all_same look parts octet other count all first j part at =
 
 module _ (d : DescV) (look : LookV) (parts : List ℕ) (octet other : ℕ) (keys : IsKeysOf d look) (below : (j p : ℕ) → slice_get parts j ≡ Some p → p < length d.nodes) (small : octet ≤ 7) (other_small : other ≤ 7) (same : HaveSameTables look parts octet other) where
   -- a key at one is a key at the other
-  key_there : (j part : ℕ) {w : List ℕ} {mark : Bool} → slice_get parts j ≡ Some part → InKeys d 12 part octet w mark → InKeys d 12 part other w mark
-  key_there j part {w} {mark} at key =
-      let word = key_word d key in
-      let here = (keys.keys part octet (below j part at) small w mark word).1 key in
-      (keys.keys part other (below j part at) other_small w mark word).0 (subst (λ (l : List ℕ). IsTrue (has_key l w mark)) (same j part at) here)
+  abbrev key_there : {j : ℕ} → AlternativeKey d 12 parts octet j → AlternativeKey d 12 parts other j
+  key_there {j} k =
+      let word = key_word d k.key in
+      let here = (keys.keys k.part octet (below j k.part k.is_part) small k.word k.mark word).1 k.key in
+      record { part = k.part; word = k.word; mark = k.mark; is_part = k.is_part; key = (keys.keys k.part other (below j k.part k.is_part) other_small k.word k.mark word).0 (subst (λ (l : List ℕ). IsTrue (has_key l k.word k.mark)) (same j k.part k.is_part) here) }
 
-  key_here : (j part : ℕ) {w : List ℕ} {mark : Bool} → slice_get parts j ≡ Some part → InKeys d 12 part other w mark → InKeys d 12 part octet w mark
-  key_here j part {w} {mark} at key =
-      let word = key_word d key in
-      let there = (keys.keys part other (below j part at) other_small w mark word).1 key in
-      (keys.keys part octet (below j part at) small w mark word).0 (subst (λ (l : List ℕ). IsTrue (has_key l w mark)) (sym (same j part at)) there)
+  abbrev key_here : {j : ℕ} → AlternativeKey d 12 parts other j → AlternativeKey d 12 parts octet j
+  key_here {j} k =
+      let word = key_word d k.key in
+      let there = (keys.keys k.part other (below j k.part k.is_part) other_small k.word k.mark word).1 k.key in
+      record { part = k.part; word = k.word; mark = k.mark; is_part = k.is_part; key = (keys.keys k.part octet (below j k.part k.is_part) small k.word k.mark word).0 (subst (λ (l : List ℕ). IsTrue (has_key l k.word k.mark)) (sym (same j k.part k.is_part)) there) }
 
   begins_there : {held : List ℕ} {j : ℕ} → BeginsWithKey d 12 parts octet held j → BeginsWithKey d 12 parts other held j
-  begins_there {held} {j} h =
-      record { part = h.part; word = h.word; mark = h.mark; is_part = h.is_part; takes_bits = h.takes_bits; key = key_there j h.part h.is_part h.key; begins = h.begins }
+  begins_there h =
+      record { own = key_there h.own; takes_bits = h.takes_bits; begins = h.begins }
 
   begins_here : {held : List ℕ} {j : ℕ} → BeginsWithKey d 12 parts other held j → BeginsWithKey d 12 parts octet held j
-  begins_here {held} {j} h =
-      record { part = h.part; word = h.word; mark = h.mark; is_part = h.is_part; takes_bits = h.takes_bits; key = key_here j h.part h.is_part h.key; begins = h.begins }
+  begins_here h =
+      record { own = key_here h.own; takes_bits = h.takes_bits; begins = h.begins }
 
   starts_there : {held : List ℕ} → BeginsKey d 12 parts octet held → BeginsKey d 12 parts other held
   starts_there h =
-      record { j = h.j; part = h.part; word = h.word; mark = h.mark; is_part = h.is_part; key = key_there h.j h.part h.is_part h.key; begins = h.begins; not_all = h.not_all }
+      record { j = h.j; own = key_there h.own; begins = h.begins; not_all = h.not_all }
 
   starts_here : {held : List ℕ} → BeginsKey d 12 parts other held → BeginsKey d 12 parts octet held
   starts_here h =
-      record { j = h.j; part = h.part; word = h.word; mark = h.mark; is_part = h.is_part; key = key_here h.j h.part h.is_part h.key; begins = h.begins; not_all = h.not_all }
+      record { j = h.j; own = key_here h.own; begins = h.begins; not_all = h.not_all }
 
   without_here : {held : List ℕ} {none : Option ℕ} {begun : Bool} → AreWithoutKey d parts other held none begun → AreWithoutKey d parts octet held none begun
   without_here h =

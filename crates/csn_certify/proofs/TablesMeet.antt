@@ -8,7 +8,7 @@ use Rattle.csn_look.specs.KeyMarks.{IsWord, has_key, BeginsWithKey, StartsKey}
 use Rattle.csn_look.proofs.Tables.Products.{bits_back}
 use Rattle.csn_desc.proofs.BitFacts.{IsBits-front, IsBits-along}
 use Rattle.csn_claims.proofs.Pieces.{begun_both}
-use Rattle.csn_certify.specs.Overlaps.{AreBegun, Meets, MeetUnder}
+use Rattle.csn_certify.specs.Overlaps.{AreBegun, Meets, KeyUnder, MeetUnder}
 use Rattle.csn_certify.proofs.KeyOrder.{with_meets}
 
 pub swapped : (v w : List ℕ) → AreBegun v w → AreBegun w v
@@ -18,23 +18,12 @@ swapped v w (inr long) = inl long
 -- the sets may change places
 pub other_way : (left right word : List ℕ) → MeetUnder left right word → MeetUnder right left word
 other_way left right word m =
-    record {
-      v = m.w;
-      w = m.v;
-      mark_v = m.mark_w;
-      mark_w = m.mark_v;
-      is_v = m.is_w;
-      is_w = m.is_v;
-      key_v = m.key_w;
-      key_w = m.key_v;
-      begun = swapped m.v m.w m.begun;
-      under_v = m.under_w;
-      under_w = m.under_v;
-    }
+    record { v = m.w; w = m.v; begun = swapped m.v.key m.w.key m.begun }
 
 -- a key that begins the word, or goes on from it
-pub touched : (marks word v : List ℕ) (mark : Bool) → IsWord word → IsWord v → IsTrue (has_key marks v mark) → AreBegun word v → Meets marks word
-touched marks word v mark is good key begun = with_meets marks (λ x m. IsTrue (has_key marks x m)) (λ x m w. ((λ h. h), (λ h. h))) word is v mark good key begun
+pub touched : (marks word : List ℕ) → IsWord word → KeyUnder marks word → Meets marks word
+touched marks word is k =
+    with_meets marks (λ x m. IsTrue (has_key marks x m)) (λ x m w. ((λ h. h), (λ h. h))) word is k.key k.mark k.is_word k.in_set k.under
 
 front_word : (word front back : List ℕ) → word ≡ front ++ back → IsWord word → IsWord front
 front_word word front back parts is =
@@ -42,58 +31,39 @@ front_word word front back parts is =
     let short = is.short in
     record { bits = IsBits-front front back (IsBits-along (sym parts) is.bits); short = omega (arith, size, short, length-append front back) }
 
+-- a key that begins the word
+abbrev key_before : (marks word : List ℕ) → IsWord word → BeginsWithKey marks word → KeyUnder marks word
+key_before marks word is k =
+    record { key = k.front; mark = k.whole; is_word = front_word word k.front k.back k.parts is; in_set = k.key; under = inl (k.back, k.parts) }
+
 -- where a key of one begins the word, and the word is touched by the other, they meet
 pub key_meets : (left right word : List ℕ) → IsWord word → BeginsWithKey left word → Meets right word → MeetUnder left right word
 key_meets left right word is l (inl r) =
     record {
-      v = l.front;
-      w = r.front;
-      mark_v = l.whole;
-      mark_w = r.whole;
-      is_v = front_word word l.front l.back l.parts is;
-      is_w = front_word word r.front r.back r.parts is;
-      key_v = l.key;
-      key_w = r.key;
+      v = key_before left word is l;
+      w = key_before right word is r;
       begun = begun_both l.front l.back r.front r.back [] [] {b = word} {c = word} l.parts r.parts refl;
-      under_v = inl (l.back, l.parts);
-      under_w = inl (r.back, r.parts);
     }
 key_meets left right word is l (inr r) =
     record {
-      v = l.front;
-      w = word ++ r.next ∷ r.back;
-      mark_v = l.whole;
-      mark_w = r.whole;
-      is_v = front_word word l.front l.back l.parts is;
-      is_w = r.word;
-      key_v = l.key;
-      key_w = r.key;
+      v = key_before left word is l;
+      w = record { key = word ++ r.next ∷ r.back; mark = r.whole; is_word = r.word; in_set = r.key; under = inr (r.next ∷ r.back, refl) };
       begun = inr (l.back ++ r.next ∷ r.back, ap (λ x. x ++ r.next ∷ r.back) l.parts ∙ append_assoc l.front l.back (r.next ∷ r.back));
-      under_v = inl (l.back, l.parts);
-      under_w = inr (r.next ∷ r.back, refl);
     }
 
--- the same keys, where they are under another word
-under_other : (left right word other : List ℕ) (m : MeetUnder left right word) → AreBegun other m.v → AreBegun other m.w → MeetUnder left right other
-under_other left right word other m under_v under_w =
-    record {
-      v = m.v;
-      w = m.w;
-      mark_v = m.mark_v;
-      mark_w = m.mark_w;
-      is_v = m.is_v;
-      is_w = m.is_w;
-      key_v = m.key_v;
-      key_w = m.key_w;
-      begun = m.begun;
-      under_v = under_v;
-      under_w = under_w;
-    }
+-- the same key, where it is under another word
+abbrev under_other : (marks word other : List ℕ) (k : KeyUnder marks word) → AreBegun other k.key → KeyUnder marks other
+under_other marks word other k under =
+    record { key = k.key; mark = k.mark; is_word = k.is_word; in_set = k.in_set; under = under }
 
 -- what is under a longer word is under the word
 pub under_front : (left right word : List ℕ) (bit : ℕ) → MeetUnder left right (word ++ bit ∷ []) → MeetUnder left right word
 under_front left right word bit m =
-    under_other left right (word ++ bit ∷ []) word m (shorter m.v m.under_v) (shorter m.w m.under_w)
+    record {
+      v = under_other left (word ++ bit ∷ []) word m.v (shorter m.v.key m.v.under);
+      w = under_other right (word ++ bit ∷ []) word m.w (shorter m.w.key m.w.under);
+      begun = m.begun;
+    }
   where
     shorter : (x : List ℕ) → AreBegun (word ++ bit ∷ []) x → AreBegun word x
     shorter x (inl long) = begun_both word (bit ∷ []) x long.0 [] [] {b = word ++ bit ∷ []} {c = x ++ long.0} refl refl (ap (λ l. l ++ []) long.1)
@@ -106,16 +76,19 @@ record GoesOn (word v : List ℕ) : Type 0 where
   is : v ≡ word ++ bit ∷ rest
   small : bit ≤ 1
 
-goes_on : (marks word v : List ℕ) (mark : Bool) → ¬ BeginsWithKey marks word → IsWord v → IsTrue (has_key marks v mark) → AreBegun word v → GoesOn word v
-goes_on marks word v mark none good key (inl long) = absurd (none (record { front = v; back = long.0; parts = long.1; whole = mark; key = key }))
-goes_on marks word v mark none good key (inr long) = further long.0 long.1
+goes_on : (marks word : List ℕ) → ¬ BeginsWithKey marks word → (k : KeyUnder marks word) → GoesOn word k.key
+goes_on marks word none k =
+    elim k.under [
+      | inl long ↦ absurd (none (record { front = k.key; back = long.0; parts = long.1; whole = k.mark; key = k.in_set }))
+      | inr long ↦ further long.0 long.1
+    ]
   where
-    further : (rest : List ℕ) → v ≡ word ++ rest → GoesOn word v
+    further : (rest : List ℕ) → k.key ≡ word ++ rest → GoesOn word k.key
     further [] is =
-        let one : v ≡ word = is ∙ append-nil word in
-        absurd (none (record { front = v; back = []; parts = sym one ∙ sym (append-nil v); whole = mark; key = key }))
+        let one : k.key ≡ word = is ∙ append-nil word in
+        absurd (none (record { front = k.key; back = []; parts = sym one ∙ sym (append-nil k.key); whole = k.mark; key = k.in_set }))
     further (bit ∷ rest) is =
-        let bits : IsBits (bit ∷ rest) = bits_back word (bit ∷ rest) (IsBits-along (sym is) good.bits) in
+        let bits : IsBits (bit ∷ rest) = bits_back word (bit ∷ rest) (IsBits-along (sym is) k.is_word.bits) in
         record { bit = bit; rest = rest; is = is; small = bits.0 }
 
 one_bit : (word : List ℕ) (a b : ℕ) (x y v w : List ℕ) → v ≡ word ++ a ∷ x → w ≡ word ++ b ∷ y → AreBegun v w → a ≡ b
@@ -131,17 +104,19 @@ one_bit word a b x y v w is_v is_w (inr long) =
 -- where no key begins the word, keys meet behind a 0 or behind a 1
 pub next_bit : (left right word : List ℕ) → ¬ BeginsWithKey left word → ¬ BeginsWithKey right word → MeetUnder left right word → MeetUnder left right (word ++ 0 ∷ []) ⊎ MeetUnder left right (word ++ 1 ∷ [])
 next_bit left right word none_l none_r m =
-    let l = goes_on left word m.v m.mark_v none_l m.is_v m.key_v m.under_v in
-    let r = goes_on right word m.w m.mark_w none_r m.is_w m.key_w m.under_w in
-    by_bit l.bit l.rest r.rest l.small l.is (r.is ∙ ap (λ b. word ++ b ∷ r.rest) (sym (one_bit word l.bit r.bit l.rest r.rest m.v m.w l.is r.is m.begun)))
+    let l = goes_on left word none_l m.v in
+    let r = goes_on right word none_r m.w in
+    by_bit l.bit l.rest r.rest l.small l.is (r.is ∙ ap (λ b. word ++ b ∷ r.rest) (sym (one_bit word l.bit r.bit l.rest r.rest m.v.key m.w.key l.is r.is m.begun)))
   where
-    under : (bit : ℕ) (x y : List ℕ) → m.v ≡ word ++ bit ∷ x → m.w ≡ word ++ bit ∷ y → MeetUnder left right (word ++ bit ∷ [])
+    under : (bit : ℕ) (x y : List ℕ) → m.v.key ≡ word ++ bit ∷ x → m.w.key ≡ word ++ bit ∷ y → MeetUnder left right (word ++ bit ∷ [])
     under bit x y is_v is_w =
-        under_other left right word (word ++ bit ∷ []) m
-        (inr (x, is_v ∙ sym (append_assoc word (bit ∷ []) x)))
-        (inr (y, is_w ∙ sym (append_assoc word (bit ∷ []) y)))
+        record {
+          v = under_other left word (word ++ bit ∷ []) m.v (inr (x, is_v ∙ sym (append_assoc word (bit ∷ []) x)));
+          w = under_other right word (word ++ bit ∷ []) m.w (inr (y, is_w ∙ sym (append_assoc word (bit ∷ []) y)));
+          begun = m.begun;
+        }
 
-    by_bit : (bit : ℕ) (x y : List ℕ) → bit ≤ 1 → m.v ≡ word ++ bit ∷ x → m.w ≡ word ++ bit ∷ y → MeetUnder left right (word ++ 0 ∷ []) ⊎ MeetUnder left right (word ++ 1 ∷ [])
+    by_bit : (bit : ℕ) (x y : List ℕ) → bit ≤ 1 → m.v.key ≡ word ++ bit ∷ x → m.w.key ≡ word ++ bit ∷ y → MeetUnder left right (word ++ 0 ∷ []) ⊎ MeetUnder left right (word ++ 1 ∷ [])
     by_bit zero x y small is_v is_w = inl (under 0 x y is_v is_w)
     by_bit (suc zero) x y small is_v is_w = inr (under 1 x y is_v is_w)
     by_bit (suc (suc bit)) x y small is_v is_w = absurd (omega (arith, small))
@@ -160,15 +135,15 @@ longer_is_word word bit small room is =
 module _ (left right word : List ℕ) (is : IsWord word) where
   -- no key of the first touches the word
   pub apart_left : ¬ Meets left word → ¬ MeetUnder left right word
-  apart_left none m = none (touched left word m.v m.mark_v is m.is_v m.key_v m.under_v)
+  apart_left none m = none (touched left word is m.v)
 
   pub apart_right : ¬ Meets right word → ¬ MeetUnder left right word
-  apart_right none m = none (touched right word m.w m.mark_w is m.is_w m.key_w m.under_w)
+  apart_right none m = none (touched right word is m.w)
 
   pub by_left_key : (b : Bool) → BeginsWithKey left word → (IsTrue b ↔ Meets right word) → IsTrue b ↔ MeetUnder left right word
   by_left_key b key f = (
     (λ h. key_meets left right word is key (f.0 h)),
-    (λ m. f.1 (touched right word m.w m.mark_w is m.is_w m.key_w m.under_w)),
+    (λ m. f.1 (touched right word is m.w)),
   )
 
   pub by_right_key : Meets left word → BeginsWithKey right word → MeetUnder left right word

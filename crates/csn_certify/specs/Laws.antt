@@ -124,21 +124,22 @@ FollowedGoOn =
     → NFollow d node o v b
     → ManyFollow d part o v b
 
--- where look-ahead leaves a free repetition, it does not follow the bits that lie ahead, where there are any
-abbrev pub FollowedStop : Type 0
-FollowedStop =
+-- where look-ahead leaves a free repetition, this one of it and of its part does not follow the bits that lie ahead,
+-- where there are any
+abbrev pub NotFollowedWhereLeft : (ℕ → ℕ → ℕ) → Type 0
+NotFollowedWhereLeft one_of =
     (d : DescV) (most node part o : ℕ) (v : Values) (held later : List ℕ) (ended : Bool)
     → IsDescription d → slice_get d.nodes node ≡ Some (Many part) → FitWidths d v → (ended ≡ true → later ≡ [])
     → ¬ (held ++ later ≡ []) → Picks d most node (o % 8) held ended Leave
-    → ¬ NFollow d node o v (held ++ later)
+    → ¬ NFollow d (one_of node part) o v (held ++ later)
+
+-- the repetition does not
+abbrev pub FollowedStop : Type 0
+FollowedStop = NotFollowedWhereLeft (λ node part. node)
 
 -- nor does its part
 abbrev pub FollowedTurnsStop : Type 0
-FollowedTurnsStop =
-    (d : DescV) (most node part o : ℕ) (v : Values) (held later : List ℕ) (ended : Bool)
-    → IsDescription d → slice_get d.nodes node ≡ Some (Many part) → FitWidths d v → (ended ≡ true → later ≡ [])
-    → ¬ (held ++ later ≡ []) → Picks d most node (o % 8) held ended Leave
-    → ¬ NFollow d part o v (held ++ later)
+FollowedTurnsStop = NotFollowedWhereLeft (λ node part. part)
 
 -- ---- turns
 

@@ -18,20 +18,19 @@ Meets marks word = BeginsWithKey marks word ⊎ StartsKey marks word
 abbrev pub MeetsAt : List ℕ → List Key → ℕ → Type 0
 MeetsAt marks keys at = (key : Key) × (slice_get keys at ≡ Some key) × Meets marks key.word
 
--- a key of one set and a key of the other, of which one begins with the other; and the word begins each of
--- them, or they begin it
+-- a key of the set that the word begins, or that begins the word
+pub record KeyUnder (marks word : List ℕ) : Type 0 where
+  pub key : List ℕ
+  pub mark : Bool
+  pub is_word : IsWord key
+  pub in_set : IsTrue (has_key marks key mark)
+  pub under : AreBegun word key
+
+-- such a key of one set and such a key of the other, of which one begins with the other
 pub record MeetUnder (left right word : List ℕ) : Type 0 where
-  pub v : List ℕ
-  pub w : List ℕ
-  pub mark_v : Bool
-  pub mark_w : Bool
-  pub is_v : IsWord v
-  pub is_w : IsWord w
-  pub key_v : IsTrue (has_key left v mark_v)
-  pub key_w : IsTrue (has_key right w mark_w)
-  pub begun : AreBegun v w
-  pub under_v : AreBegun word v
-  pub under_w : AreBegun word w
+  pub v : KeyUnder left word
+  pub w : KeyUnder right word
+  pub begun : AreBegun v.key w.key
 
 module _ (d : DescV) (octet : ℕ) where
   -- node i has the key, whole or cut

@@ -23,24 +23,26 @@ module _ (d : DescV) where
         → IsAsked node octet
 
 module _ (d : DescV) (most : ℕ) where
-  -- the held bits begin with a key of the alternative j, which takes bits
-  pub record BeginsWithKey (parts : List ℕ) (octet : ℕ) (held : List ℕ) (j : ℕ) : Type 0 where
+  -- a key of the alternative j
+  pub record AlternativeKey (parts : List ℕ) (octet j : ℕ) : Type 0 where
     pub part : ℕ
     pub word : List ℕ
     pub mark : Bool
     pub is_part : slice_get parts j ≡ Some part
-    pub takes_bits : ¬ IsNull d part
     pub key : InKeys d most part octet word mark
+
+  -- the held bits begin with a key of the alternative j, which takes bits
+  pub record BeginsWithKey (parts : List ℕ) (octet : ℕ) (held : List ℕ) (j : ℕ) : Type 0 where
+    pub own : AlternativeKey parts octet j
+    pub open own use *
+    pub takes_bits : ¬ IsNull d part
     pub begins : IsBegunBy held word
 
   -- the held bits are the beginning of a key of some alternative, and not all of it
   pub record BeginsKey (parts : List ℕ) (octet : ℕ) (held : List ℕ) : Type 0 where
     pub j : ℕ
-    pub part : ℕ
-    pub word : List ℕ
-    pub mark : Bool
-    pub is_part : slice_get parts j ≡ Some part
-    pub key : InKeys d most part octet word mark
+    pub own : AlternativeKey parts octet j
+    pub open own use *
     pub begins : IsBegunBy word held
     pub not_all : length held < length word
 

@@ -8,31 +8,25 @@ ghost use Rattle.csn_certify.specs.Conflicts.{rank_octets, rank_overlap};
 ghost use Rattle.csn_certify.specs.Search.{IsSurveyed, IsFirstUnder, IsLeastFrom};
 ghost use Rattle.csn_certify.specs.Overlaps.{MeetsAt, IsPart, Overlaps, IsFirstBegun};
 
+use crate::alternatives::Alternatives;
 use crate::conflict::Conflict;
 use crate::meets::{tables_meet, touches};
-use crate::search::Search;
+use crate::search::{Found, Search};
 use csn_bits::NoMemory;
-use csn_desc::Parts;
 use csn_look::{KeySet, KeyTable, Word};
 use std::alloc::Global;
 
 impl Search<'_> {
     /// The first overlap of two alternatives at an octet position.
-    pub fn overlap(
-        &self,
-        alloc: Global,
-        node: u16,
-        parts: &Parts,
-        octet: u8,
-    ) -> Result<Option<Conflict>, NoMemory>
+    pub fn overlap(&self, alloc: Global, choice: &Alternatives, octet: u8) -> Found
         requires known { IsSurveyed self.now.desc.now self.now.look.now self.now.reach.now }
-        requires choice { slice_get self.now.desc.now.nodes node ≡ Some (Choice parts.now) }
+        requires choice { slice_get self.now.desc.now.nodes choice.now.node ≡ Some (Choice choice.now.parts.now) }
         requires octet { octet ≤ 7 }
-        requires reached { Reached self.now.desc.now node octet }
-        ensures { IfOk result (IsFirstUnder self.now.desc.now (node ∷ rank_octets ∷ octet ∷ rank_overlap ∷ [])) }
+        requires reached { Reached self.now.desc.now choice.now.node octet }
+        ensures { IfOk result (IsFirstUnder self.now.desc.now (choice.now.node ∷ rank_octets ∷ octet ∷ rank_overlap ∷ [])) }
     {
-        match self.first_overlapping(alloc, node, parts, octet)? {
-            Some(i) => self.overlap_of(alloc, node, parts, octet, i),
+        match self.first_overlapping(alloc, choice, octet)? {
+            Some(i) => self.overlap_of(alloc, choice, octet, i),
             None => Ok(None),
         }
     }
@@ -42,19 +36,18 @@ impl Search<'_> {
     fn first_overlapping(
         &self,
         alloc: Global,
-        node: u16,
-        parts: &Parts,
+        choice: &Alternatives,
         octet: u8,
     ) -> Result<Option<u16>, NoMemory>
         requires known { IsSurveyed self.now.desc.now self.now.look.now self.now.reach.now }
-        requires choice { slice_get self.now.desc.now.nodes node ≡ Some (Choice parts.now) }
+        requires choice { slice_get self.now.desc.now.nodes choice.now.node ≡ Some (Choice choice.now.parts.now) }
         requires octet { octet ≤ 7 }
-        ensures { IfOk result (IsLeastFrom 0 (Overlaps self.now.desc.now octet parts.now)) }
+        ensures { IfOk result (IsLeastFrom 0 (Overlaps self.now.desc.now octet choice.now.parts.now)) }
     {
         let mut first = None;
         let mut later = KeyTable::new(alloc)?;
-        for i in (0..parts.len()).rev() {
-            let part = parts.get(i);
+        for i in (0..choice.parts.len()).rev() {
+            let part = choice.parts.get(i);
             if self.is_null(part) {
                 continue;
             }
@@ -68,24 +61,17 @@ impl Search<'_> {
     }
 
     /// The first overlap of an alternative with a later one.
-    fn overlap_of(
-        &self,
-        alloc: Global,
-        node: u16,
-        parts: &Parts,
-        octet: u8,
-        i: u16,
-    ) -> Result<Option<Conflict>, NoMemory>
+    fn overlap_of(&self, alloc: Global, choice: &Alternatives, octet: u8, i: u16) -> Found
         requires known { IsSurveyed self.now.desc.now self.now.look.now self.now.reach.now }
-        requires choice { slice_get self.now.desc.now.nodes node ≡ Some (Choice parts.now) }
+        requires choice { slice_get self.now.desc.now.nodes choice.now.node ≡ Some (Choice choice.now.parts.now) }
         requires octet { octet ≤ 7 }
-        requires reached { Reached self.now.desc.now node octet }
-        requires part { (p : ℕ) × IsPart self.now.desc.now octet parts.now i p }
-        ensures { IfOk result (IsFirstUnder self.now.desc.now (node ∷ rank_octets ∷ octet ∷ rank_overlap ∷ i ∷ [])) }
+        requires reached { Reached self.now.desc.now choice.now.node octet }
+        requires part { (p : ℕ) × IsPart self.now.desc.now octet choice.now.parts.now i p }
+        ensures { IfOk result (IsFirstUnder self.now.desc.now (choice.now.node ∷ rank_octets ∷ octet ∷ rank_overlap ∷ i ∷ [])) }
     {
-        let count = parts.len();
+        let count = choice.parts.len();
         for j in i + 1..count {
-            if let Some(conflict) = self.overlap_with(alloc, node, parts, octet, i, j)? {
+            if let Some(conflict) = self.overlap_with(alloc, choice, octet, i, j)? {
                 return Ok(Some(conflict));
             }
         }
@@ -93,26 +79,18 @@ impl Search<'_> {
     }
 
     /// The first overlap of two alternatives. Their keys are listed only where there is one.
-    fn overlap_with(
-        &self,
-        alloc: Global,
-        node: u16,
-        parts: &Parts,
-        octet: u8,
-        i: u16,
-        j: u16,
-    ) -> Result<Option<Conflict>, NoMemory>
+    fn overlap_with(&self, alloc: Global, choice: &Alternatives, octet: u8, i: u16, j: u16) -> Found
         requires known { IsSurveyed self.now.desc.now self.now.look.now self.now.reach.now }
-        requires choice { slice_get self.now.desc.now.nodes node ≡ Some (Choice parts.now) }
+        requires choice { slice_get self.now.desc.now.nodes choice.now.node ≡ Some (Choice choice.now.parts.now) }
         requires octet { octet ≤ 7 }
-        requires reached { Reached self.now.desc.now node octet }
+        requires reached { Reached self.now.desc.now choice.now.node octet }
         requires order { i < j }
-        requires within { j < length parts.now }
-        requires part { (p : ℕ) × IsPart self.now.desc.now octet parts.now i p }
-        ensures { IfOk result (IsFirstUnder self.now.desc.now (node ∷ rank_octets ∷ octet ∷ rank_overlap ∷ i ∷ j ∷ [])) }
+        requires within { j < length choice.now.parts.now }
+        requires part { (p : ℕ) × IsPart self.now.desc.now octet choice.now.parts.now i p }
+        ensures { IfOk result (IsFirstUnder self.now.desc.now (choice.now.node ∷ rank_octets ∷ octet ∷ rank_overlap ∷ i ∷ j ∷ [])) }
     {
-        let first = parts.get(i);
-        let second = parts.get(j);
+        let first = choice.parts.get(i);
+        let second = choice.parts.get(j);
         if self.is_null(second) {
             return Ok(None);
         }
@@ -130,7 +108,7 @@ impl Search<'_> {
             return Ok(None);
         };
         Ok(Some(Conflict::Overlap {
-            node,
+            node: choice.node,
             octet,
             i,
             j,

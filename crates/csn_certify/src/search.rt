@@ -13,6 +13,9 @@ use csn_desc::{Desc, Node};
 use csn_look::{Look, Reach};
 use std::alloc::Global;
 
+/// What a search tells where memory suffices: the first conflict, if there is one.
+pub(crate) type Found = Result<Option<Conflict>, NoMemory>;
+
 /// A description and the tables of what is known of its nodes.
 #[derive(Clone, Copy)]
 pub(crate) struct Search<'a> {
@@ -22,12 +25,7 @@ pub(crate) struct Search<'a> {
 }
 
 /// The first conflict of a description; where there is none, it is certified.
-pub(crate) fn first_conflict(
-    alloc: Global,
-    desc: &Desc,
-    look: &Look,
-    reach: &Reach,
-) -> Result<Option<Conflict>, NoMemory>
+pub(crate) fn first_conflict(alloc: Global, desc: &Desc, look: &Look, reach: &Reach) -> Found
     requires sets { IsLookOf desc.now look.now.sets }
     requires keys { IsKeysOf desc.now look.now }
     requires reached { IsReachOf desc.now reach.now.reached }
@@ -40,7 +38,7 @@ pub(crate) fn first_conflict(
 
 impl Search<'_> {
     /// The first conflict of the nodes, of which there are so many.
-    fn of_nodes(&self, alloc: Global, count: u16) -> Result<Option<Conflict>, NoMemory>
+    fn of_nodes(&self, alloc: Global, count: u16) -> Found
         requires known { IsSurveyed self.now.desc.now self.now.look.now self.now.reach.now }
         requires count { count ≡ length self.now.desc.now.nodes }
         ensures { IfOk result (IsFirstUnder self.now.desc.now []) }
@@ -54,7 +52,7 @@ impl Search<'_> {
     }
 
     /// The first conflict of a node.
-    fn of_node(&self, alloc: Global, node: u16) -> Result<Option<Conflict>, NoMemory>
+    fn of_node(&self, alloc: Global, node: u16) -> Found
         requires known { IsSurveyed self.now.desc.now self.now.look.now self.now.reach.now }
         requires node { node < length self.now.desc.now.nodes }
         ensures { IfOk result (IsFirstUnder self.now.desc.now (node ∷ [])) }

@@ -1,5 +1,5 @@
 -- A choice decides by the bits at hand: the alternative whose key they begin with, or the one that takes none.
-use Rattle.std.proofs.Common.{◌≡◌, ℕ, suc, ◌+◌, ◌%◌, ◌<◌, ◌≤◌, ◌⊎◌, inl, inr, Bool, false, List, [], ◌∷◌, ◌++◌, length, refl, sym, ◌∙◌, ap, subst, arith, append_assoc, append-nil, length-append, Option, Some, slice_get}
+use Rattle.std.proofs.Common.{◌≡◌, ℕ, suc, ◌+◌, ◌%◌, ◌<◌, ◌≤◌, ◌⊎◌, inl, inr, Bool, false, List, [], ◌∷◌, ◌++◌, length, refl, sym, ap, subst, arith, append-nil, length-append, Option, Some, slice_get}
 use Rattle.csn_desc.specs.declared.node.Node.{Node}
 use Rattle.csn_desc.specs.declared.node.Node.TheVariants.{Choice}
 use Rattle.csn_desc.specs.Nodes.{DescV, head_of, parts_of}
@@ -12,6 +12,7 @@ use Rattle.csn_certify.specs.declared.pick.Pick.TheVariants.{Take, Wait, Refuse}
 use Rattle.csn_certify.specs.Picks.{BeginsWithKey, StandsBehind, behind_bit, TakesNone, Picks, pick_key, pick_none, pick_wait, pick_refuse, pick_again, pick_leave}
 use Rattle.csn_certify.specs.CountedValues.{fields_of}
 use Rattle.csn_certify.proofs.CountedValues.{fields_have_values}
+use Rattle.csn_certify.proofs.MoreHeld.{key_on}
 use Rattle.csn_judge.specs.Known.{Known}
 use Rattle.csn_judge.specs.Left.{Left, choice_left}
 use Rattle.csn_judge.specs.Remains.{Within}
@@ -46,19 +47,6 @@ module _ (d : DescV) where
           let second = first_next d 12 known.description known.certified other refl in
           omega (arith, first, second)
 
-  -- more bits begin with the same key
-  key_longer : {parts : List ℕ} {octet j : ℕ} {held : List ℕ} (more : List ℕ) → BeginsWithKey d 12 parts octet held j → BeginsWithKey d 12 parts octet (held ++ more) j
-  key_longer {held = held} more key =
-      record {
-        part = key.part;
-        word = key.word;
-        mark = key.mark;
-        is_part = key.is_part;
-        takes_bits = key.takes_bits;
-        key = key.key;
-        begins = (key.begins.0 ++ more, ap (λ l. l ++ more) key.begins.1 ∙ append_assoc key.word key.begins.0 more);
-      }
-
   none_longer : {node octet bit i : ℕ} {parts rest : List ℕ} (more : List ℕ) → TakesNone d 12 node parts octet (bit ∷ rest) false i → TakesNone d 12 node parts octet ((bit ∷ rest) ++ more) false i
   none_longer more none = record { part = none.part; is_part = none.is_part; is_null = none.is_null; behind = by none.behind }
     where
@@ -87,7 +75,7 @@ module _ (d : DescV) where
       let P : List ℕ → Type 0 = λ l. ¬ BeginsWithKey d 12 l octet ((bit ∷ rest) ++ more) j in
       let Q : List ℕ → Type 0 = λ l. ¬ TakesNone d 12 k l octet ((bit ∷ rest) ++ more) false j in
       elim (takes_of at takes) [
-        | inl key ↦ subst P same (no_key j) (key_longer more key)
+        | inl key ↦ subst P same (no_key j) (key_on d 12 (more, refl) key)
         | inr none ↦ subst Q same (no_none j) (none_longer more none.1)
       ]
 
@@ -166,7 +154,7 @@ module _ (d : DescV) where
       where
         by_none : ((i : ℕ) → ¬ BeginsWithKey d 12 parts (length done % 8) (bit ∷ rest) i) → TakesNone d 12 k parts (length done % 8) (bit ∷ rest) false j → Decided k part j parts v outer done (bit ∷ rest) known
         by_none never found =
-            one_decides (pick_none parts at (λ i key. never i (key_longer rest key)) (record { part = found.part; is_part = found.is_part; is_null = found.is_null; behind = by found.behind }))
+            one_decides (pick_none parts at (λ i key. never i (key_on d 12 (rest, refl) key)) (record { part = found.part; is_part = found.is_part; is_null = found.is_null; behind = by found.behind }))
           where
             by : StandsBehind d 12 k (length done % 8) (bit ∷ rest) false → StandsBehind d 12 k (length done % 8) (bit ∷ []) false
             by (behind_bit follows) = behind_bit follows
@@ -176,8 +164,8 @@ module _ (d : DescV) where
             let equal : found.part ≡ part = let f = found.is_part in cc in
             let P : ℕ → Type 0 = λ n. InKeys d 12 n (length done % 8) found.word found.mark in
             key_decides found.word found.begins.0 found.mark found.begins.1 (subst P equal found.key) (first found.word refl)
-            (pick_key parts at (record { part = found.part; word = found.word; mark = found.mark; is_part = found.is_part; takes_bits = found.takes_bits; key = found.key; begins = ([], sym (append-nil found.word)) }))
+            (pick_key parts at (record { own = found.own; takes_bits = found.takes_bits; begins = ([], sym (append-nil found.word)) }))
           where
             first : (word : List ℕ) → found.word ≡ word → Picks d 12 k (length done % 8) (bit ∷ []) false (Take j) ⊎ (0 < length found.word)
-            first [] none = inl (pick_key parts at (record { part = found.part; word = found.word; mark = found.mark; is_part = found.is_part; takes_bits = found.takes_bits; key = found.key; begins = (bit ∷ [], ap (λ l. l ++ bit ∷ []) (sym none)) }))
+            first [] none = inl (pick_key parts at (record { own = found.own; takes_bits = found.takes_bits; begins = (bit ∷ [], ap (λ l. l ++ bit ∷ []) (sym none)) }))
             first (a ∷ word) some = inr (omega (arith, ap (λ l. length l) some))

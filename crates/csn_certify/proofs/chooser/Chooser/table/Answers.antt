@@ -57,8 +57,8 @@ fill-requires-clause-fresh c = fresh_empty c.in-Some.table.now c.new.result c.ne
 
 pub loop-j-init : goal.loop-j-init
 loop-j-init c =
-    let d = c.args.self.now.desc.now in
-    let parts = c.args.self.now.parts.now in
-    let octet = c.args.self.now.octet in
-    let empty = c.in_ok-entries.ensures in
-    (empty.size, all_first d parts octet c.width-width.result c.in_ok-entries.entries.items empty, nones_first d parts octet)
+    let empty = c.in_ok-entries.ensures in (
+      empty.size,
+      all_first c.args.self.now.desc.now c.args.self.now.parts.now c.args.self.now.octet c.width-width.result c.in_ok-entries.entries.items empty,
+      nones_first c.args.self.now.desc.now c.args.self.now.parts.now c.args.self.now.octet,
+    )

@@ -8,23 +8,23 @@ use Rattle.csn_certify.proofs.search.Search.choice_clash_at.Goals as goal
 pub returns-then-not-has : goal.returns-then-not-has
 returns-then-not-has c =
     let d = c.args.self.now.desc.now in
-    let there = reached_there d c.args.node c.args.octet c.reached.result c.has.result (c.reached.ensures d c.requires.known.reached) c.requires.octet c.has.ensures in
-    not_reached d c.args.node c.args.parts.now c.requires.choice c.args.octet (denied c.has.result (Reached d c.args.node c.args.octet) there c.if-not-has.true)
+    let there = reached_there d c.args.choice.now.node c.args.octet c.reached.result c.has.result (c.reached.ensures d c.requires.known.reached) c.requires.octet c.has.ensures in
+    not_reached d c.args.choice.now.node c.args.choice.now.parts.now c.requires.choice c.args.octet (denied c.has.result (Reached d c.args.choice.now.node c.args.octet) there c.if-not-has.true)
 
 pub returns-in-Some : goal.returns-in-Some
 returns-in-Some c =
     let d = c.args.self.now.desc.now in
-    overlap_found d c.args.node c.args.parts.now c.requires.choice c.args.octet c.in-Some.conflict
-    (known_some d (c.args.node ∷ 3 ∷ c.args.octet ∷ 3 ∷ []) c.in_ok-conflict.field-0 c.in-Some.conflict c.in-Some.is c.in_ok-conflict.ensures)
+    overlap_found d c.args.choice.now.node c.args.choice.now.parts.now c.requires.choice c.args.octet c.in-Some.conflict
+    (known_some d (c.args.choice.now.node ∷ 3 ∷ c.args.octet ∷ 3 ∷ []) c.in_ok-conflict.field-0 c.in-Some.conflict c.in-Some.is c.in_ok-conflict.ensures)
 
 pub returns : goal.returns
 returns c =
     let d = c.args.self.now.desc.now in
-    clashes_after d c.args.node c.args.parts.now c.requires.choice c.args.octet c.empty_clash.result
-    (known_none d (c.args.node ∷ 3 ∷ c.args.octet ∷ 3 ∷ []) c.in_ok-conflict.field-0 c.in_default.is c.in_ok-conflict.ensures) c.empty_clash.ensures
+    clashes_after d c.args.choice.now.node c.args.choice.now.parts.now c.requires.choice c.args.octet c.empty_clash.result
+    (known_none d (c.args.choice.now.node ∷ 3 ∷ c.args.octet ∷ 3 ∷ []) c.in_ok-conflict.field-0 c.in_default.is c.in_ok-conflict.ensures) c.empty_clash.ensures
 
 pub empty_clash-requires-clause-reached : goal.empty_clash-requires-clause-reached
 empty_clash-requires-clause-reached c =
     let d = c.args.self.now.desc.now in
-    let there = reached_there d c.args.node c.args.octet c.reached.result c.has.result (c.reached.ensures d c.requires.known.reached) c.requires.octet c.has.ensures in
+    let there = reached_there d c.args.choice.now.node c.args.octet c.reached.result c.has.result (c.reached.ensures d c.requires.known.reached) c.requires.octet c.has.ensures in
     there.0 c.if-not-has.false

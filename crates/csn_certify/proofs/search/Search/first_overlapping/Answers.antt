@@ -2,44 +2,36 @@ use Rattle.std.proofs.Common.{◌≡◌, ℕ, ◌+◌, ◌-◌, ◌≤◌, lengt
 use Rattle.csn_certify.specs.Conflicts.{IsNull}
 use Rattle.csn_certify.specs.Search.{IsLeastFrom}
 use Rattle.csn_certify.specs.Overlaps.{Overlaps}
-use Rattle.csn_certify.proofs.SearchFacts.{part_inside, rows_inside, denied}
-use Rattle.csn_certify.proofs.OverlapSearch.{AreLater, keys_none, least_none, keys_null, keys_more, null_overlaps, least_stays, least_then, least_else}
+use Rattle.csn_certify.proofs.SearchFacts.{part_inside, in_table, denied}
+use Rattle.csn_certify.proofs.OverlapSearch.{AreLater, keys_none, least_none, keys_more, later_null, least_then, least_else}
 use Rattle.csn_certify.proofs.search.Search.first_overlapping.Goals.{then-tables_meet, else-tables_meet}
 use Rattle.csn_certify.proofs.search.Search.first_overlapping.Goals as goal
 
 pub is_null-requires : goal.is_null-requires
-is_null-requires c = part_inside c.args.self.now.desc.now c.args.node c.args.parts.now (c.loop-i.i - 1) c.get-part.result c.requires.known.description c.requires.choice c.get-part.ensures
+is_null-requires c = part_inside c.args.self.now.desc.now c.args.choice.now.node c.args.choice.now.parts.now (c.loop-i.i - 1) c.get-part.result c.requires.known.description c.requires.choice c.get-part.ensures
 
 pub key_table-table-requires-clause-node : goal.key_table-table-requires-clause-node
 key_table-table-requires-clause-node c =
-    rows_inside c.args.self.now.desc.now c.args.self.now.look.now c.get-part.result c.requires.known.keys
-    (part_inside c.args.self.now.desc.now c.args.node c.args.parts.now (c.loop-i.i - 1) c.get-part.result c.requires.known.description c.requires.choice c.get-part.ensures)
+    in_table c.requires.known.keys.same
+    (part_inside c.args.self.now.desc.now c.args.choice.now.node c.args.choice.now.parts.now (c.loop-i.i - 1) c.get-part.result c.requires.known.description c.requires.choice c.get-part.ensures)
 
 pub loop-i-init : goal.loop-i-init
 loop-i-init c =
     let d = c.args.self.now.desc.now in
-    let all : length c.args.parts.now ≤ c.len-i.result = omega (arith, c.len-i.ensures.len) in (
-      keys_none d c.args.octet c.args.parts.now c.in_ok-later.later c.len-i.result all c.in_ok-later.ensures,
-      least_none d c.args.octet c.args.parts.now c.len-i.result all,
+    let all : length c.args.choice.now.parts.now ≤ c.len-i.result = omega (arith, c.len-i.ensures.len) in (
+      keys_none d c.args.octet c.args.choice.now.parts.now c.in_ok-later.later c.len-i.result all c.in_ok-later.ensures,
+      least_none d c.args.octet c.args.choice.now.parts.now c.len-i.result all,
     )
 
 pub loop-i-preserved-then-is_null : goal.loop-i-preserved-then-is_null
 loop-i-preserved-then-is_null c =
-    let d = c.args.self.now.desc.now in
-    let parts = c.args.parts.now in
-    let o = c.args.octet in
-    let i = c.loop-i.i - 1 in
-    let next : c.loop-i.i ≡ i + 1 = omega (arith, c.loop-i-test.true) in
-    let before = subst (AreLater d o parts c.loop-i.later c.loop-i.first) next c.loop-i.invariant in
-    let null = c.is_null.ensures.0 c.if-is_null.true in (
-      keys_null d o parts i c.get-part.result c.get-part.ensures c.loop-i.later null before.0,
-      least_stays d o parts i c.get-part.result c.get-part.ensures c.loop-i.first (null_overlaps d o parts i c.get-part.result c.get-part.ensures null) before.1,
-    )
+    later_null c.args.self.now.desc.now c.args.octet c.args.choice.now.parts.now (c.loop-i.i - 1) c.get-part.result c.get-part.ensures c.loop-i.i c.loop-i.later c.loop-i.first
+    (omega (arith, c.loop-i-test.true)) (c.is_null.ensures.0 c.if-is_null.true) c.loop-i.invariant
 
 pub loop-i-preserved : goal.loop-i-preserved
 loop-i-preserved c =
     let d = c.args.self.now.desc.now in
-    let parts = c.args.parts.now in
+    let parts = c.args.choice.now.parts.now in
     let o = c.args.octet in
     let i = c.loop-i.i - 1 in
     let next : c.loop-i.i ≡ i + 1 = omega (arith, c.loop-i-test.true) in
@@ -56,7 +48,7 @@ loop-i-preserved c =
 pub returns : goal.returns
 returns c =
     let d = c.args.self.now.desc.now in
-    let parts = c.args.parts.now in
+    let parts = c.args.choice.now.parts.now in
     let o = c.args.octet in
     let last : c.loop-i.i ≡ 0 = omega (arith, c.loop-i-test.false) in
     subst (λ (n : ℕ). IsLeastFrom n (Overlaps d o parts) c.loop-i.first) last c.loop-i.invariant.1

@@ -1,11 +1,11 @@
-use Rattle.std.proofs.Common.{[], ◌∷◌, arith}
-use Rattle.csn_certify.proofs.Searching.{branch_clash, found_at, none_more, is_none}
+use Rattle.std.proofs.Common.{[], ◌∷◌, refl, arith}
+use Rattle.csn_certify.proofs.Searching.{branch_at, found_at, none_more, is_none}
 use Rattle.csn_certify.proofs.RepeatSearch.{loops_end}
 use Rattle.csn_certify.proofs.search.Search.loop_clash.Goals as goal
 
 pub returns-in-Some : goal.returns-in-Some
 returns-in-Some c =
-    found_at c.args.self.now.desc.now (c.args.node ∷ 3 ∷ []) c.loop-octet.octet c.in-Some.conflict (branch_clash c.args.node) c.loop-octet.invariant c.in-Some.ensures
+    found_at c.args.self.now.desc.now (c.args.node ∷ 3 ∷ []) c.loop-octet.octet c.in-Some.conflict (branch_at (c.args.node ∷ 3 ∷ []) refl) c.loop-octet.invariant c.in-Some.ensures
 
 pub loop-octet-preserved : goal.loop-octet-preserved
 loop-octet-preserved c =

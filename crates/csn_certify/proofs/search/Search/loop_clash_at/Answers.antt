@@ -1,16 +1,13 @@
-use Rattle.std.proofs.Common.{[], ◌∷◌, arith}
+use Rattle.std.proofs.Common.{[], ◌∷◌}
 use Rattle.std.proofs.lemmas.Option.{slice_get_within}
 use Rattle.csn_look.specs.Reached.{Reached}
 use Rattle.csn_certify.proofs.Searching.{as_none}
-use Rattle.csn_certify.proofs.SearchFacts.{many_inside, reached_there, denied}
+use Rattle.csn_certify.proofs.SearchFacts.{many_inside, in_table, reached_there, denied}
 use Rattle.csn_certify.proofs.RepeatSearch.{loop_not_reached, loop_none, loop_some}
 use Rattle.csn_certify.proofs.search.Search.loop_clash_at.Goals as goal
 
 pub reached-requires : goal.reached-requires
-reached-requires c =
-    let inside = many_inside c.args.self.now.desc.now c.args.node c.args.part c.requires.known.description c.requires.many in
-    let same = c.requires.known.reached.same in
-    omega (arith, inside, same)
+reached-requires c = in_table c.requires.known.reached.same (many_inside c.args.self.now.desc.now c.args.node c.args.part c.requires.known.description c.requires.many)
 
 pub returns-then-not-has : goal.returns-then-not-has
 returns-then-not-has c =

@@ -1,14 +1,10 @@
-use Rattle.std.proofs.Common.{arith}
 use Rattle.csn_look.specs.Keys.{IsFirm}
-use Rattle.csn_certify.proofs.SearchFacts.{many_inside, denied, not_firm}
+use Rattle.csn_certify.proofs.SearchFacts.{many_inside, in_table, denied, not_firm}
 use Rattle.csn_certify.proofs.RepeatSearch.{many_some, many_firm}
 use Rattle.csn_certify.proofs.search.Search.of_many.Goals as goal
 
 pub firm-requires : goal.firm-requires
-firm-requires c =
-    let inside = many_inside c.args.self.now.desc.now c.args.node c.args.part c.requires.known.description c.requires.many in
-    let same = c.requires.known.sets.same in
-    omega (arith, inside, same)
+firm-requires c = in_table c.requires.known.sets.same (many_inside c.args.self.now.desc.now c.args.node c.args.part c.requires.known.description c.requires.many)
 
 pub returns-then-not-firm : goal.returns-then-not-firm
 returns-then-not-firm c =

@@ -1,6 +1,5 @@
-use Rattle.std.proofs.Common.{arith}
 use Rattle.csn_look.specs.Nullable.{Nullable}
-use Rattle.csn_certify.proofs.SearchFacts.{times_inside, denied}
+use Rattle.csn_certify.proofs.SearchFacts.{times_inside, in_table, denied}
 use Rattle.csn_certify.proofs.RepeatSearch.{times_none, times_some}
 use Rattle.csn_certify.proofs.search.Search.of_times.Goals as goal
 
@@ -8,8 +7,7 @@ pub nullable-requires : goal.nullable-requires
 nullable-requires c =
     let times = c.requires.times in
     let inside = times_inside c.args.self.now.desc.now c.args.node c.args.part times.0 c.requires.known.description times.1 in
-    let same = c.requires.known.sets.same in
-    omega (arith, inside, same)
+    in_table c.requires.known.sets.same inside
 
 pub returns-then-nullable : goal.returns-then-nullable
 returns-then-nullable c =

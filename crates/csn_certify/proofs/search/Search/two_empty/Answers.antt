@@ -6,14 +6,14 @@ use Rattle.csn_certify.proofs.search.Search.two_empty.Goals as goal
 pub returns-in_err-i : goal.returns-in_err-i
 returns-in_err-i c =
     let d = c.args.self.now.desc.now in
-    as_none d (c.args.node ∷ 1 ∷ []) c.from_residual.result c.from_residual.ensures
-    (two_none d c.args.node c.args.parts.now c.requires.choice c.in_err-i.ensures.least)
+    as_none d (c.args.choice.now.node ∷ 1 ∷ []) c.from_residual.result c.from_residual.ensures
+    (two_none d c.args.choice.now.node c.args.choice.now.parts.now c.requires.choice c.in_err-i.ensures.least)
 
 pub returns-in_err-j : goal.returns-in_err-j
 returns-in_err-j c =
     let d = c.args.self.now.desc.now in
-    as_none d (c.args.node ∷ 1 ∷ []) c.from_residual-in_err-j.result c.from_residual-in_err-j.ensures
-    (two_one d c.args.node c.args.parts.now c.requires.choice c.in_ok-i.i c.in_ok-i.ensures.least c.in_err-j.ensures.least)
+    as_none d (c.args.choice.now.node ∷ 1 ∷ []) c.from_residual-in_err-j.result c.from_residual-in_err-j.ensures
+    (two_one d c.args.choice.now.node c.args.choice.now.parts.now c.requires.choice c.in_ok-i.i c.in_ok-i.ensures.least c.in_err-j.ensures.least)
 
 pub returns : goal.returns
-returns c = two_some c.args.self.now.desc.now c.args.node c.args.parts.now c.requires.choice c.in_ok-i.i c.in_ok-j.j c.in_ok-i.ensures.least c.in_ok-j.ensures.least
+returns c = two_some c.args.self.now.desc.now c.args.choice.now.node c.args.choice.now.parts.now c.requires.choice c.in_ok-i.i c.in_ok-j.j c.in_ok-i.ensures.least c.in_ok-j.ensures.least
