@@ -10,6 +10,7 @@ pub mod KeyWords
 pub mod KeyLists
 pub mod NodeKeys
 pub mod Products
+pub mod Unpacked
 pub mod StartsMade
 pub mod StartsBetween
 pub mod ProductsMade

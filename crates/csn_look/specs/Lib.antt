@@ -24,6 +24,7 @@ pub mod MadeProducts
 pub mod ReachV
 pub mod Steps
 pub mod FollowV
+pub mod Known
 pub mod Laws
 pub mod Examples
 pub mod Blocks

@@ -1,7 +1,6 @@
-ghost use Rattle.std.specs.Prelude.{◌≡◌, ◌<◌, ◌≤◌, ◌+◌, ◌%◌, ◌++◌, [], List, ℕ, length, slice_index, slice_index_or, IfOk, OnErr};
-ghost use Rattle.csn_look.specs.KeyProducts.{AfterKeys};
+ghost use Rattle.std.specs.Prelude.{◌≡◌, ◌<◌, [], length, slice_index_or, IfOk};
 ghost use Rattle.csn_look.specs.KeyTables.{AreOnce};
-ghost use Rattle.csn_look.specs.KeyRows.{table_of, HasTable};
+ghost use Rattle.csn_look.specs.KeyRows.{IsMore};
 
 use crate::key_table::KeyTable;
 use csn_bits::NoMemory;
@@ -48,31 +47,20 @@ impl KeyTables {
         &self.tables.as_slice()[at]
     }
 
+    /// All of them, in the order of their numbers.
+    pub(crate) fn as_slice(&self) -> &[KeyTable]
+        ensures { result.now ≡ self.now }
+    {
+        self.tables.as_slice()
+    }
+
     /// Keeps a table, and answers its number: that of the one with the same keys, where there is one.
     pub fn keep(&mut self, table: KeyTable) -> Result<usize, NoMemory>
         ensures kept { IfOk result (λ at. (at < length self.new) × (slice_index_or self.new at [] ≡ table)) }
-        ensures more { (more : List (List ℕ)) × (self.new ≡ self.old ++ more) }
+        ensures more { IsMore self.old self.new }
         ensures once { AreOnce self.new }
     {
         let (at, _added) = self.tables.insert_full(table)?;
         Ok(at)
-    }
-
-    /// Keeps the table of the keys of a first part and of what comes after it, which is in a table of its own for
-    /// each number of bits modulo 8 that the first part may have; and answers its number.
-    pub(crate) fn keep_after(
-        &mut self,
-        alloc: Global,
-        first: usize,
-        rests: &[usize; 8],
-    ) -> Result<usize, NoMemory>
-        requires first { first < length self.old }
-        requires rests { (size : ℕ) → size < 8 → slice_index rests.now size < length self.old }
-        ensures kept { IfOk result (λ at. HasTable self.new at (AfterKeys (table_of self.old first) (λ size. table_of self.old (slice_index rests.now (size % 8))))) }
-        ensures more { (more : List (List ℕ)) × (self.new ≡ self.old ++ more) }
-    {
-        let mut table = KeyTable::new(alloc)?;
-        table.add_after(alloc, self.get(first), self.tables.as_slice(), rests)?;
-        self.keep(table.packed(alloc)?)
     }
 }

@@ -1,17 +1,25 @@
 //! Laws over the definitions, each the contract of a function that does nothing.
 
+ghost use Rattle.csn_look.specs.Known.{Known};
 ghost use Rattle.csn_look.specs.Laws.{NoBitsAreOfNullable, MeantBitsEnd, EndsAreOctets, MeantBitsStart, FollowedBitsStart};
 ghost use Rattle.csn_look.specs.Laws.{EmptyKeysAreAnywhere, FirmNodesHaveBits, KeysOfFirmNodesHaveBits, MeantBitsBeginWithKeys, FollowedBitsBeginKeys, NodesHaveKeys, KeysStart, WholeKeysAreMeant, BeginningsOfKeysAreFollowed, KeysAreBits, KeysAreShort};
 ghost use Rattle.csn_look.specs.Laws.{RootIsReached, ReachedAreOctets, SequencesReach, TruncationsReach, RepetitionsReach, FreeRepetitionsReach, ChoicesReach, WindowsReach, LabelsReach};
 ghost use Rattle.csn_look.specs.Laws.{OnePartMore, FirstTurn, OneTurnMore, TurnsReach, OneFreeTurnMore};
 ghost use Rattle.csn_look.specs.Laws.{BehindPartsOfSequences, FollowedBehindPartsOfSequences, BehindPartsOfTruncations, BehindLastOfTruncations, FollowedBehindPartsOfTruncations, BehindTurns, FollowedBehindTurns, BehindFreeTurns, FollowedBehindFreeTurns, BehindAlternatives, BehindLabelledParts, NothingStandsAnywhere};
 
+/// What the laws of csn_desc say, as the lemmas here take it.
+fn known()
+    ensures { Known }
+{
+    csn_desc::laws::nodes_are_well_formed();
+    csn_desc::laws::values_are_kept();
+}
+
 /// A node at which no bits have a tree is nullable.
 pub fn no_bits_are_of_nullable()
     ensures { NoBitsAreOfNullable }
 {
-    csn_desc::laws::nodes_are_well_formed();
-    csn_desc::laws::values_are_kept();
+    known();
 }
 
 /// Bits that have a tree end where bits of the node may end, and that is an octet position.
@@ -19,8 +27,7 @@ pub fn bits_end()
     ensures meant { MeantBitsEnd }
     ensures octet { EndsAreOctets }
 {
-    csn_desc::laws::nodes_are_well_formed();
-    csn_desc::laws::values_are_kept();
+    known();
 }
 
 /// Bits that have a tree, and bits that are followed, begin with a bit that the node may begin with.
@@ -28,8 +35,7 @@ pub fn bits_start()
     ensures meant { MeantBitsStart }
     ensures followed { FollowedBitsStart }
 {
-    csn_desc::laws::nodes_are_well_formed();
-    csn_desc::laws::values_are_kept();
+    known();
 }
 
 /// A node that has the empty word as a key at one octet position has it at every one.
@@ -42,8 +48,7 @@ pub fn firm_nodes_have_bits()
     ensures meant { FirmNodesHaveBits }
     ensures keys { KeysOfFirmNodesHaveBits }
 {
-    csn_desc::laws::nodes_are_well_formed();
-    csn_desc::laws::values_are_kept();
+    known();
 }
 
 /// Bits that have a tree begin with a key of the node, and bits that it follows begin with one or begin one.
@@ -51,7 +56,7 @@ pub fn bits_begin_with_keys()
     ensures meant { MeantBitsBeginWithKeys }
     ensures followed { FollowedBitsBeginKeys }
 {
-    csn_desc::laws::nodes_are_well_formed();
+    known();
 }
 
 /// Keys are keys of something: each node has one; a whole key is bits that have a tree; the node follows the first
@@ -62,8 +67,7 @@ pub fn keys_are_of_bits()
     ensures followed { BeginningsOfKeysAreFollowed }
     ensures start { KeysStart }
 {
-    csn_desc::laws::nodes_are_well_formed();
-    csn_desc::laws::values_are_kept();
+    known();
     csn_desc::laws::prefixes_are_followed();
     csn_desc::laws::empty_bits_are_followed();
 }
@@ -87,8 +91,7 @@ pub fn parts_are_reached()
     ensures window { WindowsReach }
     ensures label { LabelsReach }
 {
-    csn_desc::laws::nodes_are_well_formed();
-    csn_desc::laws::values_are_kept();
+    known();
 }
 
 /// And so one part after another: behind the bits of one more part, or of one more turn, the next may begin.
@@ -99,8 +102,7 @@ pub fn next_parts_are_reached()
     ensures reached { TurnsReach }
     ensures free_turn { OneFreeTurnMore }
 {
-    csn_desc::laws::nodes_are_well_formed();
-    csn_desc::laws::values_are_kept();
+    known();
 }
 
 /// What stands behind a part may stand there: bits of the later parts or turns, or that these follow, and behind
@@ -119,6 +121,5 @@ pub fn bits_stand_behind_parts()
     ensures label { BehindLabelledParts }
     ensures nothing { NothingStandsAnywhere }
 {
-    csn_desc::laws::nodes_are_well_formed();
-    csn_desc::laws::values_are_kept();
+    known();
 }

@@ -1,6 +1,6 @@
-ghost use Rattle.std.specs.Prelude.{◌≡◌, ◌<◌, ◌%◌, ◌≤◌, ◌++◌, [], List, ℕ, length, slice_index, slice_index_or, IfOk, IfSome};
+ghost use Rattle.std.specs.Prelude.{◌≡◌, ◌<◌, ◌%◌, ◌≤◌, [], ℕ, length, slice_index, slice_index_or, IfOk, IfSome};
 ghost use Rattle.csn_look.specs.KeyProducts.{AfterKeys};
-ghost use Rattle.csn_look.specs.KeyRows.{table_of, HasTable};
+ghost use Rattle.csn_look.specs.KeyRows.{table_of, HasTable, IsMore};
 ghost use Rattle.csn_look.specs.KeyMarks.{KeysAre};
 ghost use Rattle.csn_look.specs.MadeProducts.{IsProduct, LeafKeys, leaf_of_size};
 
@@ -77,7 +77,7 @@ impl TableMaker {
     /// Keeps a table, and answers its number.
     pub fn keep(&mut self, alloc: Global, table: &KeyTable) -> Result<usize, NoMemory>
         ensures kept { IfOk result (λ at. (at < length self.new) × (slice_index_or self.new at [] ≡ table.now)) }
-        ensures more { (more : List (List ℕ)) × (self.new ≡ self.old ++ more) }
+        ensures more { IsMore self.old self.new }
     {
         self.tables.keep(table.packed(alloc)?)
     }
@@ -93,13 +93,15 @@ impl TableMaker {
         requires first { first < length self.old }
         requires rests { (size : ℕ) → size < 8 → slice_index rests.now size < length self.old }
         ensures kept { IfOk result (λ at. HasTable self.new at (AfterKeys (table_of self.old first) (λ size. table_of self.old (slice_index rests.now (size % 8))))) }
-        ensures more { (more : List (List ℕ)) × (self.new ≡ self.old ++ more) }
+        ensures more { IsMore self.old self.new }
     {
         let digest = digest_of(first, rests);
         if let Some(at) = self.made(digest, first, rests) {
             return Ok(at);
         }
-        let at = self.tables.keep_after(alloc, first, rests)?;
+        let mut table = KeyTable::new(alloc)?;
+        table.add_after(alloc, self.get(first), self.tables.as_slice(), rests)?;
+        let at = self.keep(alloc, &table)?;
         let product = Product {
             first,
             rests: *rests,
@@ -112,7 +114,7 @@ impl TableMaker {
     /// Keeps the table of one key, and answers its number.
     pub fn keep_key(&mut self, alloc: Global, word: &Word, whole: bool) -> Result<usize, NoMemory>
         ensures kept { IfOk result (λ at. HasTable self.new at (λ key mark. (key ≡ word.now) × (mark ≡ whole))) }
-        ensures more { (more : List (List ℕ)) × (self.new ≡ self.old ++ more) }
+        ensures more { IsMore self.old self.new }
     {
         let leaf = key_mark(word.place(), whole);
         if let Some(at) = self.leaf(leaf) {
@@ -127,7 +129,7 @@ impl TableMaker {
     pub fn keep_words(&mut self, alloc: Global, size: usize, whole: bool) -> Result<usize, NoMemory>
         requires { size ≤ MOST_WORD }
         ensures kept { IfOk result (λ at. HasTable self.new at (λ key mark. (length key ≡ size) × (mark ≡ whole))) }
-        ensures more { (more : List (List ℕ)) × (self.new ≡ self.old ++ more) }
+        ensures more { IsMore self.old self.new }
     {
         let leaf = leaf_of_size(size, whole);
         if let Some(at) = self.leaf(leaf) {
@@ -150,7 +152,7 @@ impl TableMaker {
     fn keep_leaf(&mut self, alloc: Global, leaf: usize, table: &KeyTable) -> Result<usize, NoMemory>
         requires { KeysAre table.now (LeafKeys leaf) }
         ensures kept { IfOk result (λ at. HasTable self.new at (LeafKeys leaf)) }
-        ensures more { (more : List (List ℕ)) × (self.new ≡ self.old ++ more) }
+        ensures more { IsMore self.old self.new }
     {
         let at = self.tables.keep(table.packed(alloc)?)?;
         self.leaves.insert(leaf, at)?;

@@ -1,25 +1,17 @@
 -- What the calls of a set of octet positions do to its marks.
-use Rattle.std.proofs.Common.{◌≡◌, ℕ, zero, suc, ◌*◌, ◌/◌, ◌%◌, ◌^◌, ◌≤◌, true, ◌&&◌, ◌||◌, nat_eq, nat_le, refl, sym, ap, ◌∙◌, arith, inl, inr}
+use Rattle.std.proofs.Common.{◌≡◌, ℕ, ◌*◌, ◌/◌, ◌%◌, ◌^◌, ◌≤◌, true, ◌&&◌, ◌||◌, nat_eq, nat_le, refl, sym, ap, ◌∙◌, arith, inl, inr}
 use Rattle.std.specs.Prelude.{bit_or, ◌==◌}
 use Rattle.std.specs.Int.{bit_at}
 use Rattle.std.specs.Cmp.{nat_cmp_total, unsigned_tied}
 use Rattle.std.specs.FinSet as set
-use Rattle.std.proofs.lemmas.Bool.{le-leb}
+use Rattle.std.proofs.lemmas.Bool.{agree_below_at, eqb-true, le-leb}
 use Rattle.std.proofs.lemmas.Bool.Decides.{eqb_tells}
 use Rattle.std.proofs.Math.Bool.{and-true}
 use Rattle.std.proofs.lemmas.Nat.Bits.{bit_at-lt, bit_at_or, bit_at-pow_same, bit_at-pow_other}
 use Rattle.csn_look.specs.Marks.{marked, contains-marked}
 
 power : (o : ℕ) → o ≤ 7 → 1 * 2 ^ o % 256 ≡ 2 ^ o
-power zero h = refl
-power (suc zero) h = refl
-power (suc (suc zero)) h = refl
-power (suc (suc (suc zero))) h = refl
-power (suc (suc (suc (suc zero)))) h = refl
-power (suc (suc (suc (suc (suc zero))))) h = refl
-power (suc (suc (suc (suc (suc (suc zero)))))) h = refl
-power (suc (suc (suc (suc (suc (suc (suc zero))))))) h = refl
-power (suc (suc (suc (suc (suc (suc (suc (suc o)))))))) h = absurd (omega arith)
+power o h = eqb-true _ _ (agree_below_at (λ n. 1 * 2 ^ n % 256 == 2 ^ n) (λ _. true) 8 o refl (omega (arith, h)))
 
 more : (marks o q : ℕ) → o ≤ 7 → (bit_at (bit_or marks (2 ^ o)) q == 1 && nat_le q 7) ≡ (nat_eq q o || (bit_at marks q == 1 && nat_le q 7))
 more marks o q small =

@@ -5,7 +5,7 @@ use Rattle.std.specs.Int.{bit_at}
 use Rattle.std.specs.Ordering.{nat_cmp}
 use Rattle.std.specs.Cmp.{nat_cmp_total, unsigned_tied}
 use Rattle.std.specs.FinSet as set
-use Rattle.std.proofs.lemmas.Bool.{or_cases}
+use Rattle.std.proofs.lemmas.Bool.{agree_below_at, or_cases}
 use Rattle.std.proofs.lemmas.Bool.Decides.{eqb_tells}
 use Rattle.std.proofs.lemmas.Nat.Bits.{bit_at-lt, bit_at_or}
 use Rattle.csn_look.specs.Marks.{marked, marks_of, marks_of-marked, contains-marked}
@@ -55,19 +55,8 @@ has_none s q none h =
     let e : set.contains s q ≡ false = ap (λ t. set.contains t q) none ∙ set.contains-empty nat_cmp q in
     cc
 
-marked_all : (q : ℕ) → q ≤ 7 → (bit_at 255 q == 1 && nat_le q 7) ≡ true
-marked_all zero h = refl
-marked_all (suc zero) h = refl
-marked_all (suc (suc zero)) h = refl
-marked_all (suc (suc (suc zero))) h = refl
-marked_all (suc (suc (suc (suc zero)))) h = refl
-marked_all (suc (suc (suc (suc (suc zero))))) h = refl
-marked_all (suc (suc (suc (suc (suc (suc zero)))))) h = refl
-marked_all (suc (suc (suc (suc (suc (suc (suc zero))))))) h = refl
-marked_all (suc (suc (suc (suc (suc (suc (suc (suc q)))))))) h = absurd (omega arith)
-
 pub has_all : (q : ℕ) → q ≤ 7 → Has (marked 255) q
-has_all q h = contains-marked 255 q ∙ marked_all q h
+has_all q h = contains-marked 255 q ∙ agree_below_at (λ k. bit_at 255 k == 1 && nat_le k 7) (λ _. true) 8 q refl (omega (arith, h))
 
 either_bit : (x y : ℕ) (c : Bool) → x < 2 → y < 2 → (max x y == 1 && c) ≡ ((x == 1 && c) || (y == 1 && c))
 either_bit zero zero c h k = refl

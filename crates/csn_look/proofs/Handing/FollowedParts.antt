@@ -26,7 +26,8 @@ use Rattle.csn_look.specs.FollowV.{SaysFollow, HasFollow, FollowsAre, HasFollows
 use Rattle.csn_look.proofs.Basics.Octets.{has_none, has_union}
 use Rattle.csn_look.specs.declared.symbol_set.Sign.TheVariants.{Zero, One, End}
 use Rattle.csn_look.specs.SignsV.{SignsV}
-use Rattle.csn_look.specs.Signs.{no_signs, with_sign}
+use Rattle.csn_look.specs.declared.symbol_set.Sign.{Sign}
+use Rattle.csn_look.specs.Signs.{no_signs, with_sign, has_sign, bit_of_sign}
 use Rattle.csn_look.proofs.Sets.LookFacts.{follow_has}
 use Rattle.csn_look.proofs.Sets.Telling.{both, back, truth, PartsSetsAre}
 use Rattle.csn_look.proofs.Handing.ReachedParts.{single}
@@ -314,10 +315,14 @@ signs_more f at k s inside is before o less =
     apart : o < k → o ≢ k
     apart earlier same = omega arith
 
+-- what they say sign by sign
+pub says_sign : (f : Following) (P : ℕ → Option ℕ → Type 0) (o : ℕ) (sign : Sign) → o ≤ 7 → SaysFollow f P → IsTrue (has_sign (signs_at f o) sign) ↔ P o (bit_of_sign sign)
+says_sign f P o Zero low says = says.zero o low
+says_sign f P o One low says = says.one o low
+says_sign f P o End low says = says.end o low
+
 pub follow_says : (f : Following) (sets : List SignsV) (P : ℕ → Option ℕ → Type 0) → SaysFollow f P → ((o : ℕ) → o ≤ 7 → slice_get sets o ≡ Some (signs_at f o)) → IsFollow sets P
-follow_says f sets P says are o Zero low = both (back (follow_has sets o (signs_at f o) Zero (are o low))) (says.zero o low)
-follow_says f sets P says are o One low = both (back (follow_has sets o (signs_at f o) One (are o low))) (says.one o low)
-follow_says f sets P says are o End low = both (back (follow_has sets o (signs_at f o) End (are o low))) (says.end o low)
+follow_says f sets P says are o sign low = both (back (follow_has sets o (signs_at f o) sign (are o low))) (says_sign f P o sign low says)
 
 pub known_follow : (d : DescV) (table : List Following) (i : ℕ) (f : Following) → IsFollowOf d table → slice_get table i ≡ Some f → FollowsAre d i f
 known_follow d table i f t at =

@@ -11,6 +11,7 @@ use Rattle.csn_desc.specs.Values.{Values, value_of, count_of, with_value}
 use Rattle.csn_desc.specs.Means.{NMeans}
 use Rattle.csn_desc.specs.Formed.{value_width, IsUnit, IsCount, IsHead, Formed, formed, IsDescription, FitWidths}
 use Rattle.csn_desc.specs.Laws.{NodesAreWellFormed, NoValuesFit, ValuesStayFitting}
+use Rattle.csn_look.specs.Known.{Known}
 use Rattle.csn_look.specs.Ends.{MayCount, may_fixed, may_counted}
 
 -- ---- nodes
@@ -86,6 +87,10 @@ shaped formed_nodes none stay d is =
       none_fit = (none d).1;
       fit_on = λ i o v b t fits h. stay d i o v b t fits h;
     }
+
+-- the same of what is known by laws
+pub shape_of : Known → (d : DescV) → IsDescription d → Shaped d
+shape_of known = shaped known.formed known.no_values known.fitting
 
 -- ---- values
 

@@ -55,17 +55,6 @@ module _ (d : DescV) where
   null_mark : {o : ℕ} {x : List ℕ} {mark : Bool} → NodeKeys d MOST_WORD Null o x mark → mark ≡ true
   null_mark (keys_null e m) = m
 
-  pub null_sets : (s : NodeSets) → NoBits s → NodeSetsAre d Null s
-  null_sets s n =
-      record {
-        nullable = truth n.nullable nullable_null;
-        whole_empty = truth n.whole_empty (keys_null refl refl);
-        cut_empty = falsity n.cut_empty (λ h. true_is_not (null_mark h));
-        lengths = λ o p small. both (zero_length s.lengths n.lengths o p small) ((λ h. ends_null h), (λ h. null_ends h));
-        zero = no_octets s.zero (λ o. NodeStarts d Null o 0) n.zero (λ o h. no_null_start h);
-        one = no_octets s.one (λ o. NodeStarts d Null o 1) n.one (λ o h. no_null_start h);
-      }
-
   no_parts_end : {o p : ℕ} → PartsEnd d [] o p → p ≡ o
   no_parts_end (parts_end e) = e
 
@@ -86,18 +75,27 @@ module _ (d : DescV) where
         one = no_octets s.one (λ o. PartsStart d [] o 1) n.one (λ o h. no_parts_start h);
       }
 
+  pub null_sets : (s : NodeSets) → NoBits s → NodeSetsAre d Null s
+  null_sets s n =
+      retell (no_parts s n)
+      ((λ h. nullable_null), (λ h. all_end))
+      (λ o p small. ((λ h. ends_null (no_parts_end h)), (λ h. parts_end (null_ends h))))
+      (λ o bit. ((λ h. absurd (no_parts_start h)), (λ h. absurd (no_null_start h))))
+      (λ mark. ((λ h. keys_null refl (no_parts_mark h)), (λ h. parts_none refl (null_mark h))))
+
   no_lead_end : {o p : ℕ} → LeadEnd d [] o p → p ≡ o
   no_lead_end (lead_end e) = e
 
-  pub no_lead : (s : NodeSets) → s.nullable ≡ true → s.whole_empty ≡ false → s.cut_empty ≡ true → s.lengths ≡ set.insert set.empty 0 → s.zero ≡ set.empty → s.one ≡ set.empty → LeadSetsAre d [] s
-  no_lead s n w c l z o1 =
+  pub no_lead : (s : NodeSets) → NoBits s → LeadSetsAre d [] (record s { whole_empty = false; cut_empty = true })
+  no_lead s n =
+      let parts = no_parts s n in
       record {
-        nullable = truth n tt;
-        whole_empty = falsity w (λ h. true_is_not (sym h));
-        cut_empty = truth c refl;
-        lengths = λ o p small. both (zero_length s.lengths l o p small) ((λ h. lead_end h), (λ h. no_lead_end h));
-        zero = no_octets s.zero (λ o. PartsStart d [] o 0) z (λ o h. no_parts_start h);
-        one = no_octets s.one (λ o. PartsStart d [] o 1) o1 (λ o h. no_parts_start h);
+        nullable = truth n.nullable tt;
+        whole_empty = falsity refl (λ h. true_is_not (sym h));
+        cut_empty = truth refl refl;
+        lengths = λ o p small. both (parts.lengths o p small) ((λ h. lead_end (no_parts_end h)), (λ h. parts_end (no_lead_end h)));
+        zero = parts.zero;
+        one = parts.one;
       }
 
   none_of : (parts : List ℕ) (P : ℕ → Type 0) → AnyOf parts 0 P → ⊥

@@ -28,35 +28,18 @@ put_first n z o at =
     let zero : SignsV = if z then with_sign behind Zero else behind in
     if o then with_sign zero One else zero
 
-zero_first : (n z o : Bool) (at : SignsV) → has_sign (put_first n z o at) Zero ≡ (z || (n && at.zero))
-zero_first true true true at = refl
-zero_first true true false at = refl
-zero_first true false true at = refl
-zero_first true false false at = refl
-zero_first false true true at = refl
-zero_first false true false at = refl
-zero_first false false true at = refl
-zero_first false false false at = refl
-
-one_first : (n z o : Bool) (at : SignsV) → has_sign (put_first n z o at) One ≡ (o || (n && at.one))
-one_first true true true at = refl
-one_first true true false at = refl
-one_first true false true at = refl
-one_first true false false at = refl
-one_first false true true at = refl
-one_first false true false at = refl
-one_first false false true at = refl
-one_first false false false at = refl
-
-end_first : (n z o : Bool) (at : SignsV) → has_sign (put_first n z o at) End ≡ (n && at.end)
-end_first true true true at = refl
-end_first true true false at = refl
-end_first true false true at = refl
-end_first true false false at = refl
-end_first false true true at = refl
-end_first false true false at = refl
-end_first false false true at = refl
-end_first false false false at = refl
+-- what has each sign
+signs_first :
+    (n z o : Bool) (at : SignsV)
+    → (has_sign (put_first n z o at) Zero ≡ (z || (n && at.zero))) × (has_sign (put_first n z o at) One ≡ (o || (n && at.one))) × (has_sign (put_first n z o at) End ≡ (n && at.end))
+signs_first true true true at = (refl, refl, refl)
+signs_first true true false at = (refl, refl, refl)
+signs_first true false true at = (refl, refl, refl)
+signs_first true false false at = (refl, refl, refl)
+signs_first false true true at = (refl, refl, refl)
+signs_first false true false at = (refl, refl, refl)
+signs_first false false true at = (refl, refl, refl)
+signs_first false false false at = (refl, refl, refl)
 
 one_sign : (s t : Sign) → bit_of_sign s ≡ bit_of_sign t → s ≡ t
 one_sign Zero Zero e = refl
@@ -123,8 +106,8 @@ module _ (d : DescV) where
 
   pub first_is : (i octet : ℕ) (sets : NodeSets) (follow : List SignsV) (at : SignsV) → SetsAre d i sets → octet ≤ 7 → slice_get follow octet ≡ Some at → SignsAre (put_first sets.nullable (set.contains sets.zero octet) (set.contains sets.one octet) at) (InFirst d (FollowHas follow) i octet)
   first_is i octet sets follow at t low e Zero =
-      is_so (zero_first sets.nullable (set.contains sets.zero octet) (set.contains sets.one octet) at) (either (t.zero octet low) (together t.nullable (follow_has follow octet at Zero e)))
+      is_so (signs_first sets.nullable (set.contains sets.zero octet) (set.contains sets.one octet) at).0 (either (t.zero octet low) (together t.nullable (follow_has follow octet at Zero e)))
   first_is i octet sets follow at t low e One =
-      is_so (one_first sets.nullable (set.contains sets.zero octet) (set.contains sets.one octet) at) (either (t.one octet low) (together t.nullable (follow_has follow octet at One e)))
+      is_so (signs_first sets.nullable (set.contains sets.zero octet) (set.contains sets.one octet) at).1 (either (t.one octet low) (together t.nullable (follow_has follow octet at One e)))
   first_is i octet sets follow at t low e End =
-      is_so (end_first sets.nullable (set.contains sets.zero octet) (set.contains sets.one octet) at) (together t.nullable (follow_has follow octet at End e))
+      is_so (signs_first sets.nullable (set.contains sets.zero octet) (set.contains sets.one octet) at).2 (together t.nullable (follow_has follow octet at End e))

@@ -155,15 +155,6 @@ module _ (d : DescV) where
 
   -- ---- the first few parts
 
-  -- sets of a truncation's first part and of the parts behind it, put together
-  pub record IsLead (all sets : NodeSets) : Type 0 where
-    pub nullable : sets.nullable ≡ true
-    pub whole_empty : sets.whole_empty ≡ false
-    pub cut_empty : sets.cut_empty ≡ true
-    pub lengths : sets.lengths ≡ set.insert all.lengths 0
-    pub zero : sets.zero ≡ all.zero
-    pub one : sets.one ≡ all.one
-
   lead_part : {i : ℕ} {parts : List ℕ} {o p : ℕ} → LeadEnd d (i ∷ parts) o p → (p ≡ o) ⊎ ((middle : ℕ) × InEnds d i o middle × LeadEnd d parts middle p)
   lead_part (lead_end e) = inl e
   lead_part (lead_next middle h others) = inr (middle, h, others)
@@ -183,19 +174,18 @@ module _ (d : DescV) where
     ]),
   )
 
-  pub more_lead : (i : ℕ) (parts : List ℕ) (first rest all sets : NodeSets) → SetsAre d i first → LeadSetsAre d parts rest → IsThen first rest all → IsLead all sets → LeadSetsAre d (i ∷ parts) sets
-  more_lead i parts first rest all sets f r t l =
+  -- sets of a truncation's first part and of the parts behind it, put together
+  pub more_lead : (i : ℕ) (parts : List ℕ) (first rest all : NodeSets) (lengths : set.FinSet nat_cmp) → SetsAre d i first → LeadSetsAre d parts rest → IsThen first rest all → lengths ≡ set.insert all.lengths 0 → LeadSetsAre d (i ∷ parts) (record all { nullable = true; whole_empty = false; cut_empty = true; lengths = lengths })
+  more_lead i parts first rest all lengths f r t more =
       record {
-        nullable = truth l.nullable tt;
-        whole_empty = falsity l.whole_empty (λ h. true_is_not (sym h));
-        cut_empty = truth l.cut_empty refl;
+        nullable = truth refl tt;
+        whole_empty = falsity refl (λ h. true_is_not (sym h));
+        cut_empty = truth refl refl;
         lengths = λ o p small.
-            both (or_none all.lengths sets.lengths (λ a b. (middle : ℕ) × InEnds d i a middle × LeadEnd d parts middle b) l.lengths (lengths_then first.lengths rest.lengths all.lengths (InEnds d i) (LeadEnd d parts) f.lengths r.lengths t.lengths) o p small)
+            both (or_none all.lengths lengths (λ a b. (middle : ℕ) × InEnds d i a middle × LeadEnd d parts middle b) more (lengths_then first.lengths rest.lengths all.lengths (InEnds d i) (LeadEnd d parts) f.lengths r.lengths t.lengths) o p small)
             ((λ h. elim h [ inl same ↦ lead_end same | inr more ↦ lead_next more.0 more.1 more.2 ]), (λ h. lead_part h));
-        zero = subst (λ s. OctetsAre s (λ o. PartsStart d (i ∷ parts) o 0)) (sym l.zero)
-            (λ o small. both (starts_then first.zero first.lengths rest.zero all.zero first.nullable (λ q. InStart d i q 0) (Nullable d i) (InEnds d i) (λ q. PartsStart d parts q 0) f.zero f.nullable f.lengths r.zero t.zero o small) (back part_start));
-        one = subst (λ s. OctetsAre s (λ o. PartsStart d (i ∷ parts) o 1)) (sym l.one)
-            (λ o small. both (starts_then first.one first.lengths rest.one all.one first.nullable (λ q. InStart d i q 1) (Nullable d i) (InEnds d i) (λ q. PartsStart d parts q 1) f.one f.nullable f.lengths r.one t.one o small) (back part_start));
+        zero = λ o small. both (starts_then first.zero first.lengths rest.zero all.zero first.nullable (λ q. InStart d i q 0) (Nullable d i) (InEnds d i) (λ q. PartsStart d parts q 0) f.zero f.nullable f.lengths r.zero t.zero o small) (back part_start);
+        one = λ o small. both (starts_then first.one first.lengths rest.one all.one first.nullable (λ q. InStart d i q 1) (Nullable d i) (InEnds d i) (λ q. PartsStart d parts q 1) f.one f.nullable f.lengths r.one t.one o small) (back part_start);
       }
 
   trunc_end : {parts : List ℕ} {o p : ℕ} → NodeEnds d (Trunc parts) o p → LeadEnd d parts o p

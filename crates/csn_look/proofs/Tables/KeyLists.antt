@@ -84,19 +84,16 @@ own_each marks word key c =
 own_all : (marks word : List ℕ) (key : Key) → key.word ≡ word → IsTrue (has_key marks key.word key.whole) → Contains (own_keys marks word) key
 own_all marks word key same marked = own key.whole refl
   where
+    one : (whole : Bool) → key.whole ≡ whole → Contains (keys_if (has_key marks word whole) (record { word = word; whole = whole } ∷ [])) key
+    one whole e =
+        let told : has_key marks word whole ≡ true = ap (λ w. has_key marks w whole) (sym same) ∙ ap (λ m. has_key marks key.word m) (sym e) ∙ marked in
+        let make : List ℕ → Bool → Key = λ w m. record { word = w; whole = m } in
+        let equal : make word whole ≡ key = ap (λ w. make w whole) (sym same) ∙ ap (λ m. make key.word m) (sym e) in
+        if_in (has_key marks word whole) (record { word = word; whole = whole } ∷ []) key told (single_in (record { word = word; whole = whole }) key equal)
+
     own : (whole : Bool) → key.whole ≡ whole → Contains (own_keys marks word) key
-    own false e =
-        let told : has_key marks word false ≡ true = ap (λ w. has_key marks w false) (sym same) ∙ ap (λ m. has_key marks key.word m) (sym e) ∙ marked in
-        let make : List ℕ → Bool → Key = λ w m. record { word = w; whole = m } in
-        let equal : make word false ≡ key = ap (λ w. make w false) (sym same) ∙ ap (λ m. make key.word m) (sym e) in
-        Contains-append_left (keys_if (has_key marks word false) (record { word = word; whole = false } ∷ [])) (keys_if (has_key marks word true) (record { word = word; whole = true } ∷ [])) key
-        (if_in (has_key marks word false) (record { word = word; whole = false } ∷ []) key told (single_in (record { word = word; whole = false }) key equal))
-    own true e =
-        let told : has_key marks word true ≡ true = ap (λ w. has_key marks w true) (sym same) ∙ ap (λ m. has_key marks key.word m) (sym e) ∙ marked in
-        let make : List ℕ → Bool → Key = λ w m. record { word = w; whole = m } in
-        let equal : make word true ≡ key = ap (λ w. make w true) (sym same) ∙ ap (λ m. make key.word m) (sym e) in
-        Contains-append_right (keys_if (has_key marks word false) (record { word = word; whole = false } ∷ [])) (keys_if (has_key marks word true) (record { word = word; whole = true } ∷ [])) key
-        (if_in (has_key marks word true) (record { word = word; whole = true } ∷ []) key told (single_in (record { word = word; whole = true }) key equal))
+    own false e = Contains-append_left (keys_if (has_key marks word false) (record { word = word; whole = false } ∷ [])) (keys_if (has_key marks word true) (record { word = word; whole = true } ∷ [])) key (one false e)
+    own true e = Contains-append_right (keys_if (has_key marks word false) (record { word = word; whole = false } ∷ [])) (keys_if (has_key marks word true) (record { word = word; whole = true } ∷ [])) key (one true e)
 
 own_rising : (marks word : List ℕ) → IsRising (own_keys marks word)
 own_rising marks word =

@@ -1,6 +1,5 @@
 -- What the marks of a set of keys say, and what further keys do to them.
-use Rattle.std.proofs.Common.{take, drop, eq-eqb, ◌≡◌, ℕ, ◌+◌, ◌/◌, ◌<◌, ◌≤◌, Bool, true, false, ◌||◌, nat_eq, List, [], ◌∷◌, ◌++◌, length, IsTrue, ◌↔◌, refl, sym, ap, ◌∙◌, subst, arith, inl, inr, ◌⊎◌, append_assoc, append-nil, length-append}
-use Rattle.std.proofs.lemmas.List.{take-append-le, take_all}
+use Rattle.std.proofs.Common.{eq-eqb, ◌≡◌, ℕ, ◌+◌, ◌/◌, ◌<◌, ◌≤◌, Bool, true, false, ◌||◌, nat_eq, List, [], ◌∷◌, ◌++◌, length, IsTrue, ◌↔◌, refl, sym, ap, ◌∙◌, subst, arith, inl, inr, ◌⊎◌, append_assoc, append-nil, length-append}
 use Rattle.std.proofs.lemmas.Bool.{eqb-true}
 use Rattle.std.proofs.lemmas.Bool.Decides.{eqb_tells, nat_tests}
 use Rattle.csn_bits.specs.Octets.{IsBits}
@@ -20,6 +19,14 @@ or_left false b e = absurd (cc)
 pub or_right : (a b : Bool) → b ≡ true → (a || b) ≡ true
 or_right true b e = refl
 or_right false b e = e
+
+-- the last of some bits is one
+last_small : (g : List ℕ) (x : ℕ) → IsBits (g ++ x ∷ []) → x ≤ 1
+last_small [] x h = h.0
+last_small (y ∷ g) x h = last_small g x h.1
+
+longer_or : (m n : ℕ) → m ≤ n → (m ≡ n) ⊎ (m < n)
+longer_or m n h = grind arith
 
 -- ---- a key that is a prefix
 
@@ -87,13 +94,6 @@ searched_next marks word at is more not s = down s.front s.back s.parts s.here s
                 | inr past ↦ none f b whole other past key
               ];
         }
-      where
-        last_small : (g : List ℕ) (x : ℕ) → IsBits (g ++ x ∷ []) → x ≤ 1
-        last_small [] x h = h.0
-        last_small (y ∷ g) x h = last_small g x h.1
-
-        longer_or : (m n : ℕ) → m ≤ n → (m ≡ n) ⊎ (m < n)
-        longer_or m n h = grind arith
 
 -- what is told where the search has found a key
 pub found : (marks word : List ℕ) (at : ℕ) → (is_marked marks at || is_marked marks (8192 + at)) ≡ true → IsSearched marks word at → BeginsWithKey marks word
@@ -205,13 +205,6 @@ raised_next mid old new word at is more set r = down r.front r.back r.parts r.he
           );
         }
       where
-        last_small : (g : List ℕ) (x : ℕ) → IsBits (g ++ x ∷ []) → x ≤ 1
-        last_small [] x h = h.0
-        last_small (y ∷ g) x h = last_small g x h.1
-
-        longer_or : (m n : ℕ) → m ≤ n → (m ≡ n) ⊎ (m < n)
-        longer_or m n h = grind arith
-
         sym_half : (p q h : ℕ) → q ≡ h → nat_eq (16384 + p) (16384 + h) ≡ true → p ≡ q
         sym_half p q h e t = grind (arith, nat_tests)
 
@@ -433,10 +426,6 @@ searched_last marks word at told is one e s = (
     decide : (b : Bool) → (is_marked marks 1 || is_marked marks 8193) ≡ b → BeginsWithKey marks word → told ≡ true
     decide true at_last key = e ∙ at_last
     decide false at_last key = absurd (not_found marks word at is one at_last s key)
-
--- what is written back through a borrow of all numbers
-pub written_back : (items new : List ℕ) (n : ℕ) → n ≡ length items → length new ≡ length items → take n (new ++ drop (length new) items) ≡ new
-written_back items new n all same = take-append-le n new (drop (length new) items) (omega arith) ∙ take_all n new (omega arith)
 
 -- ---- one very word
 

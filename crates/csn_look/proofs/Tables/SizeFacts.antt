@@ -1,10 +1,11 @@
 -- Which sizes the keys of a table have.
-use Rattle.std.proofs.Common.{◌≡◌, ℕ, zero, suc, ◌+◌, ◌-◌, ◌*◌, ◌^◌, ◌<◌, ◌≤◌, ◌⊎◌, inl, inr, ◌≢◌, Bool, true, false, List, length, IsTrue, refl, sym, ap, ◌∙◌, subst, arith}
-use Rattle.std.specs.Prelude.{bit_or, bit_and}
+use Rattle.std.proofs.Common.{◌≡◌, ℕ, zero, suc, ◌+◌, ◌-◌, ◌*◌, ◌^◌, ◌<◌, ◌≤◌, ◌⊎◌, inl, inr, Bool, true, false, List, length, refl, sym, ap, ◌∙◌, arith}
+use Rattle.std.specs.Prelude.{bit_or, bit_and, ◌==◌}
 use Rattle.std.specs.Int.{bit_at}
 use Prim.Native.Nat.{max}
+use Rattle.std.proofs.lemmas.Bool.{agree_below_at, eqb-true}
 use Rattle.std.proofs.lemmas.Nat.{pow_pos}
-use Rattle.std.proofs.lemmas.Nat.Bits.{and_pow, bit_at_or, bit_at-lt, bit_at-pow_same, bit_at-pow_other}
+use Rattle.std.proofs.lemmas.Nat.Bits.{and_pow, bit_at_or, bit_at-lt, bit_at-pow_same}
 use Rattle.csn_bits.specs.Numbers.{number_of}
 use Rattle.csn_look.specs.KeyMarks.{is_marked, place_of}
 use Rattle.csn_look.specs.KeySteps.{Gains, HasSizes, IsBehind}
@@ -16,30 +17,22 @@ pub record AreSizes (marks : List ℕ) (plane sizes upto : ℕ) : Type 0 where
   pub few : (size : ℕ) → size < upto → bit_at sizes size ≡ 0 → (k : ℕ) → k < 2 ^ size → is_marked marks (plane + (2 ^ size + k)) ≡ false
   pub many : (size : ℕ) → 6 ≤ size → size ≤ 12 → bit_at sizes size ≡ 1
 
-many_set : (n : ℕ) → n ≤ 6 → bit_at 8128 (6 + n) ≡ 1
-many_set zero h = refl
-many_set (suc zero) h = refl
-many_set (suc (suc zero)) h = refl
-many_set (suc (suc (suc zero))) h = refl
-many_set (suc (suc (suc (suc zero)))) h = refl
-many_set (suc (suc (suc (suc (suc zero))))) h = refl
-many_set (suc (suc (suc (suc (suc (suc zero)))))) h = refl
-many_set (suc (suc (suc (suc (suc (suc (suc n))))))) h = absurd (omega arith)
-
 pub sizes_first : (marks : List ℕ) (plane : ℕ) → AreSizes marks plane 8128 0
 sizes_first marks plane = record {
   few = λ size less. absurd (omega arith);
-  many = λ size low high. many size (size - 6) (omega arith) (omega arith);
+  many = λ size low high.
+      let from_six : 6 + (size - 6) ≡ size = omega (arith, low) in
+      ap (λ n. bit_at 8128 n) (sym from_six) ∙ eqb-true _ _ (agree_below_at (λ n. bit_at 8128 (6 + n) == 1) (λ _. true) 7 (size - 6) refl (omega (arith, high)));
 }
-  where
-    many : (size n : ℕ) → size ≡ 6 + n → n ≤ 6 → bit_at 8128 size ≡ 1
-    many size n e h = ap (λ s. bit_at 8128 s) e ∙ many_set n h
 
 set_by : (a b c : ℕ) → c ≡ max a b → a < 2 → b < 2 → c ≡ 0 → (a ≡ 0) × (b ≡ 0)
 set_by a b c e f g h = (omega (arith, e, h), omega (arith, e, h))
 
 still_set : (a b c : ℕ) → c ≡ max a b → a ≡ 1 → b < 2 → c ≡ 1
 still_set a b c e f g = omega (arith, e, f)
+
+either : (m n : ℕ) → m < n + 1 → (m < n) ⊎ (m ≡ n)
+either m n h = grind arith
 
 -- one size more, which is set
 pub sizes_set : (marks : List ℕ) (plane sizes size words : ℕ) → words ≡ 2 ^ size → AreSizes marks plane sizes size → AreSizes marks plane (bit_or sizes words) (size + 1)
@@ -53,9 +46,6 @@ sizes_set marks plane sizes size words power before = record {
   ];
   many = λ other low high. still_set (bit_at sizes other) (bit_at words other) (bit_at (bit_or sizes words) other) (bit_at_or sizes words other) (before.many other low high) (bit_at-lt words other);
 }
-  where
-    either : (m n : ℕ) → m < n + 1 → (m < n) ⊎ (m ≡ n)
-    either m n h = grind arith
 
 -- and one that is not, since it has no marks
 pub sizes_unset : (marks : List ℕ) (plane sizes size words : ℕ) → words ≡ 2 ^ size → ((at : ℕ) → plane + words ≤ at → at < plane + 2 * words → is_marked marks at ≡ false) → AreSizes marks plane sizes size → AreSizes marks plane sizes (size + 1)
@@ -68,9 +58,6 @@ sizes_unset marks plane sizes size words power none before = record {
   ];
   many = before.many;
 }
-  where
-    either : (m n : ℕ) → m < n + 1 → (m < n) ⊎ (m ≡ n)
-    either m n h = grind arith
 
 pub sizes_last : (marks : List ℕ) (plane sizes upto : ℕ) → 6 ≤ upto → AreSizes marks plane sizes upto → HasSizes marks plane sizes
 sizes_last marks plane sizes upto all are size short unset = by (either size)
@@ -86,29 +73,9 @@ sizes_last marks plane sizes upto all are size short unset = by (either size)
 
 -- every size is set
 pub all_sizes : (marks : List ℕ) (plane : ℕ) → HasSizes marks plane 8191
-all_sizes marks plane size short unset = let set = set_in size short in absurd (omega (arith, set, unset))
-  where
-    set_in : (n : ℕ) → n ≤ 12 → bit_at 8191 n ≡ 1
-    set_in zero h = refl
-    set_in (suc zero) h = refl
-    set_in (suc (suc zero)) h = refl
-    set_in (suc (suc (suc zero))) h = refl
-    set_in (suc (suc (suc (suc zero)))) h = refl
-    set_in (suc (suc (suc (suc (suc zero))))) h = refl
-    set_in (suc (suc (suc (suc (suc (suc n)))))) h = ap (λ s. bit_at 8191 s) sum ∙ high n (omega arith)
-      where
-        sum : suc (suc (suc (suc (suc (suc n))))) ≡ 6 + n
-        sum = omega arith
-
-        high : (m : ℕ) → m ≤ 6 → bit_at 8191 (6 + m) ≡ 1
-        high zero h = refl
-        high (suc zero) h = refl
-        high (suc (suc zero)) h = refl
-        high (suc (suc (suc zero))) h = refl
-        high (suc (suc (suc (suc zero)))) h = refl
-        high (suc (suc (suc (suc (suc zero))))) h = refl
-        high (suc (suc (suc (suc (suc (suc zero)))))) h = refl
-        high (suc (suc (suc (suc (suc (suc (suc m))))))) h = absurd (omega arith)
+all_sizes marks plane size short unset =
+    let set : bit_at 8191 size ≡ 1 = eqb-true _ _ (agree_below_at (λ n. bit_at 8191 n == 1) (λ _. true) 13 size refl (omega (arith, short))) in
+    absurd (omega (arith, set, unset))
 
 unset_by : (b words : ℕ) → 0 < words → b * words ≡ 0 → b < 2 → b ≡ 0
 unset_by zero words some none few = refl

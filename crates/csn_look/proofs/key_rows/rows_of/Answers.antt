@@ -25,10 +25,3 @@ loop-i-preserved c =
       rowed_more d c.loop-i.tables new items at row c.loop-i.invariant.0 c.in_ok-row.ensures.more (node_row d new row at c.node.result.now c.node.ensures c.in_ok-row.ensures.has)
           (λ j low high. c.loop-i.invariant.1 j (omega (arith, low)) high),
     )
-
-pub returns : goal.returns
-returns c =
-    record {
-      same = c.loop-i.invariant.0;
-      rowed = λ j high. c.loop-i.invariant.1 j (omega arith) high;
-    }

@@ -17,4 +17,4 @@ pub returns-clause-meant : goal.returns-clause-meant
 returns-clause-meant c = λ d most i o v b t h. keys d most h
 
 pub returns-clause-followed : goal.returns-clause-followed
-returns-clause-followed c = near c.nodes_are_well_formed.ensures
+returns-clause-followed c = near c.known.ensures.formed

@@ -4,7 +4,7 @@ use Rattle.csn_desc.specs.Nodes.{DescV}
 use Rattle.csn_desc.specs.Values.{Values}
 use Rattle.csn_desc.specs.Means.{NMeans}
 use Rattle.csn_look.specs.Keys.{InKeys, IsFirm}
-use Rattle.csn_look.proofs.Meaning.ShapeFacts.{Shaped, shaped}
+use Rattle.csn_look.proofs.Meaning.ShapeFacts.{Shaped, shape_of}
 use Rattle.csn_look.proofs.Meaning.NullableFacts.{nullable}
 use Rattle.csn_look.proofs.laws.firm_nodes_have_bits.Goals as goal
 
@@ -17,7 +17,7 @@ some_word d most i o [] mark firm small h = absurd (firm (inr (o, small, mark, h
 some_word d most i o (a ∷ word) mark firm small h = omega arith
 
 pub returns-clause-meant : goal.returns-clause-meant
-returns-clause-meant c = λ d most i o v b t is firm h. some_bits d most i o v b t (shaped c.nodes_are_well_formed.ensures c.values_are_kept.ensures.none c.values_are_kept.ensures.fitting d is) firm h
+returns-clause-meant c = λ d most i o v b t is firm h. some_bits d most i o v b t (shape_of c.known.ensures d is) firm h
 
 pub returns-clause-keys : goal.returns-clause-keys
 returns-clause-keys c = some_word
