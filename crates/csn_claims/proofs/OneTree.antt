@@ -12,11 +12,12 @@ use Rattle.csn_desc.proofs.Nodewise.{meaning_at}
 use Rattle.csn_look.specs.Ends.{PartsEnd, ManyEnd}
 use Rattle.csn_look.specs.Ends as end
 use Rattle.csn_look.specs.Reached.{Reached, reached_root, Turn}
+use Rattle.csn_look.proofs.Basics.Places.{fronts}
 use Rattle.csn_look.proofs.Meaning.ShapeFacts.{kept}
 use Rattle.csn_look.proofs.Meaning.EndsFacts.{ends}
 use Rattle.csn_look.proofs.Meaning.FollowFacts.{cuts}
 use Rattle.csn_look.proofs.Meaning.ReachFacts.{turn_first, turn_next, turn_reached, parts_end_more, many_end_more, seq_reached, lead_reached, choice_reached, window_reached, named_reached, many_reached}
-use Rattle.csn_claims.proofs.Pieces.{order, equal_numbers, first_less, second_less, same_length, same_ends, cut_first, cut_rest}
+use Rattle.csn_claims.proofs.Pieces.{order, equal_numbers, first_less, second_less, same_ends, cut_first, cut_rest}
 use Rattle.csn_claims.proofs.Clear.{Lies, Stands, Clear}
 use Rattle.csn_claims.proofs.FollowFacts.{end_stands, behind_first, stands_along, stands_moved, seq_stands, lead_stands, last_stands, times_stands, many_stands, choice_stands, named_stands}
 use Rattle.csn_claims.proofs.Decisions.{nothing_behind, no_loop, no_two}
@@ -73,7 +74,7 @@ module _ (d : DescV) (most : ℕ) (Follow : ℕ → ℕ → ℕ → Type 0) (cle
     one_node : {n : Node} {i o : ℕ} {v : Values} {b : List ℕ} {t : TreeV} → NodeMeans d n o v b t → slice_get d.nodes i ≡ Some n → {c : List ℕ} {u : TreeV} (x y : List ℕ) → Reached d i (o % 8) → FitWidths d v → NodeMeans d n o v c u → b ++ x ≡ c ++ y → Stands Follow i o b x → Stands Follow i o c y → Same b c t u
     one_node (means_lits left) at x y reached widths (means_lits right) e s1 s2 = record { words = left ∙ sym right; trees = refl }
     one_node {b = b} (means_spare left h1) at {c = c} x y reached widths (means_spare right h2) e s1 s2 =
-        let agree = same_length b c x y (left ∙ sym right) e in record { words = agree; trees = ap bits agree }
+        let agree = fronts b c x y e (left ∙ sym right) in record { words = agree; trees = ap bits agree }
     one_node {b = b} (means_pad some1 h1) at {c = c} x y reached widths (means_pad some2 h2) e s1 s2 =
         let left = nothing_behind d most Follow clear Pad x at tt reached widths (means_at Pad at (means_pad some1 h1)) s1 in
         let right = nothing_behind d most Follow clear Pad y at tt reached widths (means_at Pad at (means_pad some2 h2)) s2 in
@@ -82,7 +83,7 @@ module _ (d : DescV) (most : ℕ) (Follow : ℕ → ℕ → ℕ → Type 0) (cle
     one_node (means_null left) at x y reached widths (means_null right) e s1 s2 = record { words = left ∙ sym right; trees = refl }
     one_node {b = b} (means_field {unit = unit} n counts1 wide1 h1) at {c = c} x y reached widths (means_field m counts2 wide2 h2) e s1 s2 =
         let count : n ≡ m = cc in
-        let agree = same_length b c x y (wide1 ∙ ap (λ k. unit * k) count ∙ sym wide2) e in
+        let agree = fronts b c x y e (wide1 ∙ ap (λ k. unit * k) count ∙ sym wide2) in
         record { words = agree; trees = ap bits agree }
     one_node {b = b} (means_rest h1) at {c = c} x y reached widths (means_rest h2) e s1 s2 =
         let left = nothing_behind d most Follow clear Rest x at tt reached widths (means_at Rest at (means_rest h1)) s1 in
@@ -128,7 +129,7 @@ module _ (d : DescV) (most : ℕ) (Follow : ℕ → ℕ → ℕ → Type 0) (cle
         record { words = agree; trees = ap row same }
     one_node {o = o} {b = b} (means_window {unit = unit} {i = p} n counts1 wide1 h1) at {c = c} x y reached widths (means_window m counts2 wide2 h2) e s1 s2 =
         let count : n ≡ m = cc in
-        let agree = same_length b c x y (wide1 ∙ ap (λ k. unit * k) count ∙ sym wide2) e in
+        let agree = fronts b c x y e (wide1 ∙ ap (λ k. unit * k) count ∙ sym wide2) in
         one_tree h1 [] [] (window_reached d at reached) widths h2 (ap (λ l. l ++ []) agree) (end_stands Follow p o b) (end_stands Follow p o c)
     one_node (means_named {label = label} h1) at x y reached widths (means_named h2) e s1 s2 =
         let here = named_reached d at reached in

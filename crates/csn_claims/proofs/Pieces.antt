@@ -17,17 +17,6 @@ pub some_bit : (b : List ℕ) → (b ≡ [] → ⊥) → 0 < length b
 some_bit [] some = absurd (some refl)
 some_bit (a ∷ b) some = omega arith
 
--- two first pieces of one list that are equally long are one
-pub same_length : (b c x y : List ℕ) → length b ≡ length c → b ++ x ≡ c ++ y → b ≡ c
-same_length [] [] x y size e = refl
-same_length [] (k ∷ c) x y size e = absurd (omega arith)
-same_length (k ∷ b) [] x y size e = absurd (omega arith)
-same_length (k ∷ b) (m ∷ c) x y size e =
-    let first : k ≡ m = cc in
-    let others : b ++ x ≡ c ++ y = cc in
-    let rest = same_length b c x y (omega arith) others in
-    cc
-
 pub same_ends : (b c x y : List ℕ) → x ≡ [] → y ≡ [] → b ++ x ≡ c ++ y → b ≡ c
 same_ends b c x y left right e =
     sym (append-nil b) ∙ ap (λ l. b ++ l) (sym left) ∙ e ∙ ap (λ l. c ++ l) right ∙ append-nil c

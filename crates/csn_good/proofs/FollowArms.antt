@@ -8,6 +8,7 @@ use Rattle.csn_desc.specs.declared.node.Count.{Count}
 use Rattle.csn_desc.specs.declared.node.Node.{Node}
 use Rattle.csn_desc.specs.declared.node.Node.TheVariants.{Choice, Times, Many, Window, Named}
 use Rattle.csn_desc.specs.Nodes.{parts_of}
+use Rattle.csn_look.proofs.Sets.Telling.{last_none, last_more}
 use Rattle.csn_cert.specs.CertificateV.{NodeV, PositionV}
 use Rattle.csn_cert.specs.Growing.{claimed}
 use Rattle.csn_claims.specs.Claims.{Claims}
@@ -22,7 +23,6 @@ use Rattle.csn_good.specs.Tails.{TailIs}
 use Rattle.csn_good.specs.Wanted.{TailStarts, PartStarts, Wants, MayEnd, HasWanted, PartsHave, ordered}
 use Rattle.csn_good.proofs.Denoting.{both_true}
 use Rattle.csn_good.proofs.EndsTold.{AreSmall, drop_part}
-use Rattle.csn_good.proofs.Tailing.{last_none, last_more}
 use Rattle.csn_good.proofs.ReachArms.{part_at, one_part, no_part}
 
 reached_at : (p : Option PositionV) (end : ℕ) → IsTrue (ends_at p end) → IsTrue (is_some p)

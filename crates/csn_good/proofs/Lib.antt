@@ -1,7 +1,6 @@
 pub mod Digits
 pub mod EndsTold
 pub mod Arms
-pub mod Powers
 pub mod Denoting
 pub mod Tailing
 pub mod SetArms

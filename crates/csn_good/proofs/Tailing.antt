@@ -1,8 +1,6 @@
 -- What is known of the last parts, with one more before them.
-use Rattle.std.proofs.Common.{◌≡◌, ℕ, zero, suc, ◌+◌, ◌-◌, ◌<◌, ◌≤◌, ◌↔◌, false, List, [], ◌∷◌, length, drop, refl, sym, ◌∙◌, ap, subst, arith, Some, slice_get}
+use Rattle.std.proofs.Common.{◌≡◌, ℕ, zero, suc, ◌+◌, ◌-◌, ◌≤◌, ◌↔◌, false, List, [], ◌∷◌, length, sym, ◌∙◌, subst, arith, Some, slice_get}
 use Rattle.std.specs.Prelude.{IsTrue, ◌&&◌}
-use Rattle.std.proofs.Math.Seq.{drop-cons, drop-length}
-use Rattle.std.proofs.lemmas.Option.{slice_get_within, get_or_from_slice_get}
 use Rattle.csn_claims.specs.Claims.{Claims}
 use Rattle.csn_claims.specs.Nullable.{AllNullable, all_end, all_next}
 use Rattle.csn_claims.specs.Starts.{PartsStart, starts_here, starts_later}
@@ -11,23 +9,6 @@ use Rattle.csn_good.specs.Octets.{OctetsAre}
 use Rattle.csn_good.specs.Tails.{tail_has, TailIs, StartsBehind, behind_own, behind_later}
 use Rattle.csn_good.proofs.Denoting.{both_true, and_both}
 use Rattle.csn_good.proofs.EndsTold.{AreSmall, Carried, drop_part, drop_over}
-
--- ---- the last parts of a list
-
-pub last_none : (parts : List ℕ) (k : ℕ) → k ≡ length parts → drop k parts ≡ []
-last_none parts k e = ap (λ n. drop n parts) e ∙ drop-length parts
-
-pub last_all : (parts : List ℕ) (k : ℕ) → k ≤ 0 → drop k parts ≡ parts
-last_all parts zero h = refl
-last_all parts (suc k) h = absurd (omega arith)
-
-pub last_more : (parts : List ℕ) (k p : ℕ) → 0 < k → slice_get parts (k - 1) ≡ Some p → drop (k - 1) parts ≡ p ∷ drop k parts
-last_more parts k p some at =
-    let inside = slice_get_within parts (k - 1) p at in
-    let next : suc (k - 1) ≡ k = omega arith in
-    drop-cons parts (k - 1) p inside
-    ∙ ap (λ x. x ∷ drop (suc (k - 1)) parts) (get_or_from_slice_get parts (k - 1) p p at)
-    ∙ ap (λ n. p ∷ drop n parts) next
 
 module _ (claims : Claims) where
   -- ---- nullable parts

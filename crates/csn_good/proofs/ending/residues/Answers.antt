@@ -1,4 +1,4 @@
-use Rattle.csn_good.proofs.Powers.{low_power, high_power}
+use Rattle.csn_look.proofs.Sets.Telling.{low_power, high_power}
 use Rattle.csn_good.proofs.ending.residues.Goals as goal
 
 pub returns-then-width-lt3-clause-most : goal.returns-then-width-lt3-clause-most

@@ -1,7 +1,7 @@
 use Rattle.std.proofs.Common.{List, ℕ, drop, sym, subst}
+use Rattle.csn_look.proofs.Sets.Telling.{last_none, last_all, last_more}
 use Rattle.csn_good.specs.Patterns.{PartsPatterns}
 use Rattle.csn_good.specs.Made.{AreMade}
-use Rattle.csn_good.proofs.Tailing.{last_none, last_all, last_more}
 use Rattle.csn_good.proofs.Making.{parts_begin, parts_on}
 use Rattle.csn_good.proofs.made.made_of_parts.Goals as goal
 

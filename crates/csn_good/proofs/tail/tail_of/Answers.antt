@@ -1,7 +1,8 @@
 use Rattle.std.proofs.Common.{drop, List, ℕ, sym, subst}
+use Rattle.csn_look.proofs.Sets.Telling.{last_none, last_all, last_more}
 use Rattle.csn_good.specs.ClaimedSets.{claims_of}
 use Rattle.csn_good.specs.Tails.{TailIs}
-use Rattle.csn_good.proofs.Tailing.{last_none, last_all, last_more, tail_none}
+use Rattle.csn_good.proofs.Tailing.{tail_none}
 use Rattle.csn_good.proofs.tail.tail_of.Goals as goal
 
 pub loop-at-init : goal.loop-at-init
