@@ -1,6 +1,7 @@
 pub mod Packing
 pub mod Room
 pub mod NumberFacts
+pub mod PackedFacts
 pub mod OctetNumbers
 pub mod HexDigits
 pub mod Digits

@@ -3,7 +3,7 @@ use Rattle.std.proofs.Common.{◌≡◌, ℕ, zero, suc, ◌+◌, ◌-◌, ◌*�
 use Rattle.std.specs.Int.Bits.{bit_or}
 use Rattle.std.specs.Int.{from_be_bytes, w64}
 use Rattle.std.proofs.Math.Nat.{pow-succ', pow-suc, mul_assoc, mul-add-div_right, add-mul, mod-eq_of_lt, div-div-eq-div-mul}
-use Rattle.std.proofs.lemmas.Nat.{pow-add, pow_pos, shr-shr, shr_split, mod-pow-add, shr_high, or_shifted, mod_below, mod-mul-add, shl_below}
+use Rattle.std.proofs.lemmas.Nat.{pow-add, pow_pos, shr-shr, shr_split, mod-pow-add, shr_high, or_shifted, mod_below, mod-mul-add, shl_below, one_shl}
 use Rattle.csn_bits.specs.Octets.{IsBits, bits_of_octet, bits_of_octets, octet_of}
 use Rattle.csn_bits.specs.Numbers.{number_of, low_bits}
 
@@ -89,6 +89,16 @@ low_bits-mod n j v =
     let parts : q * 2 ^ j * 2 ^ n + r ≡ v =
     ap (λ (k : ℕ). k + r) (mul_assoc q (2 ^ j) (2 ^ n) ∙ ap (λ (k : ℕ). q * k) (sym (pow-add 2 j n))) ∙ shr_split v (j + n) in
     sym (low_bits-above n (q * 2 ^ j) r) ∙ ap (λ (k : ℕ). low_bits n k) parts
+
+-- the last bits of a number, taken as a remainder by a power of two that was made by a shift
+pub low_bits-masked : (n v : ℕ) → n < 64 → low_bits n (v % (1 * 2 ^ n % 2 ^ 64)) ≡ low_bits n v
+low_bits-masked n v short =
+    let one : 1 * 2 ^ n % 2 ^ 64 ≡ 2 ^ (0 + n) = (let e : 0 + n ≡ n = omega arith in rw e (one_shl n 64 short)) in
+    ap (λ k. low_bits n (v % k)) one ∙ low_bits-mod n 0 v
+
+-- and the remainder has no more bits
+pub masked_small : (v n : ℕ) → n < 64 → v % (1 * 2 ^ n % 2 ^ 64) < 2 ^ n
+masked_small v n short = rw (one_shl n 64 short) (mod_below v (2 ^ n) (pow_pos n))
 
 -- two numbers beside one another
 pub low_bits-join : (m n a b : ℕ) → b < 2 ^ n → low_bits (m + n) (a * 2 ^ n + b) ≡ low_bits m a ++ low_bits n b

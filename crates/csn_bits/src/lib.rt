@@ -6,11 +6,13 @@ mod digit;
 mod fault;
 mod feed;
 pub mod laws;
+mod packed;
 mod pattern;
 
 pub use bits::{Bits, MOST_BITS};
 pub use fault::{BitsFault, LineWhy, NoMemory};
 pub use feed::{HexEnd, HexFeed, HexStep, MOST_LINE, Pairs};
+pub use packed::{MOST_ADDED, PackedBits};
 pub use pattern::pattern_bit;
 
 #[cfg(test)]

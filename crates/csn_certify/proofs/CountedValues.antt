@@ -94,7 +94,8 @@ node_width nodes seen k (Many part) counts is = absurd (cc)
 node_width nodes seen k (Trunc parts) counts is = absurd (cc)
 node_width nodes seen k (Named label part) counts is = absurd (cc)
 
-narrow : (value width : ℕ) → value < 2 ^ width → width ≤ 16 → value < 65536
+-- a number of up to 16 bits
+pub narrow : (value width : ℕ) → value < 2 ^ width → width ≤ 16 → value < 65536
 narrow value width less few =
     let wide : 2 ^ width ≤ 2 ^ 16 = pow-le-pow_right {n = 2} (omega arith) few in
     let all : 2 ^ 16 ≡ 65536 = refl in

@@ -29,3 +29,4 @@ pub mod TableFacts
 pub mod Answered
 pub mod ExampleFacts
 pub mod CountedValues
+pub mod KeptNumbers

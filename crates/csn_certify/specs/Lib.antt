@@ -13,3 +13,4 @@ pub mod Laws
 pub mod Known
 pub mod Examples
 pub mod CountedValues
+pub mod KeptNumbers

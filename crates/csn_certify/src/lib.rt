@@ -12,6 +12,7 @@ mod filling;
 mod lasts;
 pub mod laws;
 mod meets;
+mod numbers;
 mod overlaps;
 mod pick;
 mod pick_blocks;
@@ -24,6 +25,7 @@ mod steps;
 
 pub use certifying::{CertifyFault, certify};
 pub use conflict::Conflict;
+pub use numbers::{MOST_NUMBERS, Number, count_of};
 pub use pick::Pick;
 pub use plan::Plan;
 pub use steps::Steps;

@@ -1,5 +1,4 @@
 -- Lemmas of csn_decode.
-pub mod LeafFacts
 pub mod BuiltFacts
 pub mod Grown
 pub mod DecodingFacts

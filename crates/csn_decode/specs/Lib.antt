@@ -1,3 +1,2 @@
-pub mod LeafBits
 pub mod Built
 pub mod Decoding

@@ -2,9 +2,8 @@ ghost use Rattle.std.specs.Prelude.{◌≡◌, ◌<◌, ◌≤◌, OnOk, OnErr, 
 ghost use Rattle.csn_bits.specs.Numbers.{low_bits};
 ghost use Rattle.csn_decode.specs.Built.{nothing, is_literal, has_bits, with_node, entered, took_all, Leaves, Grows, given};
 
-use crate::leaf_bits::{LeafBits, MOST_ADDED};
 use crate::open::{Inside, Open};
-use csn_bits::NoMemory;
+use csn_bits::{MOST_ADDED, NoMemory, PackedBits};
 use csn_desc::{Move, Node, Shape, Tree};
 use std::alloc::Global;
 use std::marker::Model;
@@ -16,7 +15,7 @@ pub(crate) struct Builder {
     /// The nodes that have begun and not ended, each inside the one before it.
     nodes: Vec<Open>,
     /// The bits of the innermost node, where it is a leaf.
-    bits: LeafBits,
+    bits: PackedBits,
     /// The tree of the root, where it has ended.
     whole: Option<Tree>,
 }
@@ -42,7 +41,7 @@ impl Builder {
         Builder {
             alloc,
             nodes: Vec::new(alloc),
-            bits: LeafBits::new(alloc),
+            bits: PackedBits::new(alloc),
             whole: None,
         }
     }

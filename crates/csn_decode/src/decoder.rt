@@ -3,10 +3,10 @@ ghost use Rattle.csn_bits.specs.Octets.{bits_of_octets};
 ghost use Rattle.csn_decode.specs.Decoding.{DecodesFor, credit, Decodes, Ends};
 
 use crate::track::TreeTrack;
-use crate::verdict::{DecodeFault, Fed};
+use crate::verdict::DecodeFault;
 use csn_certify::{Plan, Steps};
 use csn_desc::Tree;
-use csn_judge::{Judge, Judged};
+use csn_judge::{Fed, Judge, Judged};
 use std::alloc::Global;
 use std::marker::Model;
 use std::sync::ledger::Ledger;

@@ -4,10 +4,10 @@
 mod alternative;
 mod builder;
 mod decoder;
-mod leaf_bits;
 mod open;
 mod track;
 mod verdict;
 
+pub use csn_judge::Fed;
 pub use decoder::Decoder;
-pub use verdict::{DecodeFault, Fed};
+pub use verdict::DecodeFault;

@@ -1,39 +1,4 @@
-use csn_judge::Verdict;
 use thiserror::Error;
-
-/// What is known of a block that goes on.
-#[derive(Clone, Copy, Debug, PartialEq, Eq, Hash)]
-pub enum Fed {
-    /// The bits so far can be followed.
-    Going,
-    /// They cannot: only the first `place` of them.
-    Refused { place: u32 },
-    /// The tree needs more memory than there is.
-    NoMemory,
-}
-
-impl Fed {
-    ghost use Rattle.std.specs.Prelude.{◌≡◌};
-    ghost use Rattle.csn_decode.specs.Decoding.{answer_of, is_going};
-
-    /// Whether neither the bits were refused nor memory was wanting.
-    pub(crate) fn is_going(self) -> bool
-        ensures { result ≡ is_going self }
-    {
-        matches!(self, Fed::Going)
-    }
-
-    /// What is answered by what the judge says, where memory was wanting or not.
-    pub(crate) fn of(verdict: Verdict, short: bool) -> Fed
-        ensures { result ≡ answer_of verdict short }
-    {
-        match verdict {
-            Verdict::Refused { place } => Fed::Refused { place },
-            Verdict::Going if short => Fed::NoMemory,
-            Verdict::Going => Fed::Going,
-        }
-    }
-}
 
 /// Why a block that has ended gives no tree.
 #[derive(Clone, Copy, Debug, PartialEq, Eq, Hash, Error)]

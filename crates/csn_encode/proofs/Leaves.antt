@@ -1,27 +1,16 @@
 -- The bits of leaves: those that a symbol stands for, and the numbers that they write.
 use Rattle.std.proofs.Common.{◌≡◌, ℕ, zero, suc, ◌+◌, ◌-◌, ◌*◌, ◌<◌, ◌≤◌, List, [], ◌∷◌, ◌++◌, length, take, drop, get_or, refl, sym, ◌∙◌, ap, arith, Some, slice_get}
 use Rattle.std.specs.Prelude.{replicate}
-use Rattle.std.proofs.lemmas.List.{length-take-le, drop-append-le}
+use Rattle.std.proofs.lemmas.List.{length-take-le, take_more, drop-append-le}
+use Rattle.std.proofs.lemmas.Option.{slice_get_within, get_or_from_slice_get}
 use Rattle.csn_bits.specs.Numbers.{number_of}
 use Rattle.csn_bits.proofs.NumberFacts.{number_of-push}
 use Rattle.csn_desc.specs.declared.symbol.Symbol.{Symbol}
 use Rattle.csn_desc.specs.Spelled.{symbol_bit, spelled}
 
-take_one : {A : Type 0} (l : List A) (k : ℕ) (s : A) → slice_get l k ≡ Some s → take (suc k) l ≡ take k l ++ s ∷ []
-take_one [] k s at = absurd (cc)
-take_one (x ∷ l) zero s at = let same : x ≡ s = cc in ap (λ y. y ∷ []) same
-take_one (x ∷ l) (suc k) s at = ap (λ m. x ∷ m) (take_one l k s at)
-
-pub take_next : {A : Type 0} (l : List A) (k : ℕ) (s : A) → slice_get l k ≡ Some s → take (k + 1) l ≡ take k l ++ s ∷ []
-take_next l k s at = let e : k + 1 ≡ suc k = omega arith in ap (λ n. take n l) e ∙ take_one l k s at
-
-take_digit : (l : List ℕ) (k x : ℕ) → k < length l → get_or l k 0 ≡ x → take (suc k) l ≡ take k l ++ x ∷ []
-take_digit [] k x less at = absurd (omega arith)
-take_digit (y ∷ l) zero x less at = ap (λ z. z ∷ []) at
-take_digit (y ∷ l) (suc k) x less at = ap (λ m. y ∷ m) (take_digit l k x (omega arith) at)
-
-pub take_bit : (l : List ℕ) (k x : ℕ) → k < length l → get_or l k 0 ≡ x → take (k + 1) l ≡ take k l ++ x ∷ []
-take_bit l k x less at = let e : k + 1 ≡ suc k = omega arith in ap (λ n. take n l) e ∙ take_digit l k x less at
+-- one element more
+take_next : {A : Type 0} (l : List A) (k : ℕ) (s : A) → slice_get l k ≡ Some s → take (k + 1) l ≡ take k l ++ s ∷ []
+take_next l k s at = take_more l k s (slice_get_within l k s at) ∙ ap (λ x. take k l ++ x ∷ []) (get_or_from_slice_get l k s s at)
 
 -- ---- symbols
 
@@ -62,7 +51,7 @@ pub number-next : (bits : List ℕ) (from at x : ℕ) → from ≤ at → at < l
     → number_of (drop from (take (at + 1) bits)) ≡ 2 * number_of (drop from (take at bits)) + x
 number-next bits from at x low less here =
     let long : length (take at bits) ≡ at = length-take-le at bits (omega arith) in
-    ap (λ l. number_of (drop from l)) (take_bit bits at x less here)
+    ap (λ l. number_of (drop from l)) (take_more bits at 0 less ∙ ap (λ b. take at bits ++ b ∷ []) here)
     ∙ ap (λ l. number_of l) (drop-append-le from (take at bits) (x ∷ []) (omega (arith, low, long)))
     ∙ number_of-push (drop from (take at bits)) x
 

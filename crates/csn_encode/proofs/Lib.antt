@@ -8,4 +8,3 @@ pub mod Leaves
 pub mod NodeKinds
 pub mod Total
 pub mod Blocks
-pub mod PackedFacts

@@ -10,7 +10,7 @@ use Rattle.csn_desc.specs.TreeV.{TreeV, row, alt, named, trees_of}
 use Rattle.csn_desc.specs.Nodes.{DescV, parts_of}
 use Rattle.csn_desc.specs.Values.{Values, count_of, with_value}
 use Rattle.csn_desc.specs.Means.{NMeans, NodeMeans, means_at, means_seq, means_choice, means_times, means_many, means_window, means_named, TimesMean, times_end, times_next}
-use Rattle.csn_desc.specs.Formed.{is_counted, shows_earlier, with_seen, Formed, PartsFormed, formed, formed_next, IsDescription}
+use Rattle.csn_desc.specs.Formed.{is_counted, shows_earlier, Formed, PartsFormed, formed, IsDescription}
 use Rattle.std.proofs.lemmas.Option.{slice_get_within}
 use Rattle.std.proofs.lemmas.List.{take_at, drop_at, take-append-le}
 use Rattle.csn_desc.proofs.ValuesKept.{fits_kept}
@@ -18,12 +18,14 @@ use Rattle.csn_certify.specs.CountedValues.{fields_of}
 use Rattle.csn_certify.proofs.CountedValues.{has_number, formed_head, fields_behind}
 use Rattle.csn_encode.specs.declared.misfit.MisfitWhy.{MisfitWhy}
 use Rattle.csn_encode.specs.declared.misfit.MisfitWhy.TheVariants.{WrongLabel, WrongCount, NoSuchAlternative, WindowLength}
-use Rattle.csn_encode.specs.declared.numbers.Number.{Number}
+use Rattle.csn_certify.specs.declared.numbers.Number.{Number}
 use Rattle.csn_encode.specs.declared.draft.Draft.{Draft}
 use Rattle.csn_encode.specs.Misfits.{kept_count, HavePieces, pieces_end, pieces_next, MissesNode, wrong_seq, wrong_times, wrong_trunc, idle_trunc, wrong_window, no_alternative, wrong_label, Misses, misses_at, MissesIn, misses_here, misses_named, misses_choice, misses_window, misses_seq, misses_trunc, misses_times, misses_many, MissesParts, parts_here, parts_later, MissesRepeats, repeats_here, repeats_later}
-use Rattle.csn_encode.specs.Writing.{joined, KeepsCount, IsReady, Stands, StandsAtPart, StandsAtParts, Added, Missed, AddsNode, MissesNodeBy, Adds, MissesBy, MissesBelow, AddsParts}
-use Rattle.csn_desc.proofs.Nodewise.{choice_formed}
-use Rattle.csn_encode.proofs.Counting.{counted_few, number_room, numbers_behind, formed_few}
+use Rattle.csn_certify.specs.KeptNumbers.{KeepsCount}
+use Rattle.csn_encode.specs.Writing.{joined, IsReady, Stands, StandsAtPart, StandsAtParts, Added, Missed, AddsNode, MissesNodeBy, Adds, MissesBy, MissesBelow, AddsParts}
+use Rattle.csn_desc.proofs.Nodewise.{parts_formed, first_formed, rest_formed, choice_formed}
+use Rattle.csn_certify.proofs.KeptNumbers.{number_room}
+use Rattle.csn_encode.proofs.Counting.{counted_few, numbers_behind, formed_few}
 use Rattle.csn_encode.proofs.Rows.{drop_here, nothing_behind, joined-append, kept_behind, pieces_count, pieces_parts, pieces_trunc, times_many, times_as, count-trees_of}
 
 -- ---- of any meaning
@@ -50,29 +52,17 @@ module _ (d : DescV) where
 
   -- ---- where the draft stands
 
-  pub parts_formed : {i round : ℕ} {seen : List ℕ} {n : Node} → slice_get d.nodes i ≡ Some n → Formed d.nodes seen round i → PartsFormed d.nodes (shows_earlier n) seen (suc round) (parts_of n)
-  parts_formed {round = round} {seen = seen} {n = n} at (formed m here few head have bound parts) =
-      let same : m ≡ n = cc in
-      let P : Node → Type 0 = λ k. PartsFormed d.nodes (shows_earlier k) seen (suc round) (parts_of k) in
-      subst P same parts
-
-  pub first_formed : {shows : Bool} {seen : List ℕ} {round i : ℕ} {parts : List ℕ} → PartsFormed d.nodes shows seen round (i ∷ parts) → Formed d.nodes seen round i
-  first_formed (formed_next first others) = first
-
-  pub rest_formed : {shows : Bool} {seen : List ℕ} {round i : ℕ} {parts : List ℕ} → PartsFormed d.nodes shows seen round (i ∷ parts) → PartsFormed d.nodes shows (with_seen d.nodes shows i seen) round parts
-  rest_formed (formed_next first others) = others
-
   pub stands_at_part : {i part round : ℕ} {v : Values} {draft : Draft} (n : Node) → slice_get d.nodes i ≡ Some n → parts_of n ≡ part ∷ [] → Stands d i round v draft → StandsAtPart d part round v draft
   stands_at_part {round = round} {v = v} n at one s =
       let P : List ℕ → Type 0 = λ l. PartsFormed d.nodes (shows_earlier n) (fields_of v) (suc round) l in
-      record { ready = s.ready; is_formed = first_formed (subst P one (parts_formed at s.is_formed)) }
+      record { ready = s.ready; is_formed = first_formed d.nodes (subst P one (parts_formed d.nodes at s.is_formed)) }
 
   pub stands_at_parts : {i round : ℕ} {shows : Bool} {parts : List ℕ} {v : Values} {draft : Draft} (n : Node) → slice_get d.nodes i ≡ Some n → parts_of n ≡ parts → shows_earlier n ≡ shows → Stands d i round v draft → StandsAtParts d shows parts round v draft
   stands_at_parts {round = round} {shows = shows} {v = v} n at all shown s =
       let P : List ℕ → Type 0 = λ l. PartsFormed d.nodes (shows_earlier n) (fields_of v) (suc round) l in
       let Q : Bool → Type 0 = λ b. PartsFormed d.nodes b (fields_of v) (suc round) (parts_of n) in
       let R : List ℕ → Type 0 = λ l. PartsFormed d.nodes shows (fields_of v) (suc round) l in
-      record { ready = s.ready; are_formed = subst R all (subst Q shown (parts_formed at s.is_formed)) }
+      record { ready = s.ready; are_formed = subst R all (subst Q shown (parts_formed d.nodes at s.is_formed)) }
 
   -- one node further in, with the step to the part or without it
   formed_inside : {seen : List ℕ} {round i : ℕ} → Formed d.nodes seen (suc round) i → Formed d.nodes seen (round + 1) i
@@ -220,7 +210,7 @@ module _ (d : DescV) where
     pub part_stands : {v : Values} {old new : Draft} {at kept part : ℕ} → (done : PartsDone v old at kept new) → slice_get parts at ≡ Some part → StandsAtPart d part round done.now new
     part_stands {at = at} {part = part} done here =
         let P : List ℕ → Type 0 = λ l. PartsFormed d.nodes true (fields_of done.now) (suc round) l in
-        record { ready = done.ready; is_formed = first_formed (subst P (drop_here parts at part here) done.are_formed) }
+        record { ready = done.ready; is_formed = first_formed d.nodes (subst P (drop_here parts at part here) done.are_formed) }
 
     pub part_misses : {v : Values} {old new next : Draft} {at kept part : ℕ} {t : TreeV} {why : MisfitWhy} → (done : PartsDone v old at kept new) → slice_get parts at ≡ Some part → slice_get rows at ≡ Some t
         → MissesBelow d at part done.now t new next why → Missed (λ path reason. MissesParts d parts 0 (length old.bits) v (trees_of rows) path reason) old next why
@@ -271,7 +261,7 @@ module _ (d : DescV) where
                 few = r.few;
                 within = within;
               };
-          are_formed = subst R (sym (fields_behind d part h.added done.now)) (rest_formed (subst P (drop_here parts at part here) done.are_formed));
+          are_formed = subst R (sym (fields_behind d part h.added done.now)) (rest_formed d.nodes (subst P (drop_here parts at part here) done.are_formed));
           have = λ later hs.
               let S : List (List ℕ) → Type 0 = λ l. HavePieces d parts (length old.bits) v (trees_of rows) l in
               subst S (sym (append_assoc done.pieces (h.added ∷ []) later)) (done.have (h.added ∷ later) (have_before parts rows at part (length new.bits) (length next.bits) t done.now h.added later here there size within h.meant hs));

@@ -1,6 +1,4 @@
-pub mod Packed
 pub mod Misfits
-pub mod Numbers
 pub mod Writing
 pub mod Encoding
 pub mod Laws

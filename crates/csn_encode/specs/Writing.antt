@@ -1,23 +1,21 @@
 -- How the tree of a node is written behind bits that are written already. (This project's own choice.)
-use Rattle.std.specs.Prelude.{◌≡◌, ℕ, suc, ◌<◌, ◌≤◌, Bool, if◌then◌else◌, List, [], ◌∷◌, ◌++◌, length}
+use Rattle.std.specs.Prelude.{◌≡◌, ℕ, suc, ◌<◌, ◌≤◌, Bool, List, [], ◌∷◌, ◌++◌, length}
 use Rattle.csn_bits.specs.Octets.{most_bits}
-use Rattle.csn_bits.specs.Numbers.{number_of}
 use Rattle.csn_desc.specs.declared.reading.Reading.{Reading}
 use Rattle.csn_desc.specs.declared.reading.Reading.TheVariants.{Sent}
 use Rattle.csn_desc.specs.declared.symbol.Symbol.{Symbol}
-use Rattle.csn_desc.specs.declared.node.Count.{Count}
 use Rattle.csn_desc.specs.declared.node.Node.{Node}
 use Rattle.csn_desc.specs.TreeV.{TreeV, Trees}
 use Rattle.csn_desc.specs.Nodes.{DescV}
 use Rattle.csn_desc.specs.Values.{Values}
 use Rattle.csn_desc.specs.Spelled.{IsSpare}
 use Rattle.csn_desc.specs.Means.{NMeans, NodeMeans}
-use Rattle.csn_desc.specs.Formed.{is_counted, Formed, PartsFormed, FitWidths, IsDescription}
+use Rattle.csn_desc.specs.Formed.{Formed, PartsFormed, FitWidths, IsDescription}
 use Rattle.csn_certify.specs.Conflicts.{Certified}
-use Rattle.csn_certify.specs.CountedValues.{fields_of, HasNumber}
+use Rattle.csn_certify.specs.CountedValues.{fields_of}
+use Rattle.csn_certify.specs.KeptNumbers.{numbers_of}
 use Rattle.csn_encode.specs.declared.misfit.MisfitWhy.{MisfitWhy}
 use Rattle.csn_encode.specs.declared.misfit.MisfitWhy.TheVariants.{WrongSpare, TooManyBits}
-use Rattle.csn_encode.specs.declared.numbers.Number.{Number}
 use Rattle.csn_encode.specs.declared.draft.Draft.{Draft}
 use Rattle.csn_encode.specs.declared.fault.Stop.{Stop}
 use Rattle.csn_encode.specs.declared.fault.Stop.TheVariants.{Misfit, NoMemory}
@@ -28,30 +26,15 @@ abbrev pub joined : List (List ℕ) → List ℕ
 joined [] = []
 joined (piece ∷ pieces) = piece ++ joined pieces
 
--- ---- numbers
+-- ---- where the writing stands
 
 module _ (d : DescV) where
-  -- the numbers of the values that counts stand on, the last one last
-  abbrev pub numbers_of : Values → List Number
-  numbers_of [] = []
-  numbers_of (last ∷ earlier) =
-      if is_counted d.nodes last.0
-      then numbers_of earlier ++ record { field = last.0; value = number_of last.1 } ∷ []
-      else numbers_of earlier
-
-  -- the numbers that are kept are those by which a count is a number
-  pub record KeepsCount (v : Values) (numbers : List Number) (count : Count) : Type 0 where
-    pub kept : numbers ≡ numbers_of v
-    pub has : HasNumber d v count
-
-  -- ---- where the writing stands
-
   -- a draft goes on at a node that is inside so many others and sees these values
   pub record IsReady (round : ℕ) (v : Values) (draft : Draft) : Type 0 where
     pub description : IsDescription d
     pub certified : Certified d 12
     pub widths : FitWidths d v
-    pub numbers : draft.numbers.items ≡ numbers_of v
+    pub numbers : draft.numbers.items ≡ numbers_of d v
     pub steps : length draft.path ≤ round
     pub few : round < 64
     pub within : length draft.bits ≤ most_bits

@@ -7,19 +7,17 @@ ghost use Rattle.csn_desc.specs.Nodes.{DescV};
 ghost use Rattle.csn_desc.specs.Spelled.{spelled};
 ghost use Rattle.csn_desc.specs.Values.{Values, count_of};
 ghost use Rattle.csn_desc.specs.Formed.{is_counted};
+ghost use Rattle.csn_certify.specs.KeptNumbers.{KeepsCount};
 ghost use Rattle.csn_encode.specs.declared.misfit.MisfitWhy.TheVariants.{TooManyBits};
 ghost use Rattle.csn_encode.specs.Misfits.{IsPast};
-ghost use Rattle.csn_encode.specs.Writing.{KeepsCount, Added, IfMisfit};
+ghost use Rattle.csn_encode.specs.Writing.{Added, IfMisfit};
 
 use crate::fault::Stop;
 use crate::misfit::MisfitWhy;
-use crate::numbers::{MOST_NUMBERS, Number, last_value};
-use crate::packed::PackedBits;
 use crate::path::Path;
-use crate::symbols::symbol_bit;
 use arrayvec::ArrayVec;
-use csn_bits::{Bits, MOST_BITS};
-use csn_certify::Plan;
+use csn_bits::{Bits, MOST_BITS, PackedBits};
+use csn_certify::{MOST_NUMBERS, Number, Plan, count_of};
 use csn_desc::{Count, Run};
 use std::alloc::Global;
 
@@ -83,7 +81,7 @@ impl Draft {
         }
         for at in 0..run.len() {
             let place = self.bits.len();
-            self.push(symbol_bit(run.get(at), place))?;
+            self.push(run.get(at).bit(place))?;
         }
         Ok(())
     }
@@ -94,13 +92,7 @@ impl Draft {
         ensures count { (d : DescV) (v : Values) → KeepsCount d v self.now.numbers.items count.now → count_of v count.now ≡ Some result }
         ensures small { result < 16777216 }
     {
-        match count {
-            Count::Fixed(n) => *n,
-            Count::Counted { m, field, c } => match last_value(&self.numbers, *field) {
-                Some(number) => times_and_more(*m, number, *c),
-                None => unreachable!(),
-            },
-        }
+        count_of(count, self.numbers.as_slice())
     }
 
     /// Keeps the number of a part whose bits begin at the place `from`, where counts stand on it.
@@ -134,14 +126,4 @@ impl Draft {
         }
         value
     }
-}
-
-/// So many times a number of up to 16 bits, and `c` more.
-fn times_and_more(m: u8, number: u32, c: u32) -> u32
-    requires number { number < 65536 }
-    requires more { c ≤ 65535 }
-    ensures sum { result ≡ m * number + c }
-    ensures small { result < 16777216 }
-{
-    u32::from(m) * number + c
 }

@@ -7,8 +7,6 @@ mod fault;
 pub mod laws;
 mod leaf;
 mod misfit;
-mod numbers;
-mod packed;
 mod path;
 mod symbols;
 mod write;

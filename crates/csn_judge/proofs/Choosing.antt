@@ -27,7 +27,7 @@ use Rattle.csn_judge.proofs.Standing.{rest_stands, goes_stands, choice_width}
 use Rattle.csn_judge.proofs.LookAhead.{reaches}
 use Rattle.csn_judge.proofs.Closing.{Full, goes_within}
 use Rattle.csn_judge.proofs.Refusing.{alive, bits_alive, symbols_alive, spare_alive, pad_alive, rest_alive, choice_begun, stuck}
-use Rattle.csn_judge.proofs.Stacks.{parts_formed, first_formed}
+use Rattle.csn_desc.proofs.Nodewise.{parts_formed, first_formed}
 use Rattle.std.proofs.lemmas.List.{length-take}
 use Rattle.csn_judge.specs.Known.{Known}
 
@@ -40,7 +40,7 @@ module _ (d : DescV) (moving : Moving) (empties : EmptyBitsAreFollowed) where
   next_empty : (i from : ℕ) {j round : ℕ} {ps : List ℕ} (v : Values) (done : List ℕ) → PartsFormed d.nodes true (with_seen d.nodes true i (fields_of v)) round (j ∷ ps) → NFollow d j (length done) (behind d i from v done) []
   next_empty i from {j} {round} v done well =
       let P : List ℕ → Type 0 = λ l. Formed d.nodes l round j in
-      node_empty (length done) (behind d i from v done) (subst P (sym (fields_behind d i (drop from done) v)) (first_formed d well))
+      node_empty (length done) (behind d i from v done) (subst P (sym (fields_behind d i (drop from done) v)) (first_formed d.nodes well))
 
   parts_empty : {i from round : ℕ} (parts : List ℕ) {v : Values} (done : List ℕ) → PartsFormed d.nodes true (with_seen d.nodes true i (fields_of v)) round parts → Begins d (parts_left i from parts v) done []
   parts_empty [] done well = begins_whole (Leave ∷ []) (completes_parts tree.none (parts_end refl) (walk.parts_end refl) refl)
@@ -68,7 +68,7 @@ module _ (d : DescV) (moving : Moving) (empties : EmptyBitsAreFollowed) where
   begins_none outer {done = done} ready (of_parts {after = after} parts earlier at split so_far order none fits well read upto) within = parts_empty after done well
   begins_none outer {done = done} ready (of_turns {round = round} {n = n} {part = part} {w = w} at same turn order none upto turned) within =
       let P : Values → Type 0 = λ x. Formed d.nodes (fields_of x) (suc round) part in
-      turns_empty n part w done (node_empty (length done) w (subst P (sym same) (first_formed d (parts_formed d at ready.formed))))
+      turns_empty n part w done (node_empty (length done) w (subst P (sym same) (first_formed d.nodes (parts_formed d.nodes at ready.formed))))
   begins_none outer ready (of_free at same so_far order upto turned) within = begins_whole (Leave ∷ []) (completes_free tree.none (many_end refl) (walk.repeats_end refl) refl)
   begins_none outer ready (of_cut at same place just) within = begins_whole (Leave ∷ []) (completes_cut refl refl)
   begins_none outer ready (of_lead parts earlier at split so_far order fits well read upto) within = begins_lead_none refl

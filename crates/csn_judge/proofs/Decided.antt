@@ -1,12 +1,12 @@
 -- A choice decides by the bits at hand: the alternative whose key they begin with, or the one that takes none.
 use Rattle.std.proofs.Common.{◌≡◌, ℕ, suc, ◌+◌, ◌%◌, ◌<◌, ◌≤◌, ◌⊎◌, inl, inr, Bool, false, List, [], ◌∷◌, ◌++◌, length, refl, sym, ap, subst, arith, append-nil, length-append, Option, Some, slice_get}
-use Rattle.csn_desc.specs.declared.node.Node.{Node}
 use Rattle.csn_desc.specs.declared.node.Node.TheVariants.{Choice}
-use Rattle.csn_desc.specs.Nodes.{DescV, head_of, parts_of}
+use Rattle.csn_desc.specs.Nodes.{DescV}
 use Rattle.csn_desc.specs.Values.{Values}
-use Rattle.csn_desc.specs.Formed.{Formed, formed, HasParts}
+use Rattle.csn_desc.specs.Formed.{Formed, formed}
 use Rattle.csn_desc.specs.Follows.{NFollow}
 use Rattle.csn_look.specs.Keys.{InKeys}
+use Rattle.csn_desc.proofs.Nodewise.{parts_there}
 use Rattle.csn_certify.specs.declared.pick.Pick.{Pick}
 use Rattle.csn_certify.specs.declared.pick.Pick.TheVariants.{Take, Wait, Refuse}
 use Rattle.csn_certify.specs.Picks.{BeginsWithKey, StandsBehind, behind_bit, TakesNone, Picks, pick_key, pick_none, pick_wait, pick_refuse, pick_again, pick_leave}
@@ -25,10 +25,7 @@ use Rattle.csn_judge.proofs.Turning.{moving}
 module _ (d : DescV) where
   -- a choice has alternatives
   pub has_alternatives : {seen : List ℕ} {round k : ℕ} (parts : List ℕ) → slice_get d.nodes k ≡ Some (Choice parts) → Formed d.nodes seen round k → 2 ≤ length parts
-  has_alternatives parts at (formed n here few head have bound others) =
-      let same : n ≡ Choice parts = cc in
-      let P : Node → Type 0 = λ m. HasParts (head_of m) (length (parts_of m)) in
-      subst P same have
+  has_alternatives parts at is = parts_there d.nodes at is
 
   -- the choice that is open is the node of the frame: its first alternative is the node behind it
   pub choice_at : {next k : ℕ} {fresh : Option ℕ} {parts : List ℕ} {v : Values} {outer : List Left} {done : List ℕ} → Known d

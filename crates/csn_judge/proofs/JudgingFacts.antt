@@ -19,7 +19,7 @@ use Rattle.csn_judge.specs.Told.{Tells, tells_none}
 use Rattle.csn_judge.specs.Left.{Left, all_left, none_left, bits_left, symbols_left, spare_left, pad_left, rest_left, choice_left, window_left, parts_left, turns_left, free_left, cut_left, lead_left, begins_all}
 use Rattle.csn_judge.specs.Remains.{Rest, Goes, IsBlock, StandsFor, Passes, Steps, goes_here}
 use Rattle.csn_judge.specs.Inside.{IsStack, AreOwed}
-use Rattle.csn_judge.specs.declared.values.Value.{Value}
+use Rattle.csn_certify.specs.declared.numbers.Number.{Number}
 use Rattle.csn_judge.specs.declared.pace.Pace.{Pace}
 use Rattle.csn_judge.specs.declared.frame.Frame.{Frame}
 use Rattle.csn_judge.specs.declared.frame.Frame.TheVariants as frame
@@ -64,7 +64,7 @@ module _ (d : DescV) where
       → Stands d s (all_left 0 [] ∷ []) []
   new_stands known s frames values pace coming =
       let P : List Frame → Type 0 = λ l. Shows d l s.values (all_left 0 [] ∷ []) [] in
-      let Q : List Value → Type 0 = λ l. Shows d (frame.Begin 0 ∷ []) l (all_left 0 [] ∷ []) [] in
+      let Q : List Number → Type 0 = λ l. Shows d (frame.Begin 0 ∷ []) l (all_left 0 [] ∷ []) [] in
       let R : Pace → Type 0 = λ p. IsStack d p.next (fresh_at p 0) (all_left 0 [] ∷ []) [] in
       record {
         shows = subst P (sym frames) (subst Q (sym values) (shows_begin refl refl (round_none refl)));
@@ -210,7 +210,7 @@ module _ {S : Type 0} (takes : S → Move → Node → S → Type 0) (old new : 
       let there = on.on.stands in
       let same : new.state.coming.bits ≡ after.coming.bits = is.bits ∙ ap (λ n. take n after.coming.bits) on.held ∙ all_of after.coming.bits in
       let P : List Frame → Type 0 = λ f. Shows old.desc f new.state.values on.on.now (done ++ on.on.taken) in
-      let V : List Value → Type 0 = λ v. Shows old.desc after.frames v on.on.now (done ++ on.on.taken) in
+      let V : List Number → Type 0 = λ v. Shows old.desc after.frames v on.on.now (done ++ on.on.taken) in
       let Q : Pace → Type 0 = λ p. IsStack old.desc p.next (fresh_at p (length (done ++ on.on.taken))) on.on.now (done ++ on.on.taken) in
       let R : List ℕ → Type 0 = λ l. AreOwed on.on.now (done ++ on.on.taken) l in
       record {
@@ -418,10 +418,10 @@ module _ {S : Type 0} (takes : S → Move → Node → S → Type 0) (j : JudgeV
       }
 
   -- nothing is open
-  nothing_open : {frames : List Frame} {values : List Value} {now : List Left} {done : List ℕ} → frames ≡ [] → Shows j.desc frames values now done → now ≡ []
+  nothing_open : {frames : List Frame} {values : List Number} {now : List Left} {done : List ℕ} → frames ≡ [] → Shows j.desc frames values now done → now ≡ []
   nothing_open {values = values} {now} {done} none shows = let P : List Frame → Type 0 = λ f. Shows j.desc f values now done in of_none (subst P none shows)
     where
-      of_none : {values : List Value} {now : List Left} {done : List ℕ} → Shows j.desc [] values now done → now ≡ []
+      of_none : {values : List Number} {now : List Left} {done : List ℕ} → Shows j.desc [] values now done → now ≡ []
       of_none (shows_none kept) = refl
 
   pub ends_string : IsOver j coming → after.frames ≡ []

@@ -40,4 +40,4 @@ pub mod GoingOn
 pub mod PayingParts
 pub mod JudgingFacts
 pub mod NewJudges
-pub mod CountsKept
+pub mod FollowingFacts

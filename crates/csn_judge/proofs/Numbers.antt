@@ -4,21 +4,15 @@ use Rattle.std.specs.Int.Bits.{bit_or}
 use Rattle.std.proofs.Math.Nat.{mod-eq_of_lt}
 use Rattle.std.proofs.Math.Seq.{take-append-add}
 use Rattle.std.proofs.lemmas.Bool.{cases_lt}
-use Rattle.std.proofs.lemmas.Nat.{pow_pos, shr-shr, one_shl, mod_below, shr_below}
+use Rattle.std.proofs.lemmas.Nat.{shr-shr, shr_below}
 use Rattle.std.proofs.lemmas.List.{take_at, drop_at, drop_more, drop-drop, get_or-drop, length-take-le}
 use Rattle.csn_judge.specs.Coming.{AreOctets, bits_from}
 use Rattle.csn_bits.specs.Octets.{IsBits, bits_of_octet, bits_of_octets}
 use Rattle.csn_bits.specs.Numbers.{number_of, low_bits}
-use Rattle.csn_bits.proofs.NumberFacts.{length-low_bits, IsBits-low_bits, number_of-low_bits, low_bits-split, low_bits-mod, low_bits-shifted, low_bits-octet}
+use Rattle.csn_bits.proofs.NumberFacts.{length-low_bits, IsBits-low_bits, number_of-low_bits, low_bits-split, low_bits-masked, masked_small, low_bits-first, low_bits-shifted, low_bits-octet}
 use Rattle.csn_bits.proofs.Packing.{IsBits-append, IsBits-bits_of_octets, IsBits-take, length-bits_of_octets, drop-bits_of_octets, bits_of_octets-append}
 
 -- ---- what the source does with its buffer
-
--- the first bits that are held, and the others
-pub held_split : (have buf n : ℕ) → n ≤ have → low_bits have buf ≡ low_bits n (buf / 2 ^ (have - n)) ++ low_bits (have - n) buf
-held_split have buf n few =
-    let parts : have ≡ n + (have - n) = omega arith in
-    ap (λ (k : ℕ). low_bits k buf) parts ∙ low_bits-split n (have - n) buf
 
 pub take_front : (xs ys zs : List ℕ) (n : ℕ) → length xs ≡ n → take n ((xs ++ ys) ++ zs) ≡ xs
 take_front xs ys zs n long = rw (append_assoc xs ys zs) (take_at xs (ys ++ zs) n long)
@@ -27,16 +21,12 @@ drop_front : (xs ys zs : List ℕ) (n : ℕ) → length xs ≡ n → drop n ((xs
 drop_front xs ys zs n long = rw (append_assoc xs ys zs) (drop_at xs (ys ++ zs) n long)
 
 -- what a peek answers
-pub peeked_small : (v n : ℕ) → n < 64 → v % (1 * 2 ^ n % 2 ^ 64) < 2 ^ n
-peeked_small v n short = rw (one_shl n 64 short) (mod_below v (2 ^ n) (pow_pos n))
-
 pub peeked_bits : (have buf n : ℕ) (more : List ℕ) → n ≤ have → n < 64
     → low_bits n (buf / 2 ^ (have - n) % (1 * 2 ^ n % 2 ^ 64)) ≡ take n (low_bits have buf ++ more)
 peeked_bits have buf n more few short =
     let v : ℕ = buf / 2 ^ (have - n) in
-    let one : 1 * 2 ^ n % 2 ^ 64 ≡ 2 ^ (0 + n) = (let e : 0 + n ≡ n = omega arith in rw e (one_shl n 64 short)) in
-    ap (λ (k : ℕ). low_bits n (v % k)) one ∙ low_bits-mod n 0 v
-    ∙ sym (ap (λ (l : List ℕ). take n (l ++ more)) (held_split have buf n few)
+    low_bits-masked n v short
+    ∙ sym (ap (λ (l : List ℕ). take n (l ++ more)) (low_bits-first have buf n few)
     ∙ take_front (low_bits n v) (low_bits (have - n) buf) more n (length-low_bits n v))
 
 pub peeked : (have buf n : ℕ) (more : List ℕ) → n ≤ have → n < 64
@@ -44,14 +34,14 @@ pub peeked : (have buf n : ℕ) (more : List ℕ) → n ≤ have → n < 64
 peeked have buf n more few short =
     let r : ℕ = buf / 2 ^ (have - n) % (1 * 2 ^ n % 2 ^ 64) in
     sym (ap (λ (l : List ℕ). number_of l) (sym (peeked_bits have buf n more few short)) ∙ number_of-low_bits n r
-    ∙ mod-eq_of_lt (peeked_small (buf / 2 ^ (have - n)) n short))
+    ∙ mod-eq_of_lt (masked_small (buf / 2 ^ (have - n)) n short))
 
 -- what a take leaves
 pub left_over : (have buf n : ℕ) (more : List ℕ) → n ≤ have → low_bits (have - n) buf ++ more ≡ drop n (low_bits have buf ++ more)
 left_over have buf n more few =
     let x : List ℕ = low_bits n (buf / 2 ^ (have - n)) in
     let y : List ℕ = low_bits (have - n) buf in
-    sym (ap (λ (l : List ℕ). drop n (l ++ more)) (held_split have buf n few) ∙ drop_front x y more n (length-low_bits n (buf / 2 ^ (have - n))))
+    sym (ap (λ (l : List ℕ). drop n (l ++ more)) (low_bits-first have buf n few) ∙ drop_front x y more n (length-low_bits n (buf / 2 ^ (have - n))))
 
 -- what was moved from the octets into the buffer changes nothing
 pub moved : (have n buf b : ℕ) (before after : List ℕ) → have + n ≤ 64 → b < 2 ^ n → before ≡ low_bits n b ++ after
@@ -72,7 +62,7 @@ from_octet octets at left n o within some is read small =
     let y : List ℕ = low_bits (8 - n) o in
     let here : drop at octets ≡ o ∷ drop (at + 1) octets =
     drop_more octets at 0 (omega arith) ∙ ap (λ (k : ℕ). k ∷ drop (at + 1) octets) read in
-    let octet : bits_of_octet o ≡ x ++ y = sym (low_bits-octet o small) ∙ held_split 8 o n (omega arith) in
+    let octet : bits_of_octet o ≡ x ++ y = sym (low_bits-octet o small) ∙ low_bits-first 8 o n (omega arith) in
     let whole : bits_of_octets (drop at octets) ≡ x ++ (y ++ rest) =
     ap (λ (l : List ℕ). bits_of_octets l) here ∙ ap (λ (l : List ℕ). l ++ rest) octet ∙ append_assoc x y rest in
     let long : length x ≡ n = length-low_bits n (o / 2 ^ (8 - n)) in
@@ -109,7 +99,7 @@ from_eight octets at left k all within some few is =
     let long : length x ≡ 8 * k = length-low_bits (8 * k) (all / 2 ^ (64 - 8 * k)) in
     let whole : bits_of_octets front ≡ x ++ y =
     ap (λ (l : List ℕ). bits_of_octets l) (sym (take-append-drop 8 front)) ∙ bits_of_octets-append (take 8 front) (drop 8 front)
-    ∙ ap (λ (l : List ℕ). l ++ bits_of_octets (drop 8 front)) (sym is ∙ held_split 64 all (8 * k) (omega arith))
+    ∙ ap (λ (l : List ℕ). l ++ bits_of_octets (drop 8 front)) (sym is ∙ low_bits-first 64 all (8 * k) (omega arith))
     ∙ append_assoc x (low_bits (64 - 8 * k) all) (bits_of_octets (drop 8 front)) in
     let others : y ≡ bits_of_octets (drop (at + k) octets) =
     sym (drop_at x y (8 * k) long) ∙ ap (λ (l : List ℕ). drop (8 * k) l) (sym whole) ∙ drop-bits_of_octets k front
@@ -153,7 +143,7 @@ IsBits-coming have buf octets at left small =
 -- the first bits of a number's bits
 pub take-low_bits : (k n v : ℕ) → k ≤ n → take k (low_bits n v) ≡ low_bits k (v / 2 ^ (n - k))
 take-low_bits k n v few =
-    ap (λ (l : List ℕ). take k l) (held_split n v k few)
+    ap (λ (l : List ℕ). take k l) (low_bits-first n v k few)
     ∙ take_at (low_bits k (v / 2 ^ (n - k))) (low_bits (n - k) v) k (length-low_bits k (v / 2 ^ (n - k)))
 
 -- and one more

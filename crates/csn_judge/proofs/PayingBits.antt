@@ -10,7 +10,7 @@ use Rattle.csn_judge.specs.declared.frame.Frame.TheVariants as frame
 use Rattle.csn_judge.specs.declared.leaf.Leaf.{Leaf}
 use Rattle.csn_judge.specs.declared.leaf.Leaf.TheVariants as leaf
 use Rattle.csn_judge.specs.declared.leaf.Read.TheVariants as read
-use Rattle.csn_judge.specs.declared.values.Value.{Value}
+use Rattle.csn_certify.specs.declared.numbers.Number.{Number}
 use Rattle.csn_judge.specs.declared.pace.Pace.{Pace}
 use Rattle.csn_judge.specs.declared.turn.Turn.{Turn}
 use Rattle.csn_judge.specs.declared.turn.Turn.TheVariants.{Moved, Waits, Refused}
@@ -93,7 +93,7 @@ pub record Took (old new : Coming) : Type 0 where
   pub bits : length old.bits ≡ t + length new.bits
   pub place : new.place ≡ old.place + t
 
-module _ (d : DescV) {S : Type 0} (takes : S → Move → Node → S → Type 0) (before after : S) (values : List Value) (pace : Pace) (old new : Coming) (i : ℕ) (frames : List Frame) (node : Node) where
+module _ (d : DescV) {S : Type 0} (takes : S → Move → Node → S → Type 0) (before after : S) (values : List Number) (pace : Pace) (old new : Coming) (i : ℕ) (frames : List Frame) (node : Node) where
   pub all_took : {form : Leaf} {stack : List Left} {done : List ℕ} → slice_get d.nodes i ≡ Some node → Known d → ReadsLeaf d takes form node old new before after read.All
       → Stands d (leaf_state d takes before after values pace old new i frames node form) stack done → Took old new
   all_took {done = done} at known reads stands =

@@ -5,7 +5,7 @@ use Rattle.csn_desc.specs.Nodes.{DescV}
 use Rattle.csn_desc.specs.Values.{Values}
 use Rattle.csn_judge.specs.declared.frame.Frame.{Frame}
 use Rattle.csn_judge.specs.declared.frame.Frame.TheVariants as frame
-use Rattle.csn_judge.specs.declared.values.Value.{Value}
+use Rattle.csn_certify.specs.declared.numbers.Number.{Number}
 use Rattle.csn_judge.specs.declared.pace.Pace.{Pace}
 use Rattle.csn_judge.specs.Known.{Known}
 use Rattle.csn_judge.specs.Left.{Left, cut_left, lead_left}
@@ -40,7 +40,7 @@ module _ (d : DescV) where
       later_rises d 12 known.description known.certified k ps before at parted up
 
   pub component_rises :
-      {k next count j : ℕ} {frames : List Frame} {values : List Value} {stack : List Left} {done : List ℕ} (pace : Pace) (parts : List ℕ)
+      {k next count j : ℕ} {frames : List Frame} {values : List Number} {stack : List Left} {done : List ℕ} (pace : Pace) (parts : List ℕ)
       → slice_get d.nodes k ≡ Some (Trunc parts) → slice_get parts next ≡ Some j → Known d
       → Shows d (frame.Trunc k next count ∷ frames) values stack done → IsStack d pace.next (fresh_at pace (length done)) stack done
       → ComponentRises pace j
@@ -62,7 +62,7 @@ module _ (d : DescV) where
 
   -- so do alternatives of a choice
   pub alternative_comes :
-      {k part : ℕ} {frames : List Frame} {values : List Value} {stack : List Left} {done : List ℕ} (pace : Pace) (j : ℕ) (parts : List ℕ)
+      {k part : ℕ} {frames : List Frame} {values : List Number} {stack : List Left} {done : List ℕ} (pace : Pace) (j : ℕ) (parts : List ℕ)
       → slice_get d.nodes k ≡ Some (Choice parts) → slice_get parts j ≡ Some part → Known d
       → Shows d (frame.Open k ∷ frames) values stack done → IsStack d pace.next (fresh_at pace (length done)) stack done
       → ComponentRises pace part

@@ -4,7 +4,7 @@ use Rattle.std.proofs.lemmas.Bool.Decides.{leb_tells}
 use Rattle.csn_desc.specs.Nodes.{DescV}
 use Rattle.csn_judge.specs.declared.frame.Frame.{Frame}
 use Rattle.csn_judge.specs.declared.frame.Frame.TheVariants as frame
-use Rattle.csn_judge.specs.declared.values.Value.{Value}
+use Rattle.csn_certify.specs.declared.numbers.Number.{Number}
 use Rattle.csn_judge.specs.Known.{Known}
 use Rattle.csn_judge.specs.Left.{Left, turns_left}
 use Rattle.csn_judge.specs.Inside.{IsStack}
@@ -67,16 +67,16 @@ going_on true not = absurd (not refl)
 going_on false not = refl
 
 -- a node that begins is one of the description, and there is room for the frame round it
-pub begin_room : {d : DescV} {next j : ℕ} {fresh : Option ℕ} {top : Frame} {frames : List Frame} {values : List Value} {stack : List Left} {done : List ℕ} → Known d
+pub begin_room : {d : DescV} {next j : ℕ} {fresh : Option ℕ} {top : Frame} {frames : List Frame} {values : List Number} {stack : List Left} {done : List ℕ} → Known d
     → Shows d (frame.Begin j ∷ top ∷ frames) values stack done → IsStack d next fresh stack done → (j < 16384) × (length frames < 63)
 begin_room {d} known (shows_begin seen kept round) is =
     (omega (arith, begun_within d is, known.description.few), omega (arith, room d is, round_length d round))
 
-pub begin_within : {d : DescV} {next j : ℕ} {fresh : Option ℕ} {frames : List Frame} {values : List Value} {stack : List Left} {done : List ℕ}
+pub begin_within : {d : DescV} {next j : ℕ} {fresh : Option ℕ} {frames : List Frame} {values : List Number} {stack : List Left} {done : List ℕ}
     → Shows d (frame.Begin j ∷ frames) values stack done → IsStack d next fresh stack done → j < length d.nodes
 begin_within {d} (shows_begin seen kept round) is = begun_within d is
 
-pub turn_room : {d : DescV} {k i m : ℕ} {frames : List Frame} {values : List Value} {stack : List Left} {done : List ℕ} (pace : Pace) (n : ℕ) → Known d → m ≡ suc n
+pub turn_room : {d : DescV} {k i m : ℕ} {frames : List Frame} {values : List Number} {stack : List Left} {done : List ℕ} (pace : Pace) (n : ℕ) → Known d → m ≡ suc n
     → Shows d (frame.Times k i m ∷ frames) values stack done → IsStack d pace.next (fresh_at pace (length done)) stack done → (i < length d.nodes) × (length frames < 63)
 turn_room {d} {i = i} {done = done} pace n known some shows is =
     let t = turns_stand d shows in

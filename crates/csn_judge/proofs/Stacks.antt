@@ -8,11 +8,12 @@ use Rattle.csn_desc.specs.declared.node.Node.{Node}
 use Rattle.csn_desc.specs.declared.node.Node.TheVariants.{Lits, Spare, Pad, Null, Field, Rest, Seq, Choice, Times, Many, Trunc, Window, Named}
 use Rattle.csn_desc.specs.Nodes.{DescV, parts_of}
 use Rattle.csn_desc.specs.Values.{Values, value_of, count_of}
-use Rattle.csn_desc.specs.Formed.{width_of, shows_earlier, with_seen, Spans, PartsSpan, span_next, Formed, PartsFormed, formed, formed_end, formed_next, FitWidths, IsDescription}
+use Rattle.csn_desc.specs.Formed.{width_of, with_seen, Spans, PartsSpan, span_next, PartsFormed, formed, FitWidths, IsDescription}
 use Rattle.std.proofs.lemmas.Bool.Decides.{leb_tells}
 use Rattle.std.proofs.lemmas.Option.{slice_get_within}
 use Rattle.csn_desc.specs.Laws.{NodesAreWellFormed}
 use Rattle.csn_desc.proofs.Empties.{nothing_seen}
+use Rattle.csn_desc.proofs.Nodewise.{parts_formed, first_formed, rest_formed, choice_formed}
 use Rattle.csn_desc.proofs.Placed.{node_placed}
 use Rattle.csn_desc.proofs.ValuesKept.{no_values_fit, fits_kept}
 use Rattle.csn_desc.proofs.Numbering.{span_grows, parts_span_grow, part_from, span_inside, span_parts}
@@ -31,29 +32,6 @@ use Rattle.csn_judge.specs.Inside.{IsReady, Inside, inside_none, inside_choice, 
 use Rattle.csn_judge.proofs.Standing.{sequence_width, choice_width, times_width, many_width, truncation_width, window_width, label_width, fits_behind}
 
 module _ (d : DescV) where
-  -- ---- what a well-formed node is
-
-  pub parts_formed : {i round : ℕ} {seen : List ℕ} {n : Node} → slice_get d.nodes i ≡ Some n → Formed d.nodes seen round i → PartsFormed d.nodes (shows_earlier n) seen (suc round) (parts_of n)
-  parts_formed {round = round} {seen = seen} {n = n} at (formed m here few head have bound parts) =
-      let same : m ≡ n = cc in
-      let P : Node → Type 0 = λ k. PartsFormed d.nodes (shows_earlier k) seen (suc round) (parts_of k) in
-      subst P same parts
-
-  pub first_formed : {shows : Bool} {seen : List ℕ} {round i : ℕ} {parts : List ℕ} → PartsFormed d.nodes shows seen round (i ∷ parts) → Formed d.nodes seen round i
-  first_formed (formed_next first rest) = first
-
-  pub rest_formed : {shows : Bool} {seen : List ℕ} {round i : ℕ} {parts : List ℕ} → PartsFormed d.nodes shows seen round (i ∷ parts) → PartsFormed d.nodes shows (with_seen d.nodes shows i seen) round parts
-  rest_formed (formed_next first rest) = rest
-
-  -- an alternative
-  pub alternative_formed : {seen : List ℕ} {round i : ℕ} {parts : List ℕ} (j : ℕ) → slice_get parts j ≡ Some i → PartsFormed d.nodes false seen round parts → Formed d.nodes seen round i
-  alternative_formed j at formed_end = absurd (cc)
-  alternative_formed {seen = seen} {round = round} {i = i} zero at (formed_next {i = k} first rest) =
-      let same : k ≡ i = cc in
-      let P : ℕ → Type 0 = λ n. Formed d.nodes seen round n in
-      subst P same first
-  alternative_formed (suc j) at (formed_next first rest) = alternative_formed j at rest
-
   seen_along : {seen other : List ℕ} {shows : Bool} {round : ℕ} (parts : List ℕ) → seen ≡ other → PartsFormed d.nodes shows seen round parts → PartsFormed d.nodes shows other round parts
   seen_along {shows = shows} {round = round} parts e h = let P : List ℕ → Type 0 = λ l. PartsFormed d.nodes shows l round parts in subst P e h
 
@@ -216,7 +194,7 @@ module _ (d : DescV) (most : ℕ) (is : IsDescription d) (certified : Certified 
   label_begun {i = i} at b =
       record {
         good = b.good;
-        ready = record { reached = named_reached d at b.ready.reached; widths = b.ready.widths; formed = first_formed d (parts_formed d at b.ready.formed) };
+        ready = record { reached = named_reached d at b.ready.reached; widths = b.ready.widths; formed = first_formed d.nodes (parts_formed d.nodes at b.ready.formed) };
         inner = inside_label i at b.ready b.inner;
       }
 
@@ -224,7 +202,7 @@ module _ (d : DescV) (most : ℕ) (is : IsDescription d) (certified : Certified 
   window_begun {i = i} {n = n} at counts b =
       record {
         good = b.good;
-        ready = record { reached = window_reached d at b.ready.reached; widths = b.ready.widths; formed = first_formed d (parts_formed d at b.ready.formed) };
+        ready = record { reached = window_reached d at b.ready.reached; widths = b.ready.widths; formed = first_formed d.nodes (parts_formed d.nodes at b.ready.formed) };
         inner = inside_window i n at counts refl b.ready b.inner;
       }
 
@@ -232,17 +210,17 @@ module _ (d : DescV) (most : ℕ) (is : IsDescription d) (certified : Certified 
   alternative_begun {i = i} {part = part} {parts = parts} j at here b =
       record {
         good = b.good;
-        ready = record { reached = choice_reached d at (cuts parts j part here) b.ready.reached; widths = b.ready.widths; formed = alternative_formed d j here (parts_formed d at b.ready.formed) };
+        ready = record { reached = choice_reached d at (cuts parts j part here) b.ready.reached; widths = b.ready.widths; formed = choice_formed d.nodes j _ (parts_formed d.nodes at b.ready.formed) here };
         inner = inside_choice i j parts at here b.ready b.inner;
       }
 
   pub sequence_begun : {fresh : Option ℕ} {i j : ℕ} {ps : List ℕ} {v : Values} {outer : List Left} {done : List ℕ} → slice_get d.nodes i ≡ Some (Seq (j ∷ ps)) → Begun d fresh i v outer done → Begun d fresh j v (parts_left j (length done) ps v ∷ outer) done
   sequence_begun {i = i} {j = j} {ps = ps} {v = v} {done = done} at b =
-      let parts = parts_formed d at b.ready.formed in
+      let parts = parts_formed d.nodes at b.ready.formed in
       record {
         good = b.good;
-        ready = record { reached = seq_reached d ps at refl b.ready.reached (parts_end refl); widths = b.ready.widths; formed = first_formed d parts };
-        inner = inside_parts i (length done) v (j ∷ ps) [] at refl (parts_end refl) (omega arith) (λ e. all_end) b.ready.widths (rest_formed d parts) b.ready b.inner;
+        ready = record { reached = seq_reached d ps at refl b.ready.reached (parts_end refl); widths = b.ready.widths; formed = first_formed d.nodes parts };
+        inner = inside_parts i (length done) v (j ∷ ps) [] at refl (parts_end refl) (omega arith) (λ e. all_end) b.ready.widths (rest_formed d.nodes parts) b.ready b.inner;
       }
 
   all_more : {before : List ℕ} {i : ℕ} → AllNullable d before → Nullable d i → AllNullable d (before ++ i ∷ [])
@@ -276,8 +254,8 @@ module _ (d : DescV) (most : ℕ) (is : IsDescription d) (certified : Certified 
       let on = parts_on before split so_far fits well read in
       record {
         good = good;
-        ready = record { reached = seq_reached d ps at on.cut ready.reached on.ended; widths = on.fits; formed = first_formed d on.formed };
-        inner = inside_parts i from v0 parts (before ++ part ∷ []) at on.cut on.ended (omega (arith, order, read.order)) (λ e. none_more none read order e) on.fits (rest_formed d on.formed) ready inner;
+        ready = record { reached = seq_reached d ps at on.cut ready.reached on.ended; widths = on.fits; formed = first_formed d.nodes on.formed };
+        inner = inside_parts i from v0 parts (before ++ part ∷ []) at on.cut on.ended (omega (arith, order, read.order)) (λ e. none_more none read order e) on.fits (rest_formed d.nodes on.formed) ready inner;
       }
 
   -- a turn; it goes back where one was there before it
@@ -285,7 +263,7 @@ module _ (d : DescV) (most : ℕ) (is : IsDescription d) (certified : Certified 
   turn_begun {was} fresh {i} {from = from} turns at turn order none good ready inner =
       record {
         good = good;
-        ready = record { reached = turn_reached d at ready.reached refl turn; widths = ready.widths; formed = first_formed d (parts_formed d at ready.formed) };
+        ready = record { reached = turn_reached d at ready.reached refl turn; widths = ready.widths; formed = first_formed d.nodes (parts_formed d.nodes at ready.formed) };
         inner = inside_turns i from at turn order none ready was turns inner;
       }
 
@@ -293,7 +271,7 @@ module _ (d : DescV) (most : ℕ) (is : IsDescription d) (certified : Certified 
   free_begun {was} fresh {i} {from = from} turns at so_far order good ready inner =
       record {
         good = good;
-        ready = record { reached = many_reached d at ready.reached so_far; widths = ready.widths; formed = first_formed d (parts_formed d at ready.formed) };
+        ready = record { reached = many_reached d at ready.reached so_far; widths = ready.widths; formed = first_formed d.nodes (parts_formed d.nodes at ready.formed) };
         inner = inside_free i from at so_far order ready was turns inner;
       }
 
@@ -305,11 +283,11 @@ module _ (d : DescV) (most : ℕ) (is : IsDescription d) (certified : Certified 
   -- the first and the next component of a truncation
   pub component_begun : {fresh : Option ℕ} {i j : ℕ} {ps : List ℕ} {v : Values} {outer : List Left} {done : List ℕ} → slice_get d.nodes i ≡ Some (Trunc (j ∷ ps)) → Begun d fresh i v outer done → Begun d fresh j v (lead_left j (length done) ps v ∷ outer) done
   component_begun {i = i} {j = j} {ps = ps} {v = v} {done = done} at b =
-      let parts = parts_formed d at b.ready.formed in
+      let parts = parts_formed d.nodes at b.ready.formed in
       record {
         good = b.good;
-        ready = record { reached = lead_reached d ps at refl b.ready.reached (parts_end refl); widths = b.ready.widths; formed = first_formed d parts };
-        inner = inside_lead i (length done) v (j ∷ ps) [] at refl (parts_end refl) (omega arith) b.ready.widths (rest_formed d parts) b.ready b.inner;
+        ready = record { reached = lead_reached d ps at refl b.ready.reached (parts_end refl); widths = b.ready.widths; formed = first_formed d.nodes parts };
+        inner = inside_lead i (length done) v (j ∷ ps) [] at refl (parts_end refl) (omega arith) b.ready.widths (rest_formed d.nodes parts) b.ready b.inner;
       }
 
   pub next_component_begun : {fresh : Option ℕ} {i part at_part j : ℕ} {ps : List ℕ} {w v0 : Values} {from : ℕ} {outer : List Left} {done : List ℕ} (parts before : List ℕ) → slice_get d.nodes i ≡ Some (Trunc parts) → parts ≡ before ++ part ∷ (j ∷ ps) → PartsEnd d before (from % 8) (at_part % 8) → from ≤ at_part → FitWidths d w → PartsFormed d.nodes true (with_seen d.nodes true part (fields_of w)) (suc (length outer)) (j ∷ ps) → IsRead d part at_part done → IsBits done → IsReady d i from (length outer) v0 → Inside d fresh outer i from v0 → Begun d fresh j (behind d part at_part w done) (lead_left j (length done) ps (behind d part at_part w done) ∷ outer) done
@@ -317,8 +295,8 @@ module _ (d : DescV) (most : ℕ) (is : IsDescription d) (certified : Certified 
       let on = parts_on before split so_far fits well read in
       record {
         good = good;
-        ready = record { reached = lead_reached d ps at on.cut ready.reached on.ended; widths = on.fits; formed = first_formed d on.formed };
-        inner = inside_lead i from v0 parts (before ++ part ∷ []) at on.cut on.ended (omega (arith, order, read.order)) on.fits (rest_formed d on.formed) ready inner;
+        ready = record { reached = lead_reached d ps at on.cut ready.reached on.ended; widths = on.fits; formed = first_formed d.nodes on.formed };
+        inner = inside_lead i from v0 parts (before ++ part ∷ []) at on.cut on.ended (omega (arith, order, read.order)) on.fits (rest_formed d.nodes on.formed) ready inner;
       }
 
   -- ---- a node is left

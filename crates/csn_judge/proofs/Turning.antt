@@ -12,7 +12,7 @@ use Rattle.csn_desc.specs.Values.{Values, count_of}
 use Rattle.csn_desc.specs.Formed.{Formed, formed}
 use Rattle.csn_judge.specs.declared.frame.Frame.{Frame}
 use Rattle.csn_judge.specs.declared.frame.Frame.TheVariants as frame
-use Rattle.csn_judge.specs.declared.values.Value.{Value}
+use Rattle.csn_certify.specs.declared.numbers.Number.{Number}
 use Rattle.csn_judge.specs.declared.pace.Pace.{Pace}
 use Rattle.csn_judge.specs.declared.turn.Turn.{Turn}
 use Rattle.csn_judge.specs.declared.turn.Turn.TheVariants.{Moved, Waits, Refused}
@@ -24,7 +24,8 @@ use Rattle.csn_desc.specs.Formed.{is_counted}
 use Rattle.csn_judge.specs.Left.{Left, bits_left, symbols_left, spare_left, pad_left, rest_left, choice_left, free_left, cut_left, parts_left, lead_left, window_left, completes_window, all_left, none_left, turns_left}
 use Rattle.csn_judge.specs.Remains.{Passes, Within, Goes, Rest, rest_next}
 use Rattle.csn_judge.specs.Inside.{IsStack, stack_node, AreOwed, IsFresh, fresh_as, fresh_turn, of_all, of_turns, of_read, of_window}
-use Rattle.csn_judge.specs.Shown.{kept_of, seen_in, seen_behind, limit_in, Round, Repeats, Cuts, round_none, round_choice, round_named, round_window, round_seq, round_trunc, round_times, round_many, Shows, shows_none, shows_begin, shows_turns, shows_free, shows_taken, shows_labelled, shows_window, shows_parts, shows_lead, shows_leaf, shows_counted, shows_open, shows_cut}
+use Rattle.csn_certify.specs.KeptNumbers.{numbers_of}
+use Rattle.csn_judge.specs.Shown.{seen_in, seen_behind, limit_in, Round, Repeats, Cuts, round_none, round_choice, round_named, round_window, round_seq, round_trunc, round_times, round_many, Shows, shows_none, shows_begin, shows_turns, shows_free, shows_taken, shows_labelled, shows_window, shows_parts, shows_lead, shows_leaf, shows_counted, shows_open, shows_cut}
 use Rattle.csn_judge.specs.Turns.{IsStopped, Turns, IsPassed, passed_choice, passed_label, fresh_at, begun_by, StateV, Stands, GoesOn, around_of, RefusesAt}
 use Rattle.csn_judge.proofs.StepFacts.{steps_none, goes_along, goes_from, split, popped, replaced, none_taken, alike, steps_then}
 use Rattle.csn_judge.proofs.Refusing.{window_stuck}
@@ -68,7 +69,7 @@ module _ (d : DescV) where
   round_length (round_many is round) = ap suc (round_length round)
 
   -- and there is room for a frame that is put back
-  pub frames_room : {next : ℕ} {fresh : Option ℕ} {top : Frame} {frames : List Frame} {values : List Value} {stack : List Left} {done : List ℕ}
+  pub frames_room : {next : ℕ} {fresh : Option ℕ} {top : Frame} {frames : List Frame} {values : List Number} {stack : List Left} {done : List ℕ}
       → Shows d (top ∷ frames) values stack done → IsStack d next fresh stack done → length frames < 64
   frames_room (shows_begin seen kept round) is = omega (arith, room is, round_length round)
   frames_room (shows_leaf shows kept round) is = omega (arith, room is, round_length round)
@@ -84,13 +85,13 @@ module _ (d : DescV) where
   frames_room (shows_window i ends is_of kept round) is = omega (arith, room is, round_length round)
 
   -- so there is for the frames as the machine holds them, the innermost last
-  pub items_room : {next : ℕ} {fresh : Option ℕ} {top : Frame} {values : List Value} {stack : List Left} {done : List ℕ} (items : List Frame)
+  pub items_room : {next : ℕ} {fresh : Option ℕ} {top : Frame} {values : List Number} {stack : List Left} {done : List ℕ} (items : List Frame)
       → Shows d (top ∷ reverse items) values stack done → IsStack d next fresh stack done → length items < 64
   items_room items shows is = omega (arith, frames_room shows is, length-reverse items)
 
   -- behind a node the frames round it show what is left of theirs
-  pub shown_behind : {frames : List Frame} {outer : List Left} {k : ℕ} {values : List Value} (done : List ℕ)
-      → Round d frames outer k → values ≡ kept_of d (seen_behind d outer done) → Shows d frames values outer done
+  pub shown_behind : {frames : List Frame} {outer : List Left} {k : ℕ} {values : List Number} (done : List ℕ)
+      → Round d frames outer k → values ≡ numbers_of d (seen_behind d outer done) → Shows d frames values outer done
   shown_behind done (round_none first) kept = shows_none kept
   shown_behind done (round_choice is round) kept = shows_taken _ is kept round
   shown_behind done (round_named is round) kept = shows_labelled _ is kept round
@@ -102,8 +103,8 @@ module _ (d : DescV) where
 
   -- behind a node that adds no value the same are kept
   kept_plain : {frames : List Frame} {outer : List Left} {k : ℕ} (done : List ℕ) → Round d frames outer k
-      → ((b : List ℕ) (v : Values) → kept_of d (if is_named d.nodes k then (k, b) ∷ v else v) ≡ kept_of d v)
-      → kept_of d (seen_behind d outer done) ≡ kept_of d (seen_in outer)
+      → ((b : List ℕ) (v : Values) → numbers_of d (if is_named d.nodes k then (k, b) ∷ v else v) ≡ numbers_of d v)
+      → numbers_of d (seen_behind d outer done) ≡ numbers_of d (seen_in outer)
   kept_plain done (round_none first) plain = refl
   kept_plain done (round_choice is round) plain = refl
   kept_plain done (round_named is round) plain = refl
@@ -115,10 +116,10 @@ module _ (d : DescV) where
 
   -- as one that no count stands on
   pub kept_behind : {frames : List Frame} {outer : List Left} {k : ℕ} (done : List ℕ)
-      → Round d frames outer k → is_counted d.nodes k ≡ false → kept_of d (seen_behind d outer done) ≡ kept_of d (seen_in outer)
+      → Round d frames outer k → is_counted d.nodes k ≡ false → numbers_of d (seen_behind d outer done) ≡ numbers_of d (seen_in outer)
   kept_behind {k = k} done round alone = kept_plain done round (λ b v. by b v (is_named d.nodes k))
     where
-      by : (b : List ℕ) (v : Values) (labelled : Bool) → kept_of d (if labelled then (k, b) ∷ v else v) ≡ kept_of d v
+      by : (b : List ℕ) (v : Values) (labelled : Bool) → numbers_of d (if labelled then (k, b) ∷ v else v) ≡ numbers_of d v
       by b v true = rw alone refl
       by b v false = refl
 
@@ -127,20 +128,20 @@ module _ (d : DescV) where
   unnamed k at plain = ap (λ n. is_labelled n) at ∙ plain
 
   pub kept_unnamed : {frames : List Frame} {outer : List Left} {k : ℕ} (done : List ℕ)
-      → Round d frames outer k → is_named d.nodes k ≡ false → kept_of d (seen_behind d outer done) ≡ kept_of d (seen_in outer)
+      → Round d frames outer k → is_named d.nodes k ≡ false → numbers_of d (seen_behind d outer done) ≡ numbers_of d (seen_in outer)
   kept_unnamed done round plain = kept_plain done round (λ b v. rw plain refl)
 
   -- ---- a repetition by number
 
-  pub record TurnsStand (k i n : ℕ) (frames : List Frame) (values : List Value) (stack : List Left) : Type 0 where
+  pub record TurnsStand (k i n : ℕ) (frames : List Frame) (values : List Number) (stack : List Left) : Type 0 where
     pub outer : List Left
     pub v : Values
     pub is : stack ≡ turns_left n i v ∷ outer
     pub repeats : Repeats d k i v outer
-    pub kept : values ≡ kept_of d v
+    pub kept : values ≡ numbers_of d v
     pub round : Round d frames outer k
 
-  pub turns_stand : {k i n : ℕ} {frames : List Frame} {values : List Value} {stack : List Left} {done : List ℕ}
+  pub turns_stand : {k i n : ℕ} {frames : List Frame} {values : List Number} {stack : List Left} {done : List ℕ}
       → Shows d (frame.Times k i n ∷ frames) values stack done → TurnsStand k i n frames values stack
   turns_stand (shows_turns is kept round) = record { outer = _; v = _; is = refl; repeats = is; kept = kept; round = round }
 
@@ -198,34 +199,34 @@ module _ (d : DescV) where
 
   -- ---- a choice or a label behind its part
 
-  pub record TakenStand (k : ℕ) (frames : List Frame) (values : List Value) (stack : List Left) : Type 0 where
+  pub record TakenStand (k : ℕ) (frames : List Frame) (values : List Number) (stack : List Left) : Type 0 where
     pub outer : List Left
     pub is : stack ≡ none_left ∷ outer
-    pub kept : values ≡ kept_of d (seen_in outer)
-    pub plain : (done : List ℕ) → kept_of d (seen_behind d outer done) ≡ kept_of d (seen_in outer)
+    pub kept : values ≡ numbers_of d (seen_in outer)
+    pub plain : (done : List ℕ) → numbers_of d (seen_behind d outer done) ≡ numbers_of d (seen_in outer)
     pub round : Round d frames outer k
 
-  pub taken_stand : {k : ℕ} {frames : List Frame} {values : List Value} {stack : List Left} {done : List ℕ}
+  pub taken_stand : {k : ℕ} {frames : List Frame} {values : List Number} {stack : List Left} {done : List ℕ}
       → Shows d (frame.Choice k ∷ frames) values stack done → TakenStand k frames values stack
   taken_stand (shows_taken i is kept round) =
       record { outer = _; is = refl; kept = kept; plain = λ done. kept_unnamed done round (unnamed _ is.at refl); round = round }
 
-  pub labelled_stand : {k : ℕ} {frames : List Frame} {values : List Value} {stack : List Left} {done : List ℕ}
+  pub labelled_stand : {k : ℕ} {frames : List Frame} {values : List Number} {stack : List Left} {done : List ℕ}
       → Shows d (frame.Named k ∷ frames) values stack done → TakenStand k frames values stack
   labelled_stand (shows_labelled i is kept round) =
       record { outer = _; is = refl; kept = kept; plain = λ done. kept_behind done round is.alone; round = round }
 
   -- ---- a window behind its part
 
-  pub record WindowStands (k start bits limit : ℕ) (frames : List Frame) (values : List Value) (stack : List Left) : Type 0 where
+  pub record WindowStands (k start bits limit : ℕ) (frames : List Frame) (values : List Number) (stack : List Left) : Type 0 where
     pub outer : List Left
     pub is : stack ≡ window_left (start + bits) ∷ outer
-    pub kept : values ≡ kept_of d (seen_in outer)
+    pub kept : values ≡ numbers_of d (seen_in outer)
     pub i : ℕ
     pub cuts : Cuts d k i limit outer
     pub round : Round d frames outer k
 
-  pub window_stands : {k start bits limit : ℕ} {frames : List Frame} {values : List Value} {stack : List Left} {done : List ℕ}
+  pub window_stands : {k start bits limit : ℕ} {frames : List Frame} {values : List Number} {stack : List Left} {done : List ℕ}
       → Shows d (frame.Window k start bits limit ∷ frames) values stack done → WindowStands k start bits limit frames values stack
   window_stands (shows_window {outer = outer} i ends is kept round) = record { outer = outer; is = ap (λ (e : ℕ). window_left e ∷ outer) ends; kept = kept; i = i; cuts = is; round = round }
 
@@ -282,13 +283,13 @@ module _ (d : DescV) where
         tells = tells_none refl refl;
       }
 
-  module _ {S : Type 0} (takes : S → Move → Node → S → Type 0) (before : S) (values : List Value) (pace : Pace) (coming : Coming) where
+  module _ {S : Type 0} (takes : S → Move → Node → S → Type 0) (before : S) (values : List Number) (pace : Pace) (coming : Coming) where
     abbrev pub state : List Frame → StateV
     state frames = record { frames = frames; values = values; pace = pace; coming = coming }
 
     -- no bits are taken, and the innermost window may end elsewhere
     pub still_until :
-        {frames others : List Frame} {more : List Value} {after : S} {stack now : List Left} {done : List ℕ} {made : List Move} (next : Pace) (later : Coming)
+        {frames others : List Frame} {more : List Number} {after : S} {stack now : List Left} {done : List ℕ} {made : List Move} (next : Pace) (later : Coming)
         → later.bits ≡ coming.bits → later.ended ≡ coming.ended
         → later.place ≡ length done → Shows d others more now done → IsStack d next.next (fresh_at next (length done)) now done → later.limit ≡ limit_in now
         → AreOwed now done later.bits → Passes d coming.ended stack now done [] later.bits made
@@ -311,7 +312,7 @@ module _ (d : DescV) where
 
     -- the same where it ends there too
     pub still :
-        {frames others : List Frame} {more : List Value} {after : S} {stack now : List Left} {done : List ℕ} {made : List Move} (next : Pace)
+        {frames others : List Frame} {more : List Number} {after : S} {stack now : List Left} {done : List ℕ} {made : List Move} (next : Pace)
         → coming.place ≡ length done → Shows d others more now done → IsStack d next.next (fresh_at next (length done)) now done → coming.limit ≡ limit_in now
         → AreOwed now done coming.bits → Passes d coming.ended stack now done [] coming.bits made
         → Tells d takes (around_of frames) made (around_of others) before after
@@ -363,13 +364,13 @@ module _ (d : DescV) where
 
     -- frames and values that are the same go on in the same way
     pub GoesOn-along :
-        {old : StateV} {frames others : List Frame} {kept more : List Value} {first second : Pace} {after : S} {stack : List Left} {done : List ℕ}
+        {old : StateV} {frames others : List Frame} {kept more : List Number} {first second : Pace} {after : S} {stack : List Left} {done : List ℕ}
         → frames ≡ others → kept ≡ more → first ≡ second
         → GoesOn d takes old (record { frames = others; values = more; pace = second; coming = coming }) before after stack done
         → GoesOn d takes old (record { frames = frames; values = kept; pace = first; coming = coming }) before after stack done
     GoesOn-along {old} {frames} {others} {kept} {more} {first} {second} {after} {stack} {done} e f g on =
         let P : List Frame → Type 0 = λ l. GoesOn d takes old (record { frames = l; values = more; pace = second; coming = coming }) before after stack done in
-        let Q : List Value → Type 0 = λ l. GoesOn d takes old (record { frames = frames; values = l; pace = second; coming = coming }) before after stack done in
+        let Q : List Number → Type 0 = λ l. GoesOn d takes old (record { frames = frames; values = l; pace = second; coming = coming }) before after stack done in
         let R : Pace → Type 0 = λ l. GoesOn d takes old (record { frames = frames; values = kept; pace = l; coming = coming }) before after stack done in
         subst R (sym g) (subst Q (sym f) (subst P (sym e) on))
 
@@ -383,11 +384,11 @@ module _ (d : DescV) where
 
     -- a node is left of which nothing is left, where the innermost window may end
     pub leaves_until :
-        {top : Frame} {frames : List Frame} {more : List Value} {after : S} {stack outer : List Left} {done : List ℕ} {k : ℕ} (later : Coming)
+        {top : Frame} {frames : List Frame} {more : List Number} {after : S} {stack outer : List Left} {done : List ℕ} {k : ℕ} (later : Coming)
         → later.bits ≡ coming.bits → later.ended ≡ coming.ended
         → (node : Node) → Known d → slice_get d.nodes k ≡ Some node → takes before Leave node after
         → around_of (top ∷ frames) ≡ k ∷ around_of frames → later.place ≡ length done
-        → IsStack d pace.next (fresh_at pace (length done)) (none_left ∷ outer) done → Round d frames outer k → more ≡ kept_of d (seen_behind d outer done)
+        → IsStack d pace.next (fresh_at pace (length done)) (none_left ∷ outer) done → Round d frames outer k → more ≡ numbers_of d (seen_behind d outer done)
         → later.limit ≡ limit_in outer → AreOwed outer done later.bits
         → Passes d coming.ended stack (none_left ∷ outer) done [] later.bits []
         → GoesOn d takes (state (top ∷ frames)) (record { frames = frames; values = more; pace = pace; coming = later }) before after stack done
@@ -398,10 +399,10 @@ module _ (d : DescV) where
 
     -- a node is left of which nothing is left
     pub leaves :
-        {top : Frame} {frames : List Frame} {more : List Value} {after : S} {stack outer : List Left} {done : List ℕ} {k : ℕ}
+        {top : Frame} {frames : List Frame} {more : List Number} {after : S} {stack outer : List Left} {done : List ℕ} {k : ℕ}
         (node : Node) → Known d → slice_get d.nodes k ≡ Some node → takes before Leave node after
         → around_of (top ∷ frames) ≡ k ∷ around_of frames → coming.place ≡ length done
-        → IsStack d pace.next (fresh_at pace (length done)) (none_left ∷ outer) done → Round d frames outer k → more ≡ kept_of d (seen_behind d outer done)
+        → IsStack d pace.next (fresh_at pace (length done)) (none_left ∷ outer) done → Round d frames outer k → more ≡ numbers_of d (seen_behind d outer done)
         → coming.limit ≡ limit_in outer → AreOwed outer done coming.bits
         → Passes d coming.ended stack (none_left ∷ outer) done [] coming.bits []
         → GoesOn d takes (state (top ∷ frames)) (record { frames = frames; values = more; pace = pace; coming = coming }) before after stack done
@@ -436,7 +437,7 @@ module _ (d : DescV) where
         let is : stack ≡ turns_left 0 i t.v ∷ t.outer = t.is ∙ ap (λ j. turns_left j i t.v ∷ t.outer) none in
         subst P (sym is)
         (leaves node known at told refl stands.place (turns_done known (subst (λ (l : List Left). IsStack d pace.next (fresh_at pace (length done)) l done) is stands.stack_is)) t.round
-        (t.kept ∙ ap (λ v. kept_of d v) t.repeats.seen ∙ sym (kept_unnamed done t.round (unnamed _ t.repeats.at refl)))
+        (t.kept ∙ ap (λ v. numbers_of d v) t.repeats.seen ∙ sym (kept_unnamed done t.round (unnamed _ t.repeats.at refl)))
         (stands.limit ∙ ap (λ (l : List Left). limit_in l) is)
         (subst (λ (l : List Left). AreOwed l done coming.bits) is stands.owed)
         (passes_of coming.ended (replaced d coming.bits (none_taken d) (alike d (no_turns d (moving known) i t.v done)))))

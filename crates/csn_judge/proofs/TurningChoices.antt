@@ -11,7 +11,7 @@ use Rattle.csn_certify.specs.declared.pick.Pick.TheVariants.{Take, Leave, Wait, 
 use Rattle.csn_certify.specs.Picks.{IsAsked, asked_choice, Picks, pick_key, pick_none, pick_wait, pick_bit, pick_again, pick_leave, pick_ended}
 use Rattle.csn_judge.specs.declared.frame.Frame.{Frame}
 use Rattle.csn_judge.specs.declared.frame.Frame.TheVariants as frame
-use Rattle.csn_judge.specs.declared.values.Value.{Value}
+use Rattle.csn_certify.specs.declared.numbers.Number.{Number}
 use Rattle.csn_judge.specs.declared.pace.Pace.{Pace}
 use Rattle.csn_judge.specs.declared.turn.Turn.{Turn}
 use Rattle.csn_judge.specs.declared.turn.Turn.TheVariants.{Waits, Refused}
@@ -22,7 +22,8 @@ use Rattle.csn_judge.specs.Told.{tells_none}
 use Rattle.csn_judge.specs.Left.{Left, all_left, none_left, choice_left}
 use Rattle.csn_judge.specs.Remains.{Within, Goes, Rest, Steps, Passes}
 use Rattle.csn_judge.specs.Inside.{IsStack, AreOwed}
-use Rattle.csn_judge.specs.Shown.{kept_of, seen_in, limit_in, TakesAlternative, Round, round_choice, Shows, shows_begin, shows_open}
+use Rattle.csn_certify.specs.KeptNumbers.{numbers_of}
+use Rattle.csn_judge.specs.Shown.{seen_in, limit_in, TakesAlternative, Round, round_choice, Shows, shows_begin, shows_open}
 use Rattle.csn_judge.specs.Turns.{fresh_at, begun_by, StateV, Stands, GoesOn, Turns, IsStopped}
 use Rattle.csn_judge.proofs.StepFacts.{goes_along, goes_from, rest_from}
 use Rattle.csn_judge.proofs.Closing.{Full, passes_of, null_full, null_last}
@@ -36,22 +37,22 @@ use Rattle.csn_judge.proofs.Turning.{moving, risen, room, round_length, begun_wi
 use Rattle.csn_judge.proofs.Verdicts.{never_ends}
 
 module _ (d : DescV) where
-  pub record OpenStands (k : ℕ) (frames : List Frame) (values : List Value) (stack : List Left) : Type 0 where
+  pub record OpenStands (k : ℕ) (frames : List Frame) (values : List Number) (stack : List Left) : Type 0 where
     pub outer : List Left
     pub parts : List ℕ
     pub v : Values
     pub is : stack ≡ choice_left parts v ∷ outer
     pub at : slice_get d.nodes k ≡ Some (Choice parts)
     pub seen : v ≡ seen_in outer
-    pub kept : values ≡ kept_of d v
+    pub kept : values ≡ numbers_of d v
     pub round : Round d frames outer k
 
-  pub open_stands : {k : ℕ} {frames : List Frame} {values : List Value} {stack : List Left} {done : List ℕ}
+  pub open_stands : {k : ℕ} {frames : List Frame} {values : List Number} {stack : List Left} {done : List ℕ}
       → Shows d (frame.Open k ∷ frames) values stack done → OpenStands k frames values stack
   open_stands (shows_open at seen kept round) = record { outer = _; parts = _; v = _; is = refl; at = at; seen = seen; kept = kept; round = round }
 
   -- look-ahead is asked there
-  pub open_asked : {k : ℕ} {frames : List Frame} {values : List Value} {stack : List Left} {done : List ℕ} (pace : Pace) → Known d
+  pub open_asked : {k : ℕ} {frames : List Frame} {values : List Number} {stack : List Left} {done : List ℕ} (pace : Pace) → Known d
       → Shows d (frame.Open k ∷ frames) values stack done → IsStack d pace.next (fresh_at pace (length done)) stack done
       → IsAsked d k (length done % 8)
   open_asked {done = done} pace known shows is =
@@ -60,7 +61,7 @@ module _ (d : DescV) where
       asked_choice t.parts t.at at.0.ready.reached
 
   -- the part of one begins: it is a node of the description, and there is room for the frame round it
-  pub alternative_room : {k part : ℕ} {frames : List Frame} {values : List Value} {stack : List Left} {done : List ℕ} (pace : Pace) (j : ℕ) (parts : List ℕ) → Known d
+  pub alternative_room : {k part : ℕ} {frames : List Frame} {values : List Number} {stack : List Left} {done : List ℕ} (pace : Pace) (j : ℕ) (parts : List ℕ) → Known d
       → slice_get d.nodes k ≡ Some (Choice parts) → slice_get parts j ≡ Some part
       → Shows d (frame.Open k ∷ frames) values stack done → IsStack d pace.next (fresh_at pace (length done)) stack done
       → (part < length d.nodes) × (length frames < 63)
@@ -72,7 +73,7 @@ module _ (d : DescV) where
       let begun = of_begun d (alternative_begun d 12 known.description known.certified j t.at here_part at.0) in
       (begun_within d begun, omega (arith, room d begun, round_length d t.round))
 
-  module _ {S : Type 0} (takes : S → Move → Node → S → Type 0) (before : S) (values : List Value) (pace : Pace) (coming : Coming) where
+  module _ {S : Type 0} (takes : S → Move → Node → S → Type 0) (before : S) (values : List Number) (pace : Pace) (coming : Coming) where
     -- where a choice stands
     pub record AtChoice (k : ℕ) (frames : List Frame) (stack : List Left) (done : List ℕ) (known : Known d) : Type 0 where
       pub stands : OpenStands k frames values stack

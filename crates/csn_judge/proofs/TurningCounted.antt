@@ -1,6 +1,5 @@
 -- Turns of the frames of labelled fields that counts stand on.
-use Rattle.std.proofs.Common.{inl, inr, ◌≡◌, ◌⊎◌, ℕ, zero, suc, ◌+◌, ◌-◌, ◌*◌, ◌^◌, ◌%◌, ◌<◌, ◌≤◌, Bool, true, false, if◌then◌else◌, List, [], ◌∷◌, ◌++◌, length, drop, map, refl, sym, ◌∙◌, ap, subst, arith, append-nil, length-append, length-drop, Option, Some, None, slice_get}
-use Rattle.std.specs.Prelude.{count_by, cond}
+use Rattle.std.proofs.Common.{inl, inr, ◌≡◌, ◌⊎◌, ℕ, zero, suc, ◌+◌, ◌-◌, ◌*◌, ◌^◌, ◌%◌, ◌<◌, ◌≤◌, Bool, true, false, List, [], ◌∷◌, ◌++◌, length, drop, map, refl, sym, ◌∙◌, ap, subst, arith, append-nil, length-append, length-drop, Option, Some, None, slice_get}
 use Rattle.std.specs.Option.{option_and_then}
 use Rattle.std.specs.Int.Bits.{bit_or}
 use Rattle.std.proofs.Math.Pow.{pow_mono}
@@ -16,13 +15,13 @@ use Rattle.csn_desc.specs.declared.node.Node.{Node}
 use Rattle.csn_desc.specs.declared.node.Node.TheVariants.{Lits, Spare, Pad, Null, Field, Rest, Seq, Choice, Times, Many, Trunc, Window, Named}
 use Rattle.csn_desc.specs.Nodes.{DescV}
 use Rattle.csn_desc.specs.Values.{Values, is_named, is_labelled}
-use Rattle.csn_desc.specs.Formed.{is_counted, value_width, width_of, labelled_part, Formed, formed}
-use Rattle.csn_certify.specs.CountedValues.{fields_of}
-use Rattle.csn_certify.proofs.CountedValues.{FewBits, few_bits, count_more}
+use Rattle.csn_desc.specs.Formed.{is_counted, value_width, width_of, labelled_part, formed}
+use Rattle.csn_certify.proofs.CountedValues.{FewBits, few_bits}
+use Rattle.csn_certify.proofs.KeptNumbers.{number_room}
 use Rattle.csn_judge.specs.declared.frame.Frame.{Frame}
 use Rattle.csn_judge.specs.declared.frame.Frame.TheVariants as frame
 use Rattle.csn_judge.specs.declared.frame.Counted.{Counted}
-use Rattle.csn_judge.specs.declared.values.Value.{Value}
+use Rattle.csn_certify.specs.declared.numbers.Number.{Number}
 use Rattle.csn_judge.specs.declared.pace.Pace.{Pace}
 use Rattle.csn_judge.specs.declared.turn.Turn.{Turn}
 use Rattle.csn_judge.specs.declared.turn.Turn.TheVariants.{Moved, Waits, Refused}
@@ -30,7 +29,8 @@ use Rattle.csn_judge.specs.Known.{Known}
 use Rattle.csn_judge.specs.Coming.{Coming}
 use Rattle.csn_judge.specs.Left.{Left, bits_left, none_left}
 use Rattle.csn_judge.specs.Inside.{AreOwed, IsReady, Inside, inside_choice, inside_label, inside_parts, inside_lead, IsStack, stack_end, stack_node}
-use Rattle.csn_judge.specs.Shown.{limit_in, kept_of, seen_in, seen_behind, Round, BeganAt, began_part, began_lead, Shows, shows_counted}
+use Rattle.csn_certify.specs.KeptNumbers.{numbers_of}
+use Rattle.csn_judge.specs.Shown.{limit_in, seen_in, seen_behind, Round, BeganAt, began_part, began_lead, Shows, shows_counted}
 use Rattle.csn_bits.proofs.NumberFacts.{number_of-append, number_of-lt}
 use Rattle.csn_judge.specs.Told.{BitsTold, Tells, tells_none, tells_leave}
 use Rattle.csn_judge.specs.Remains.{Passes}
@@ -72,34 +72,14 @@ module _ (d : DescV) where
       by (inside_choice k j parts at_choice here ready inner) began = began_ready began inner ready
       by (inside_label k at_label ready inner) began = began_ready began inner ready
 
-  length_kept : (v : Values) → length (kept_of d v) ≡ count_by (is_counted d.nodes) (fields_of v)
-  length_kept [] = refl
-  length_kept (last ∷ earlier) = by (is_counted d.nodes last.0) refl (length_kept earlier)
-    where
-      kept_if : (counted : Bool) → List Value
-      kept_if counted = if counted then kept_of d earlier ++ record { field = last.0; number = number_of last.1 } ∷ [] else kept_of d earlier
-
-      sum : (counted : Bool) → length (kept_of d earlier) ≡ count_by (is_counted d.nodes) (fields_of earlier) → length (kept_if counted) ≡ cond counted 1 0 + count_by (is_counted d.nodes) (fields_of earlier)
-      sum true so_far = omega (arith, so_far, length-append (kept_of d earlier) (record { field = last.0; number = number_of last.1 } ∷ []))
-      sum false so_far = omega (arith, so_far)
-
-      by : (counted : Bool) → is_counted d.nodes last.0 ≡ counted → length (kept_of d earlier) ≡ count_by (is_counted d.nodes) (fields_of earlier)
-          → length (kept_of d (last ∷ earlier)) ≡ count_by (is_counted d.nodes) (fields_of (last ∷ earlier))
-      by counted e so_far =
-          ap (λ b. length (kept_if b)) e ∙ sum counted so_far ∙ ap (λ b. cond b 1 0 + count_by (is_counted d.nodes) (fields_of earlier)) (sym e)
-          ∙ sym (count_more (is_counted d.nodes) last.0 (fields_of earlier))
-
-  formed_few : {seen : List ℕ} {round i : ℕ} → Formed d.nodes seen round i → is_counted d.nodes i ≡ true → count_by (is_counted d.nodes) seen < 64
-  formed_few (formed m here few head parts counted later) is = counted is
-
   -- fewer than 64 values are kept before it
-  pub room_for_value : {round i from : ℕ} {v : Values} → IsReady d i from round v → is_counted d.nodes i ≡ true → length (kept_of d v) < 64
-  room_for_value {v = v} ready counted = omega (arith, length_kept v, formed_few ready.formed counted)
+  pub room_for_value : {round i from : ℕ} {v : Values} → IsReady d i from round v → is_counted d.nodes i ≡ true → length (numbers_of d v) < 64
+  room_for_value {v = v} ready counted = number_room d v ready.formed counted
 
   -- and then its own
   pub kept_more : {node from : ℕ} {outer : List Left} (label : List ℕ) {part : ℕ} (done : List ℕ) → BeganAt d node from outer → is_counted d.nodes node ≡ true
       → slice_get d.nodes node ≡ Some (Named label part)
-      → kept_of d (seen_behind d outer done) ≡ kept_of d (seen_in outer) ++ record { field = node; number = number_of (drop from done) } ∷ []
+      → numbers_of d (seen_behind d outer done) ≡ numbers_of d (seen_in outer) ++ record { field = node; value = number_of (drop from done) } ∷ []
   kept_more {node} {from} label done (began_part {v = v}) counted at =
       let named : is_named d.nodes node ≡ true = ap (λ n. is_labelled n) at in
       rw (named, counted) refl
@@ -134,7 +114,7 @@ number_taken {n = n} {number = number} {bits = bits} g is less front good few so
 module _ (d : DescV) where
   -- ---- a labelled field that counts stand on, of which bits are left
 
-  pub record CountedStands (counted : Counted) (frames : List Frame) (values : List Value) (stack : List Left) (done : List ℕ) : Type 0 where
+  pub record CountedStands (counted : Counted) (frames : List Frame) (values : List Number) (stack : List Left) (done : List ℕ) : Type 0 where
     pub outer : List Left
     pub is : stack ≡ bits_left counted.left ∷ none_left ∷ outer
     pub label : List ℕ
@@ -149,10 +129,10 @@ module _ (d : DescV) where
     pub order : from ≤ length done
     pub sum : length done + counted.left ≡ from + unit * width
     pub some : 0 < counted.left
-    pub kept : values ≡ kept_of d (seen_in outer)
+    pub kept : values ≡ numbers_of d (seen_in outer)
     pub round : Round d frames outer counted.node
 
-  pub counted_stands : {counted : Counted} {frames : List Frame} {values : List Value} {stack : List Left} {done : List ℕ}
+  pub counted_stands : {counted : Counted} {frames : List Frame} {values : List Number} {stack : List Left} {done : List ℕ}
       → Shows d (frame.Counted counted ∷ frames) values stack done → CountedStands counted frames values stack done
   counted_stands (shows_counted {outer = outer} label unit width from at field counts began number order sum some n kept round) =
       record {
@@ -175,7 +155,7 @@ module _ (d : DescV) where
       }
 
   -- few bits are left
-  pub counted_few : Known d → {counted : Counted} {frames : List Frame} {values : List Value} {stack : List Left} {done : List ℕ}
+  pub counted_few : Known d → {counted : Counted} {frames : List Frame} {values : List Number} {stack : List Left} {done : List ℕ}
       → (t : CountedStands counted frames values stack done) → (length (drop t.from done) + counted.left ≤ 16) × (length done + counted.left ≡ t.from + t.unit * t.width)
   counted_few known {counted} {done = done} t =
       let bounds = counted_width d known counted.node t.label t.counts t.at t.field in
@@ -198,7 +178,7 @@ module _ (d : DescV) where
         | inr few ↦ inl (nil_from_length new.bits (omega (arith, few.1)))
       ]
 
-  module _ {S : Type 0} (takes : S → Move → Node → S → Type 0) (before : S) (values : List Value) (pace : Pace) (old new : Coming) (counted : Counted) (frames : List Frame) (field : Node) where
+  module _ {S : Type 0} (takes : S → Move → Node → S → Type 0) (before : S) (values : List Number) (pace : Pace) (old new : Coming) (counted : Counted) (frames : List Frame) (field : Node) where
     abbrev counted_from : StateV
     counted_from = record { frames = frame.Counted counted ∷ frames; values = values; pace = pace; coming = old }
 
@@ -252,10 +232,10 @@ module _ (d : DescV) where
         }))
 
     -- all of them: it and its label are left, and its number is kept
-    pub counted_ends : {most n number : ℕ} (g : Given most n old new) (told left after : S) (label : Node) {kept : List Value} {next : Pace} → Known d → slice_get d.nodes counted.part ≡ Some field
+    pub counted_ends : {most n number : ℕ} (g : Given most n old new) (told left after : S) (label : Node) {kept : List Number} {next : Pace} → Known d → slice_get d.nodes counted.part ≡ Some field
         → n ≡ counted.left → next ≡ paced true pace
         → ((front : List ℕ) → IsBits front → length front + counted.left ≤ 16 → counted.number ≡ number_of front → number ≡ number_of (front ++ taken_of g))
-        → kept ≡ values ++ record { field = counted.node; number = number } ∷ []
+        → kept ≡ values ++ record { field = counted.node; value = number } ∷ []
         → BitsTold takes field (taken_of g) before told → takes told Leave field left → slice_get d.nodes counted.node ≡ Some label → takes left Leave label after
         → (stack : List Left) (done : List ℕ) → Stands d counted_from stack done
         → GoesOn d takes counted_from (record { frames = frames; values = kept; pace = next; coming = new }) before after stack done
@@ -285,8 +265,8 @@ module _ (d : DescV) where
           stands = record {
             shows =
                 shown_behind d here t.round
-                (kept_is ∙ ap (λ v. v ++ record { field = counted.node; number = number } ∷ []) t.kept
-                ∙ ap (λ k. kept_of d (seen_in t.outer) ++ record { field = counted.node; number = k } ∷ []) now_number
+                (kept_is ∙ ap (λ v. v ++ record { field = counted.node; value = number } ∷ []) t.kept
+                ∙ ap (λ k. numbers_of d (seen_in t.outer) ++ record { field = counted.node; value = k } ∷ []) now_number
                 ∙ sym (kept_more d t.label here t.began t.counts t.at));
             stack_is = behind_label;
             place = on.place ∙ ap (λ p. p + length on.taken) stands.place ∙ sym (length-append done on.taken);

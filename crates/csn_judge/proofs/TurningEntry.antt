@@ -8,14 +8,15 @@ use Rattle.csn_desc.specs.declared.symbol.Symbol.{Symbol}
 use Rattle.csn_desc.specs.declared.node.Count.{Count}
 use Rattle.csn_desc.specs.declared.node.Node.{Node}
 use Rattle.csn_desc.specs.declared.node.Node.TheVariants.{Lits, Spare, Pad, Null, Field, Rest, Seq, Choice, Times, Many, Trunc, Window}
-use Rattle.csn_desc.specs.Nodes.{DescV, head_of, parts_of}
+use Rattle.csn_desc.specs.Nodes.{DescV, parts_of}
 use Rattle.csn_desc.specs.Values.{Values, count_of}
-use Rattle.csn_desc.specs.Formed.{Formed, formed, HasParts}
+use Rattle.csn_desc.specs.Formed.{Formed, formed}
+use Rattle.csn_desc.proofs.Nodewise.{parts_there}
 use Rattle.csn_certify.proofs.CountedValues.{formed_head, has_number}
 use Rattle.csn_judge.specs.declared.frame.Frame.{Frame}
 use Rattle.csn_judge.specs.declared.frame.Frame.TheVariants as frame
 use Rattle.csn_judge.specs.declared.leaf.Leaf.TheVariants as leaf
-use Rattle.csn_judge.specs.declared.values.Value.{Value}
+use Rattle.csn_certify.specs.declared.numbers.Number.{Number}
 use Rattle.csn_judge.specs.declared.pace.Pace.{Pace}
 use Rattle.csn_judge.specs.Known.{Known}
 use Rattle.csn_judge.specs.Coming.{Coming}
@@ -23,7 +24,8 @@ use Rattle.csn_judge.specs.Remains.{Passes}
 use Rattle.csn_judge.specs.Told.{tells_none, tells_enter, tells_leave}
 use Rattle.csn_judge.specs.Left.{Left, all_left, bits_left, symbols_left, spare_left, pad_left, rest_left, choice_left, none_left, turns_left, free_left, cut_left}
 use Rattle.csn_judge.specs.Inside.{IsStack, AreOwed}
-use Rattle.csn_judge.specs.Shown.{kept_of, seen_in, limit_in, KeepsCount, HasNext, Cuts, shows_lits, shows_spare, shows_pad, shows_field, shows_rest, Round, round_seq, round_window, Shows, shows_begin, shows_leaf, shows_open, shows_turns, shows_free, shows_cut}
+use Rattle.csn_certify.specs.KeptNumbers.{numbers_of, KeepsCount}
+use Rattle.csn_judge.specs.Shown.{seen_in, limit_in, HasNext, Cuts, shows_lits, shows_spare, shows_pad, shows_field, shows_rest, Round, round_seq, round_window, Shows, shows_begin, shows_leaf, shows_open, shows_turns, shows_free, shows_cut}
 use Rattle.csn_judge.specs.Turns.{fresh_at, begun_by, around_of, StateV, Stands, StandsSomewhere, GoesOn}
 use Rattle.csn_judge.proofs.StepFacts.{replaced, none_taken, split, popped, steps_then}
 use Rattle.csn_judge.proofs.Closing.{passes_of}
@@ -43,30 +45,27 @@ module _ {S : Type 0} (takes : S → Move → Node → S → Type 0) where
   entered {before} {after} {i} nodes is here told = (here ∙ ap (λ n. Some n) is, subst (λ (n : Node). takes before (Enter i) n after) is told)
 
 module _ (d : DescV) where
-  pub record BeginStands (i : ℕ) (frames : List Frame) (values : List Value) (stack : List Left) : Type 0 where
+  pub record BeginStands (i : ℕ) (frames : List Frame) (values : List Number) (stack : List Left) : Type 0 where
     pub outer : List Left
     pub v : Values
     pub is : stack ≡ all_left i v ∷ outer
     pub seen : v ≡ seen_in outer
-    pub kept : values ≡ kept_of d v
+    pub kept : values ≡ numbers_of d v
     pub round : Round d frames outer i
 
-  pub begin_stands : {i : ℕ} {frames : List Frame} {values : List Value} {stack : List Left} {done : List ℕ}
+  pub begin_stands : {i : ℕ} {frames : List Frame} {values : List Number} {stack : List Left} {done : List ℕ}
       → Shows d (frame.Begin i ∷ frames) values stack done → BeginStands i frames values stack
   begin_stands (shows_begin seen kept round) = record { outer = _; v = _; is = refl; seen = seen; kept = kept; round = round }
 
   -- a sequence has parts
   has_parts : {seen : List ℕ} {round k : ℕ} (parts : List ℕ) → slice_get d.nodes k ≡ Some (Seq parts) → Formed d.nodes seen round k → 2 ≤ length parts
-  has_parts parts at (formed n here few head have bound others) =
-      let same : n ≡ Seq parts = cc in
-      let P : Node → Type 0 = λ m. HasParts (head_of m) (length (parts_of m)) in
-      subst P same have
+  has_parts parts at is = parts_there d.nodes at is
 
   unit_fits : (unit n : ℕ) → (unit ≡ 1) ⊎ (unit ≡ 8) → n < 16777216 → unit * n < 4294967296
   unit_fits unit n (inl one) small = omega (arith, small, ap (λ k. k * n) one)
   unit_fits unit n (inr eight) small = omega (arith, small, ap (λ k. k * n) eight)
 
-  module _ {S : Type 0} (takes : S → Move → Node → S → Type 0) (before : S) (values : List Value) (pace : Pace) (coming : Coming) where
+  module _ {S : Type 0} (takes : S → Move → Node → S → Type 0) (before : S) (values : List Number) (pace : Pace) (coming : Coming) where
     -- a node that begins
     pub record AtBegin (i : ℕ) (frames : List Frame) (stack : List Left) (done : List ℕ) : Type 0 where
       pub stands : BeginStands i frames values stack
@@ -120,20 +119,20 @@ module _ (d : DescV) where
       pub field_fits : (unit n : ℕ) (count : Count) → slice_get d.nodes i ≡ Some (Field unit count) → n < 16777216 → unit * n < 4294967296
       field_fits unit n count here small = unit_fits unit n (formed_head d _ here (at_begin stands).begun.ready.formed).0 small
 
-      pub keeps_field : (unit : ℕ) (count : Count) → slice_get d.nodes i ≡ Some (Field unit count) → KeepsCount d values count
+      pub keeps_field : (unit : ℕ) (count : Count) → slice_get d.nodes i ≡ Some (Field unit count) → (v : Values) × KeepsCount d v values count
       keeps_field unit count here =
           let a = at_begin stands in
-          record { v = a.stands.v; kept = a.stands.kept; has = has_number d _ (Field unit count) count a.begun.ready.widths here (formed_head d _ here a.begun.ready.formed).1 (λ field e. e) }
+          (a.stands.v, record { kept = a.stands.kept; has = has_number d _ (Field unit count) count a.begun.ready.widths here (formed_head d _ here a.begun.ready.formed).1 (λ field e. e) })
 
-      pub keeps_turns : (part : ℕ) (count : Count) → slice_get d.nodes i ≡ Some (Times count part) → KeepsCount d values count
+      pub keeps_turns : (part : ℕ) (count : Count) → slice_get d.nodes i ≡ Some (Times count part) → (v : Values) × KeepsCount d v values count
       keeps_turns part count here =
           let a = at_begin stands in
-          record { v = a.stands.v; kept = a.stands.kept; has = has_number d _ (Times count part) count a.begun.ready.widths here (formed_head d _ here a.begun.ready.formed) (λ field e. e) }
+          (a.stands.v, record { kept = a.stands.kept; has = has_number d _ (Times count part) count a.begun.ready.widths here (formed_head d _ here a.begun.ready.formed) (λ field e. e) })
 
-      pub keeps_window : (unit part : ℕ) (count : Count) → slice_get d.nodes i ≡ Some (Window unit count part) → KeepsCount d values count
+      pub keeps_window : (unit part : ℕ) (count : Count) → slice_get d.nodes i ≡ Some (Window unit count part) → (v : Values) × KeepsCount d v values count
       keeps_window unit part count here =
           let a = at_begin stands in
-          record { v = a.stands.v; kept = a.stands.kept; has = has_number d _ (Window unit count part) count a.begun.ready.widths here (formed_head d _ here a.begun.ready.formed).1 (λ field e. e) }
+          (a.stands.v, record { kept = a.stands.kept; has = has_number d _ (Window unit count part) count a.begun.ready.widths here (formed_head d _ here a.begun.ready.formed).1 (λ field e. e) })
 
       -- its first part is the node behind it
       pub first_rises : (j : ℕ) (parts : List ℕ) (node : Node) → slice_get d.nodes i ≡ Some node → parts_of node ≡ parts → slice_get parts 0 ≡ Some j → pace.next ≤ j
@@ -153,39 +152,39 @@ module _ (d : DescV) where
       literal run (here, told) =
           let a = at_begin stands in
           let some : 0 < length run = omega (arith, formed_head d _ here a.begun.ready.formed) in
-          enters_as (Lits run) (symbols_left run) a here told refl (shows_leaf (shows_lits run here some refl) (a.stands.kept ∙ ap (λ v. kept_of d v) a.stands.seen) a.stands.round)
+          enters_as (Lits run) (symbols_left run) a here told refl (shows_leaf (shows_lits run here some refl) (a.stands.kept ∙ ap (λ v. numbers_of d v) a.stands.seen) a.stands.round)
           (literal_stack d 12 known.description known.certified here a.begun) refl a.owed (enter_literal d run a.stands.v done)
 
       pub spare : (symbol : Symbol) → IsEntered takes d.nodes before i (Spare symbol) after
           → GoesOn d takes (state d takes before values pace coming (frame.Begin i ∷ frames)) (state d takes before values pace coming (frame.Leaf i leaf.Spare ∷ frames)) before after stack done
       spare symbol (here, told) =
           let a = at_begin stands in
-          enters_as (Spare symbol) (spare_left symbol) a here told refl (shows_leaf (shows_spare here) (a.stands.kept ∙ ap (λ v. kept_of d v) a.stands.seen) a.stands.round)
+          enters_as (Spare symbol) (spare_left symbol) a here told refl (shows_leaf (shows_spare here) (a.stands.kept ∙ ap (λ v. numbers_of d v) a.stands.seen) a.stands.round)
           (spare_stack d 12 known.description known.certified here a.begun) refl a.owed (enter_spare d symbol a.stands.v done)
 
       pub pad : IsEntered takes d.nodes before i Pad after
           → GoesOn d takes (state d takes before values pace coming (frame.Begin i ∷ frames)) (state d takes before values pace coming (frame.Leaf i (leaf.Pad false) ∷ frames)) before after stack done
       pad (here, told) =
           let a = at_begin stands in
-          enters_as Pad (pad_left false) a here told refl (shows_leaf (shows_pad here) (a.stands.kept ∙ ap (λ v. kept_of d v) a.stands.seen) a.stands.round)
+          enters_as Pad (pad_left false) a here told refl (shows_leaf (shows_pad here) (a.stands.kept ∙ ap (λ v. numbers_of d v) a.stands.seen) a.stands.round)
           (pad_stack d 12 known.description known.certified here a.begun) refl a.owed (enter_pad d a.stands.v done)
 
       pub rest : IsEntered takes d.nodes before i Rest after
           → GoesOn d takes (state d takes before values pace coming (frame.Begin i ∷ frames)) (state d takes before values pace coming (frame.Leaf i leaf.Rest ∷ frames)) before after stack done
       rest (here, told) =
           let a = at_begin stands in
-          enters_as Rest rest_left a here told refl (shows_leaf (shows_rest here) (a.stands.kept ∙ ap (λ v. kept_of d v) a.stands.seen) a.stands.round)
+          enters_as Rest rest_left a here told refl (shows_leaf (shows_rest here) (a.stands.kept ∙ ap (λ v. numbers_of d v) a.stands.seen) a.stands.round)
           (rest_stack d 12 known.description known.certified here a.begun) refl a.owed (enter_rest d a.stands.v done)
 
       pub field : (unit n m : ℕ) (count : Count) → IsEntered takes d.nodes before i (Field unit count) after
-          → ((v : Values) → values ≡ kept_of d v → count_of v count ≡ Some n) → m ≡ unit * n
+          → ((v : Values) → values ≡ numbers_of d v → count_of v count ≡ Some n) → m ≡ unit * n
           → GoesOn d takes (state d takes before values pace coming (frame.Begin i ∷ frames)) (state d takes before values pace coming (frame.Leaf i (leaf.Field m) ∷ frames)) before after stack done
       field unit n m count (here, told) number size =
           let a = at_begin stands in
           let counts = number a.stands.v a.stands.kept in
           let P : ℕ → Type 0 = λ k. GoesOn d takes (state d takes before values pace coming (frame.Begin i ∷ frames)) (state d takes before values pace coming (frame.Leaf i (leaf.Field k) ∷ frames)) before after stack done in
           subst P (sym size)
-          (enters_as (Field unit count) (bits_left (unit * n)) a here told refl (shows_leaf (shows_field unit count here) (a.stands.kept ∙ ap (λ v. kept_of d v) a.stands.seen) a.stands.round)
+          (enters_as (Field unit count) (bits_left (unit * n)) a here told refl (shows_leaf (shows_field unit count here) (a.stands.kept ∙ ap (λ v. numbers_of d v) a.stands.seen) a.stands.round)
           (field_stack d 12 known.description known.certified here counts a.begun) refl a.owed (enter_field d unit count n a.stands.v done counts))
 
       pub choice : (parts : List ℕ) → IsEntered takes d.nodes before i (Choice parts) after
@@ -196,7 +195,7 @@ module _ (d : DescV) where
           (choice_stack d 12 known.description known.certified here a.begun) refl a.owed (enter_choice d parts a.stands.v done)
 
       pub turns : (n part : ℕ) (count : Count) → IsEntered takes d.nodes before i (Times count part) after
-          → ((v : Values) → values ≡ kept_of d v → count_of v count ≡ Some n)
+          → ((v : Values) → values ≡ numbers_of d v → count_of v count ≡ Some n)
           → GoesOn d takes (state d takes before values pace coming (frame.Begin i ∷ frames)) (state d takes before values pace coming (frame.Times i part n ∷ frames)) before after stack done
       turns n part count (here, told) number =
           let a = at_begin stands in
@@ -233,8 +232,8 @@ module _ (d : DescV) where
             is = refl;
             next_is = refl;
             more = record {
-              count_is = size ∙ ap (λ l. length l) (a.stands.kept ∙ ap (λ w. kept_of d w) a.stands.seen);
-              same = ap (λ n. take n (kept_of d a.stands.v)) (size ∙ ap (λ l. length l) a.stands.kept) ∙ take_all (length (kept_of d a.stands.v)) (kept_of d a.stands.v) (omega arith) ∙ ap (λ w. kept_of d w) a.stands.seen;
+              count_is = size ∙ ap (λ l. length l) (a.stands.kept ∙ ap (λ w. numbers_of d w) a.stands.seen);
+              same = ap (λ n. take n (numbers_of d a.stands.v)) (size ∙ ap (λ l. length l) a.stands.kept) ∙ take_all (length (numbers_of d a.stands.v)) (numbers_of d a.stands.v) (omega arith) ∙ ap (λ w. numbers_of d w) a.stands.seen;
             };
           } in
           let is_first = first_next d 12 known.description known.certified here_j refl in
@@ -247,7 +246,7 @@ module _ (d : DescV) where
 
       -- a window, whose part begins
       pub window : (unit n part bits : ℕ) (count : Count) (later : Coming) → IsEntered takes d.nodes before i (Window unit count part) after
-          → ((v : Values) → values ≡ kept_of d v → count_of v count ≡ Some n) → bits ≡ unit * n
+          → ((v : Values) → values ≡ numbers_of d v → count_of v count ≡ Some n) → bits ≡ unit * n
           → later.bits ≡ coming.bits → later.ended ≡ coming.ended → later.place ≡ coming.place → later.limit ≡ min coming.limit (coming.place + bits)
           → GoesOn d takes (state d takes before values pace coming (frame.Begin i ∷ frames)) (record { frames = frame.Begin part ∷ frame.Window i coming.place bits coming.limit ∷ frames; values = values; pace = begun_by part pace; coming = later }) before after stack done
       window unit n part bits count later (here, told) number size same_bits same_ended same_place limit =
@@ -280,7 +279,7 @@ module _ (d : DescV) where
           let Q : List ℕ → Type 0 = λ l. Passes d coming.ended (none_left ∷ a.stands.outer) a.stands.outer l [] coming.bits (Leave ∷ []) in
           subst P (sym a.stands.is)
           (still d takes before values pace coming pace a.place
-          (shown_behind d done a.stands.round (a.stands.kept ∙ ap (λ w. kept_of d w) a.stands.seen ∙ sym (kept_unnamed d done a.stands.round (unnamed d _ here refl))))
+          (shown_behind d done a.stands.round (a.stands.kept ∙ ap (λ w. numbers_of d w) a.stands.seen ∙ sym (kept_unnamed d done a.stands.round (unnamed d _ here refl))))
           behind a.limit a.owed
           (steps_then d [] [] entered (subst Q (sym (append-nil done)) gone))
           (tells_enter Null _ here told (tells_leave Null _ here left (tells_none refl refl))))

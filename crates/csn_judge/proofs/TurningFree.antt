@@ -12,7 +12,7 @@ use Rattle.csn_certify.specs.declared.pick.Pick.TheVariants.{Take}
 use Rattle.csn_certify.specs.Picks.{IsAsked, asked_many, Picks, pick_key, pick_none, pick_wait, pick_refuse, pick_again, pick_leave}
 use Rattle.csn_judge.specs.declared.frame.Frame.{Frame}
 use Rattle.csn_judge.specs.declared.frame.Frame.TheVariants as frame
-use Rattle.csn_judge.specs.declared.values.Value.{Value}
+use Rattle.csn_certify.specs.declared.numbers.Number.{Number}
 use Rattle.csn_judge.specs.declared.pace.Pace.{Pace}
 use Rattle.csn_judge.specs.Known.{Known}
 use Rattle.csn_judge.specs.Coming.{Coming, IsGood}
@@ -20,7 +20,8 @@ use Rattle.csn_judge.specs.Told.{tells_none}
 use Rattle.csn_judge.specs.Left.{Left, all_left, none_left, free_left}
 use Rattle.csn_judge.specs.Remains.{Steps, Passes}
 use Rattle.csn_judge.specs.Inside.{IsStack, stack_node, AreOwed, of_free, of_read}
-use Rattle.csn_judge.specs.Shown.{kept_of, limit_in, RepeatsFreely, Round, round_many, Shows, shows_begin, shows_free}
+use Rattle.csn_certify.specs.KeptNumbers.{numbers_of}
+use Rattle.csn_judge.specs.Shown.{limit_in, RepeatsFreely, Round, round_many, Shows, shows_begin, shows_free}
 use Rattle.csn_judge.specs.Turns.{fresh_at, begun_by, Stands, GoesOn}
 use Rattle.csn_judge.proofs.Closing.{passes_of, free_ends}
 use Rattle.csn_judge.proofs.Choosing.{node_empty}
@@ -31,15 +32,15 @@ use Rattle.csn_judge.proofs.Rooms.{first_of}
 use Rattle.csn_judge.proofs.Turning.{moving, begun_fresh, kept_unnamed, unnamed, within_limit, state, still, leaves}
 
 module _ (d : DescV) where
-  pub record FreeStands (k i : ℕ) (frames : List Frame) (values : List Value) (stack : List Left) : Type 0 where
+  pub record FreeStands (k i : ℕ) (frames : List Frame) (values : List Number) (stack : List Left) : Type 0 where
     pub outer : List Left
     pub v : Values
     pub is : stack ≡ free_left i v ∷ outer
     pub repeats : RepeatsFreely d k i v outer
-    pub kept : values ≡ kept_of d v
+    pub kept : values ≡ numbers_of d v
     pub round : Round d frames outer k
 
-  pub free_stands : {k i : ℕ} {frames : List Frame} {values : List Value} {stack : List Left} {done : List ℕ}
+  pub free_stands : {k i : ℕ} {frames : List Frame} {values : List Number} {stack : List Left} {done : List ℕ}
       → Shows d (frame.Many k i ∷ frames) values stack done → FreeStands k i frames values stack
   free_stands (shows_free is kept round) = record { outer = _; v = _; is = refl; repeats = is; kept = kept; round = round }
 
@@ -57,7 +58,7 @@ module _ (d : DescV) where
       stack_node k from w bits ready (of_read (free_read d 12 known.description known.certified at so_far order) (up_part d [] _ [] at refl up)) inside
 
   -- look-ahead is asked there
-  pub free_asked : {k i : ℕ} {frames : List Frame} {values : List Value} {stack : List Left} {done : List ℕ} (pace : Pace) → Known d
+  pub free_asked : {k i : ℕ} {frames : List Frame} {values : List Number} {stack : List Left} {done : List ℕ} (pace : Pace) → Known d
       → Shows d (frame.Many k i ∷ frames) values stack done → IsStack d pace.next (fresh_at pace (length done)) stack done
       → IsAsked d k (length done % 8)
   free_asked {i = i} {done = done} pace known shows is =
@@ -110,7 +111,7 @@ module _ (d : DescV) where
       let how = repeats_at pace bit known (free_begins pace known is) is room in
       leave_free d 12 known.description known.certified (moving d known) known how.2 more (pick_leave i how.2.at never)
 
-  module _ {S : Type 0} (takes : S → Move → Node → S → Type 0) (before : S) (values : List Value) (pace : Pace) (coming : Coming) where
+  module _ {S : Type 0} (takes : S → Move → Node → S → Type 0) (before : S) (values : List Number) (pace : Pace) (coming : Coming) where
     again_bits : {i : ℕ} {v : Values} {outer : List Left} {done : List ℕ} (bits : List ℕ) → Known d
         → IsStack d pace.next (fresh_at pace (length done)) (free_left i v ∷ outer) done → suc (length done) ≤ limit_in outer
         → (bit : ℕ) (more : List ℕ) → bits ≡ bit ∷ more → InStart d i (length done % 8) bit
@@ -159,7 +160,7 @@ module _ (d : DescV) where
         let limit = stands.limit ∙ ap (λ (l : List Left). limit_in l) t.is in
         subst P (sym t.is)
         (leaves d takes before values pace coming node known at told refl stands.place (free_done known is) t.round
-        (t.kept ∙ ap (λ v. kept_of d v) t.repeats.seen ∙ sym (kept_unnamed d done t.round (unnamed d _ t.repeats.at refl)))
+        (t.kept ∙ ap (λ v. numbers_of d v) t.repeats.seen ∙ sym (kept_unnamed d done t.round (unnamed d _ t.repeats.at refl)))
         limit (subst (λ (l : List Left). AreOwed l done coming.bits) t.is stands.owed)
         (passes is limit))
 

@@ -13,7 +13,7 @@ use Rattle.csn_judge.specs.declared.frame.Frame.{Frame}
 use Rattle.csn_judge.specs.declared.frame.Frame.TheVariants as frame
 use Rattle.csn_judge.specs.declared.leaf.Leaf.{Leaf}
 use Rattle.csn_judge.specs.declared.leaf.Read.TheVariants as read
-use Rattle.csn_judge.specs.declared.values.Value.{Value}
+use Rattle.csn_certify.specs.declared.numbers.Number.{Number}
 use Rattle.csn_judge.specs.declared.pace.Pace.{Pace}
 use Rattle.csn_judge.specs.declared.turn.Turn.{Turn}
 use Rattle.csn_judge.specs.declared.turn.Turn.TheVariants.{Moved, Waits, Refused}
@@ -23,7 +23,8 @@ use Rattle.csn_judge.specs.Told.{BitsTold, Tells, tells_none, tells_bit, tells_l
 use Rattle.csn_judge.specs.Left.{Left, none_left, Completes}
 use Rattle.csn_judge.specs.Remains.{Goes, Rest, Passes}
 use Rattle.csn_judge.specs.Inside.{IsStack, stack_end, stack_node, AreOwed}
-use Rattle.csn_judge.specs.Shown.{kept_of, seen_in, limit_in, Round, LeafShows, shows_lits, shows_spare, shows_pad, shows_field, shows_rest, Shows, shows_leaf}
+use Rattle.csn_certify.specs.KeptNumbers.{numbers_of}
+use Rattle.csn_judge.specs.Shown.{seen_in, limit_in, Round, LeafShows, shows_lits, shows_spare, shows_pad, shows_field, shows_rest, Shows, shows_leaf}
 use Rattle.csn_judge.specs.Reads.{MayBeLeft, may_lits, may_spare, may_pad, may_field, may_rest, AtLeaf, Takes, Stays, Keeps, Differs, ReadsLeaf}
 use Rattle.csn_judge.specs.Turns.{IsStopped, Turns, fresh_at, StateV, Stands, GoesOn, RefusesAt, around_of}
 use Rattle.csn_judge.proofs.StepFacts.{popped, steps_then}
@@ -75,15 +76,15 @@ module _ (d : DescV) where
 
   -- ---- a leaf
 
-  pub record LeafStands (i : ℕ) (form : Leaf) (frames : List Frame) (values : List Value) (stack : List Left) : Type 0 where
+  pub record LeafStands (i : ℕ) (form : Leaf) (frames : List Frame) (values : List Number) (stack : List Left) : Type 0 where
     pub outer : List Left
     pub left : Left
     pub is : stack ≡ left ∷ outer
     pub shows : LeafShows d i form left
-    pub kept : values ≡ kept_of d (seen_in outer)
+    pub kept : values ≡ numbers_of d (seen_in outer)
     pub round : Round d frames outer i
 
-  pub leaf_stands : {i : ℕ} {form : Leaf} {frames : List Frame} {values : List Value} {stack : List Left} {done : List ℕ}
+  pub leaf_stands : {i : ℕ} {form : Leaf} {frames : List Frame} {values : List Number} {stack : List Left} {done : List ℕ}
       → Shows d (frame.Leaf i form ∷ frames) values stack done → LeafStands i form frames values stack
   leaf_stands (shows_leaf shows kept round) = record { outer = _; left = _; is = refl; shows = shows; kept = kept; round = round }
 
@@ -110,7 +111,7 @@ module _ (d : DescV) where
   leaf_plain (shows_field unit count at) = unnamed d _ at refl
   leaf_plain (shows_rest at) = unnamed d _ at refl
 
-  module _ {S : Type 0} (takes : S → Move → Node → S → Type 0) (before after : S) (values : List Value) (pace : Pace) (old new : Coming) (i : ℕ) (frames : List Frame) (node : Node) where
+  module _ {S : Type 0} (takes : S → Move → Node → S → Type 0) (before after : S) (values : List Number) (pace : Pace) (old new : Coming) (i : ℕ) (frames : List Frame) (node : Node) where
     abbrev pub leaf_state : Leaf → StateV
     leaf_state form = record { frames = frame.Leaf i form ∷ frames; values = values; pace = pace; coming = old }
 
@@ -224,7 +225,7 @@ module _ (d : DescV) where
   short_stuck : {stack : List Left} {done : List ℕ} {coming : Coming} (bit : ℕ) (t : IsShort stack done coming) → Full t.outer done → coming.place ≡ coming.limit → ¬ Goes d stack done (bit ∷ [])
   short_stuck {done = done} bit t full closed g = let P : List Left → Type 0 = λ l. Goes d l done (bit ∷ []) in stuck d bit [] full (t.wants (inr closed)) (subst P t.is g)
 
-  module _ {S : Type 0} (takes : S → Move → Node → S → Type 0) (before : S) (values : List Value) (pace : Pace) (coming : Coming) (frames : List Frame) where
+  module _ {S : Type 0} (takes : S → Move → Node → S → Type 0) (before : S) (values : List Number) (pace : Pace) (coming : Coming) (frames : List Frame) where
     abbrev stopped_state : StateV
     stopped_state = record { frames = frames; values = values; pace = pace; coming = coming }
 
@@ -243,7 +244,7 @@ module _ (d : DescV) where
         at_limit (inl none) is = absurd (cc)
         at_limit (inr full) is = full
 
-  module _ {S : Type 0} (takes : S → Move → Node → S → Type 0) (before : S) (values : List Value) (pace : Pace) (coming : Coming) (i : ℕ) (frames : List Frame) where
+  module _ {S : Type 0} (takes : S → Move → Node → S → Type 0) (before : S) (values : List Number) (pace : Pace) (coming : Coming) (i : ℕ) (frames : List Frame) where
     abbrev leaf_here : Leaf → StateV
     leaf_here form = record { frames = frame.Leaf i form ∷ frames; values = values; pace = pace; coming = coming }
 
@@ -272,7 +273,7 @@ module _ (d : DescV) where
   may_be_left {node = node} at (shows_field unit count look) = let e : node ≡ Field unit count = cc in may_field e
   may_be_left {node = node} at (shows_rest look) = let e : node ≡ kind.Rest = cc in may_rest e
 
-  module _ {S : Type 0} (takes : S → Move → Node → S → Type 0) (before : S) (values : List Value) (pace : Pace) (old new : Coming) (i : ℕ) (frames : List Frame) (node : Node) where
+  module _ {S : Type 0} (takes : S → Move → Node → S → Type 0) (before : S) (values : List Number) (pace : Pace) (old new : Coming) (i : ℕ) (frames : List Frame) (node : Node) where
     abbrev leaf_from : Leaf → StateV
     leaf_from form = record { frames = frame.Leaf i form ∷ frames; values = values; pace = pace; coming = old }
 

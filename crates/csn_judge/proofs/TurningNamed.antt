@@ -14,7 +14,7 @@ use Rattle.csn_desc.specs.Formed.{is_counted}
 use Rattle.csn_judge.specs.declared.frame.Frame.{Frame}
 use Rattle.csn_judge.specs.declared.frame.Frame.TheVariants as frame
 use Rattle.csn_judge.specs.declared.leaf.Leaf.TheVariants as leaf
-use Rattle.csn_judge.specs.declared.values.Value.{Value}
+use Rattle.csn_certify.specs.declared.numbers.Number.{Number}
 use Rattle.csn_judge.specs.declared.pace.Pace.{Pace}
 use Rattle.csn_judge.specs.Known.{Known}
 use Rattle.csn_judge.specs.Coming.{Coming}
@@ -22,7 +22,8 @@ use Rattle.csn_judge.specs.Told.{tells_none, tells_enter}
 use Rattle.csn_judge.specs.Left.{Left, all_left, bits_left, none_left}
 use Rattle.csn_judge.specs.Remains.{Passes}
 use Rattle.csn_judge.specs.Inside.{IsStack, AreOwed}
-use Rattle.csn_judge.specs.Shown.{kept_of, limit_in, round_named, Shows, shows_begin, shows_counted}
+use Rattle.csn_certify.specs.KeptNumbers.{numbers_of}
+use Rattle.csn_judge.specs.Shown.{limit_in, round_named, Shows, shows_begin, shows_counted}
 use Rattle.csn_judge.specs.Turns.{StateV, fresh_at, begun_by, Stands, GoesOn}
 use Rattle.csn_judge.proofs.StepFacts.{split, replaced, none_taken, steps_then}
 use Rattle.csn_judge.proofs.Closing.{passes_of}
@@ -53,7 +54,7 @@ module _ (d : DescV) where
     pub rises : pace.next ≤ part
     pub room : length frames < 63
 
-  pub label_begins : {i part : ℕ} {label : List ℕ} {frames : List Frame} {values : List Value} {stack : List Left} {done : List ℕ} (pace : Pace) → Known d → slice_get d.nodes i ≡ Some (Named label part)
+  pub label_begins : {i part : ℕ} {label : List ℕ} {frames : List Frame} {values : List Number} {stack : List Left} {done : List ℕ} (pace : Pace) → Known d → slice_get d.nodes i ≡ Some (Named label part)
       → Shows d (frame.Begin i ∷ frames) values stack done → IsStack d pace.next (fresh_at pace (length done)) stack done → LabelBegins part frames pace
   label_begins {done = done} pace known at shows is =
       let t = begin_stands d shows in
@@ -66,7 +67,7 @@ module _ (d : DescV) where
       → IsStack d (begun_by part pace).next (fresh_at (begun_by part pace) (length done)) (bits_left (unit * width) ∷ none_left ∷ outer) done
   counted_stack {v = v} pace known at look is = field_stack d 12 known.description known.certified look refl (begun_of d (named_stack pace known at is))
 
-  module _ {S : Type 0} (takes : S → Move → Node → S → Type 0) (first : S) (values : List Value) (pace : Pace) (coming : Coming) (i : ℕ) (frames : List Frame) where
+  module _ {S : Type 0} (takes : S → Move → Node → S → Type 0) (first : S) (values : List Number) (pace : Pace) (coming : Coming) (i : ℕ) (frames : List Frame) where
     abbrev begin_state : StateV
     begin_state = record { frames = frame.Begin i ∷ frames; values = values; pace = pace; coming = coming }
 
@@ -88,7 +89,7 @@ module _ (d : DescV) where
     -- a field that it stands before is entered with it
     pub field_goes_on : {part unit n m : ℕ} {count : Count} {middle after : S} {stack : List Left} {done : List ℕ} (label : List ℕ) (node : Node) → Known d → is_counted d.nodes i ≡ false → slice_get d.nodes i ≡ Some (Named label part)
         → slice_get d.nodes i ≡ Some node → takes first (Enter i) node middle → slice_get d.nodes part ≡ Some (Field unit count) → takes middle (Enter part) (Field unit count) after
-        → ((v : Values) → values ≡ kept_of d v → count_of v count ≡ Some n) → m ≡ unit * n → Stands d begin_state stack done
+        → ((v : Values) → values ≡ numbers_of d v → count_of v count ≡ Some n) → m ≡ unit * n → Stands d begin_state stack done
         → GoesOn d takes begin_state (record { frames = frame.Leaf part (leaf.Field m) ∷ frame.Named i ∷ frames; values = values; pace = begun_by part pace; coming = coming }) first after stack done
     field_goes_on {part} {unit} {n} {m} {count} {middle} label node known alone at look took field_at told counts size stands =
         let on = label_goes_on label node known alone at look took stands in
@@ -111,7 +112,7 @@ module _ (d : DescV) where
         let P : List Left → Type 0 = λ l. GoesOn d takes begin_state (record { frames = frame.Counted (record { node = i; part = part; left = unit * width; number = 0 }) ∷ frames; values = values; pace = begun_by part pace; coming = coming }) first after l done in
         subst P (sym t.is)
         (still d takes first values pace coming (begun_by part pace) stands.place
-        (shows_counted label unit width (length done) at width_at counted began none (omega arith) refl (omega (arith, (counted_width d known i label counted at width_at).0)) refl (t.kept ∙ ap (λ v. kept_of d v) t.seen) t.round)
+        (shows_counted label unit width (length done) at width_at counted began none (omega arith) refl (omega (arith, (counted_width d known i label counted at width_at).0)) refl (t.kept ∙ ap (λ v. numbers_of d v) t.seen) t.round)
         (counted_stack pace known at width_at is)
         (stands.limit ∙ ap (λ (l : List Left). limit_in l) t.is)
         (subst (λ (l : List Left). AreOwed l done coming.bits) t.is stands.owed)

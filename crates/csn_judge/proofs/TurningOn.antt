@@ -10,7 +10,7 @@ use Rattle.csn_judge.specs.declared.turn.Turn.TheVariants.{Moved, Waits, Refused
 use Rattle.csn_judge.specs.Told.{Tells, tells_none, tells_enter, tells_bit, tells_leave}
 use Rattle.csn_judge.specs.Left.{Left}
 use Rattle.csn_judge.specs.declared.frame.Frame.TheVariants as frame
-use Rattle.csn_judge.specs.declared.values.Value.{Value}
+use Rattle.csn_certify.specs.declared.numbers.Number.{Number}
 use Rattle.csn_judge.specs.declared.pace.Pace.{Pace}
 use Rattle.csn_judge.specs.Coming.{Coming}
 use Rattle.csn_judge.specs.Remains.{Rest, Goes, Passes, shorter}
@@ -136,10 +136,10 @@ module _ (d : DescV) where
     quietly old new turn turns = turns_as d tells_nothing takes old old new tt tt s s refl refl (λ moves around told. none_told told) turn (λ stack done stands. stands) turns
 
   -- where nothing is open no bit is taken
-  shows_nothing : {values : List Value} {stack : List Left} {done : List ℕ} → Shows d [] values stack done → stack ≡ []
+  shows_nothing : {values : List Number} {stack : List Left} {done : List ℕ} → Shows d [] values stack done → stack ≡ []
   shows_nothing (shows_none kept) = refl
 
-  pub stops_behind : {S : Type 0} (takes : S → Move → Node → S → Type 0) (s : S) (values : List Value) (pace : Pace) (coming : Coming) (turn : Turn) → IsStopped coming turn → Known d
+  pub stops_behind : {S : Type 0} (takes : S → Move → Node → S → Type 0) (s : S) (values : List Number) (pace : Pace) (coming : Coming) (turn : Turn) → IsStopped coming turn → Known d
       → Turns d takes (record { frames = []; values = values; pace = pace; coming = coming }) (record { frames = []; values = values; pace = pace; coming = coming }) s s turn
   stops_behind takes s values pace coming turn stopped known =
       stops d takes s values pace coming [] turn stopped known
@@ -147,8 +147,8 @@ module _ (d : DescV) where
       (λ stack done stands ended. inl refl)
 
   -- the frames of choices and labels are those of nodes
-  pub choice_within : {k : ℕ} {frames : List Frame} {values : List Value} {stack : List Left} {done : List ℕ} → Shows d (frame.Choice k ∷ frames) values stack done → k < length d.nodes
+  pub choice_within : {k : ℕ} {frames : List Frame} {values : List Number} {stack : List Left} {done : List ℕ} → Shows d (frame.Choice k ∷ frames) values stack done → k < length d.nodes
   choice_within {k} (shows_taken i is kept round) = slice_get_within d.nodes k _ is.at
 
-  pub label_within : {k : ℕ} {frames : List Frame} {values : List Value} {stack : List Left} {done : List ℕ} → Shows d (frame.Named k ∷ frames) values stack done → k < length d.nodes
+  pub label_within : {k : ℕ} {frames : List Frame} {values : List Number} {stack : List Left} {done : List ℕ} → Shows d (frame.Named k ∷ frames) values stack done → k < length d.nodes
   label_within {k} (shows_labelled i is kept round) = slice_get_within d.nodes k _ is.at

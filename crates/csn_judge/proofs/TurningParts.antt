@@ -11,14 +11,15 @@ use Rattle.csn_desc.specs.Values.{Values, with_value, is_named}
 use Rattle.csn_desc.specs.Formed.{is_counted}
 use Rattle.csn_judge.specs.declared.frame.Frame.{Frame}
 use Rattle.csn_judge.specs.declared.frame.Frame.TheVariants as frame
-use Rattle.csn_judge.specs.declared.values.Value.{Value}
+use Rattle.csn_certify.specs.declared.numbers.Number.{Number}
 use Rattle.csn_judge.specs.declared.pace.Pace.{Pace}
 use Rattle.csn_judge.specs.Known.{Known}
 use Rattle.csn_judge.specs.Coming.{Coming}
 use Rattle.csn_judge.specs.Told.{tells_none}
 use Rattle.csn_judge.specs.Left.{Left, all_left, none_left, parts_left, behind}
 use Rattle.csn_judge.specs.Inside.{IsStack, stack_node, AreOwed, of_parts, of_read}
-use Rattle.csn_judge.specs.Shown.{kept_of, limit_in, SeesMore, HasNext, Round, round_seq, Shows, shows_begin, shows_parts}
+use Rattle.csn_certify.specs.KeptNumbers.{numbers_of}
+use Rattle.csn_judge.specs.Shown.{limit_in, SeesMore, HasNext, Round, round_seq, Shows, shows_begin, shows_parts}
 use Rattle.csn_judge.specs.Turns.{fresh_at, begun_by, Stands, GoesOn}
 use Rattle.csn_judge.proofs.StepFacts.{split, replaced, none_taken, alike}
 use Rattle.csn_judge.proofs.Parts.{next_part}
@@ -40,9 +41,9 @@ none_there before [] i all = refl
 none_there before (k ∷ after) i all = absurd (omega (arith, all, length-append before (i ∷ k ∷ after)))
 
 module _ (d : DescV) where
-  kept_more : (count i : ℕ) (b : List ℕ) (v : Values) (labelled counted : Bool) → count ≤ length (kept_of d v)
-      → take count (if labelled then (if counted then kept_of d v ++ record { field = i; number = number_of b } ∷ [] else kept_of d v) else kept_of d v) ≡ take count (kept_of d v)
-  kept_more count i b v true true few = take-append-le count (kept_of d v) (record { field = i; number = number_of b } ∷ []) few
+  kept_more : (count i : ℕ) (b : List ℕ) (v : Values) (labelled counted : Bool) → count ≤ length (numbers_of d v)
+      → take count (if labelled then (if counted then numbers_of d v ++ record { field = i; value = number_of b } ∷ [] else numbers_of d v) else numbers_of d v) ≡ take count (numbers_of d v)
+  kept_more count i b v true true few = take-append-le count (numbers_of d v) (record { field = i; value = number_of b } ∷ []) few
   kept_more count i b v true false few = refl
   kept_more count i b v false counted few = refl
 
@@ -50,14 +51,14 @@ module _ (d : DescV) where
   pub sees_more : {outer : List Left} {count : ℕ} {v : Values} (i : ℕ) (b : List ℕ) → SeesMore d outer count v → SeesMore d outer count (with_value d.nodes i b v)
   sees_more {outer} {count} {v} i b more = record { count_is = more.count_is; same = by (is_named d.nodes i) ∙ more.same }
     where
-      few : count ≤ length (kept_of d v)
-      few = omega (arith, more.count_is, ap (λ (l : List Value). length l) more.same, length-take count (kept_of d v))
+      few : count ≤ length (numbers_of d v)
+      few = omega (arith, more.count_is, ap (λ (l : List Number). length l) more.same, length-take count (numbers_of d v))
 
-      by : (labelled : Bool) → take count (kept_of d (if labelled then (i, b) ∷ v else v)) ≡ take count (kept_of d v)
+      by : (labelled : Bool) → take count (numbers_of d (if labelled then (i, b) ∷ v else v)) ≡ take count (numbers_of d v)
       by true = kept_more count i b v true (is_counted d.nodes i) few
       by false = refl
 
-  pub record PartsStand (k next count : ℕ) (frames : List Frame) (values : List Value) (stack : List Left) (done : List ℕ) : Type 0 where
+  pub record PartsStand (k next count : ℕ) (frames : List Frame) (values : List Number) (stack : List Left) (done : List ℕ) : Type 0 where
     pub outer : List Left
     pub i : ℕ
     pub from : ℕ
@@ -66,10 +67,10 @@ module _ (d : DescV) where
     pub parts : List ℕ
     pub is : stack ≡ parts_left i from after v ∷ outer
     pub has : HasNext d (Seq parts) parts k next count i after v outer
-    pub kept : values ≡ kept_of d (behind d i from v done)
+    pub kept : values ≡ numbers_of d (behind d i from v done)
     pub round : Round d frames outer k
 
-  pub parts_stand : {k next count : ℕ} {frames : List Frame} {values : List Value} {stack : List Left} {done : List ℕ}
+  pub parts_stand : {k next count : ℕ} {frames : List Frame} {values : List Number} {stack : List Left} {done : List ℕ}
       → Shows d (frame.Seq k next count ∷ frames) values stack done → PartsStand k next count frames values stack done
   parts_stand (shows_parts parts has kept round) =
       record { outer = _; i = _; from = _; after = _; v = _; parts = parts; is = refl; has = has; kept = kept; round = round }
@@ -99,7 +100,7 @@ module _ (d : DescV) where
     pub room : length frames < 63
 
   pub next_begins :
-      {k next count j : ℕ} {frames : List Frame} {values : List Value} {stack : List Left} {done : List ℕ} (pace : Pace) (parts : List ℕ)
+      {k next count j : ℕ} {frames : List Frame} {values : List Number} {stack : List Left} {done : List ℕ} (pace : Pace) (parts : List ℕ)
       → slice_get d.nodes k ≡ Some (Seq parts) → slice_get parts next ≡ Some j
       → Known d → Shows d (frame.Seq k next count ∷ frames) values stack done → IsStack d pace.next (fresh_at pace (length done)) stack done → NextBegins pace j frames
   next_begins {k} {next} {count} {j} {frames} {values} {stack} {done} pace parts at here known shows is =
@@ -115,7 +116,7 @@ module _ (d : DescV) where
         room = omega (arith, room d stack_is, round_length d t.round);
       }
 
-  module _ {S : Type 0} (takes : S → Move → Node → S → Type 0) (before : S) (values : List Value) (pace : Pace) (coming : Coming) where
+  module _ {S : Type 0} (takes : S → Move → Node → S → Type 0) (before : S) (values : List Number) (pace : Pace) (coming : Coming) where
     -- the next part of a sequence begins
     pub begins_next :
         {k next count j : ℕ} {frames : List Frame} {stack : List Left} {done : List ℕ} (parts : List ℕ)

@@ -4,7 +4,7 @@ use Rattle.csn_desc.specs.declared.moves.Move.{Move}
 use Rattle.csn_desc.specs.declared.node.Node.{Node}
 use Rattle.csn_desc.specs.Nodes.{DescV}
 use Rattle.csn_judge.specs.declared.frame.Frame.{Frame}
-use Rattle.csn_judge.specs.declared.values.Value.{Value}
+use Rattle.csn_certify.specs.declared.numbers.Number.{Number}
 use Rattle.csn_judge.specs.declared.pace.Pace.{Pace}
 use Rattle.csn_judge.specs.declared.turn.Turn.{Turn}
 use Rattle.csn_judge.specs.declared.turn.Turn.TheVariants.{Moved, Waits, Refused}
@@ -62,7 +62,7 @@ module _ (d : DescV) {S T : Type 0} (takes : S → Move → Node → S → Type 
         tells = told refuses.made refuses.around refuses.tells;
       }
 
-module _ (d : DescV) {S : Type 0} (takes : S → Move → Node → S → Type 0) (before after : S) (frames : List Frame) (values : List Value) (pace : Pace) {first second : Coming} (same : IsSame first second) where
+module _ (d : DescV) {S : Type 0} (takes : S → Move → Node → S → Type 0) (before after : S) (frames : List Frame) (values : List Number) (pace : Pace) {first second : Coming} (same : IsSame first second) where
   pub stands_on : {stack : List Left} {done : List ℕ} → Stands d (state d takes before values pace first frames) stack done → Stands d (state d takes before values pace second frames) stack done
   stands_on {stack} {done} stands =
       record {
@@ -84,7 +84,7 @@ module _ (d : DescV) {S : Type 0} (takes : S → Move → Node → S → Type 0)
   turns_since new turn turns =
       turns_as d takes takes (state d takes before values pace second frames) (state d takes before values pace first frames) new before after before after same.bits same.ended (λ moves around told. told) turn (λ stack done stands. stands_on stands) turns
 
-module _ (d : DescV) {S : Type 0} (takes : S → Move → Node → S → Type 0) (before : S) (values : List Value) (pace : Pace) (coming : Coming) where
+module _ (d : DescV) {S : Type 0} (takes : S → Move → Node → S → Type 0) (before : S) (values : List Number) (pace : Pace) (coming : Coming) where
   -- what is open waits for a bit
   pub waits_here : (frames : List Frame) → Known d → coming.bits ≡ [] → coming.held ≡ 0 → coming.ended ≡ false → coming.place ≤ coming.limit
       → Turns d takes (state d takes before values pace coming frames) (state d takes before values pace coming frames) before before Waits

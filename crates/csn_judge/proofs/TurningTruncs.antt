@@ -5,15 +5,16 @@ use Rattle.csn_desc.specs.declared.moves.Move.{Move}
 use Rattle.csn_desc.specs.declared.moves.Move.TheVariants.{Leave}
 use Rattle.csn_desc.specs.declared.node.Node.{Node}
 use Rattle.csn_desc.specs.declared.node.Node.TheVariants.{Trunc}
-use Rattle.csn_desc.specs.Nodes.{DescV, head_of, parts_of}
+use Rattle.csn_desc.specs.Nodes.{DescV}
 use Rattle.csn_desc.specs.Values.{Values}
-use Rattle.csn_desc.specs.Formed.{Formed, formed, HasParts}
+use Rattle.csn_desc.specs.Formed.{Formed, formed}
 use Rattle.csn_desc.specs.Follows.{NFollow}
 use Rattle.csn_look.specs.Ends.{parts_end}
 use Rattle.csn_look.proofs.Meaning.ReachFacts.{parts_end_more}
 use Rattle.csn_judge.specs.declared.frame.Frame.{Frame}
 use Rattle.csn_judge.specs.declared.frame.Frame.TheVariants as frame
-use Rattle.csn_judge.specs.declared.values.Value.{Value}
+use Rattle.csn_desc.proofs.Nodewise.{parts_there}
+use Rattle.csn_certify.specs.declared.numbers.Number.{Number}
 use Rattle.csn_judge.specs.declared.pace.Pace.{Pace}
 use Rattle.csn_judge.specs.Known.{Known}
 use Rattle.csn_judge.specs.Coming.{Coming, IsGood}
@@ -21,7 +22,8 @@ use Rattle.csn_judge.specs.Told.{tells_none}
 use Rattle.csn_judge.specs.Left.{Left, all_left, none_left, cut_left, lead_left, behind}
 use Rattle.csn_judge.specs.Remains.{Within, Steps, Passes}
 use Rattle.csn_judge.specs.Inside.{IsStack, stack_node, AreOwed, of_all, of_cut, of_lead, of_read}
-use Rattle.csn_judge.specs.Shown.{kept_of, seen_in, limit_in, SeesMore, HasNext, Round, round_trunc, Shows, shows_begin, shows_cut, shows_lead}
+use Rattle.csn_certify.specs.KeptNumbers.{numbers_of}
+use Rattle.csn_judge.specs.Shown.{seen_in, limit_in, SeesMore, HasNext, Round, round_trunc, Shows, shows_begin, shows_cut, shows_lead}
 use Rattle.csn_judge.specs.Turns.{fresh_at, begun_by, Stands, GoesOn}
 use Rattle.csn_judge.proofs.StepFacts.{replaced, none_taken, alike}
 use Rattle.csn_judge.proofs.Closing.{passes_of, cut_ends, lead_ends}
@@ -36,22 +38,19 @@ use Rattle.csn_judge.proofs.TurningParts.{next_there, none_there, sees_more}
 module _ (d : DescV) where
   -- a truncation has components
   has_components : {seen : List ℕ} {round k : ℕ} (parts : List ℕ) → slice_get d.nodes k ≡ Some (Trunc parts) → Formed d.nodes seen round k → 1 ≤ length parts
-  has_components parts at (formed n here few head have bound others) =
-      let same : n ≡ Trunc parts = cc in
-      let P : Node → Type 0 = λ m. HasParts (head_of m) (length (parts_of m)) in
-      subst P same have
+  has_components parts at is = parts_there d.nodes at is
 
-  pub data TruncStands (k next count : ℕ) (frames : List Frame) (values : List Value) (stack : List Left) (done : List ℕ) : Type 0 where
+  pub data TruncStands (k next count : ℕ) (frames : List Frame) (values : List Number) (stack : List Left) (done : List ℕ) : Type 0 where
     stands_cut :
         (outer : List Left) (parts : List ℕ) (v : Values) → stack ≡ cut_left parts v ∷ outer
-        → slice_get d.nodes k ≡ Some (Trunc parts) → next ≡ 0 → v ≡ seen_in outer → values ≡ kept_of d v → count ≡ length values
+        → slice_get d.nodes k ≡ Some (Trunc parts) → next ≡ 0 → v ≡ seen_in outer → values ≡ numbers_of d v → count ≡ length values
         → Round d frames outer k → TruncStands k next count frames values stack done
     stands_lead :
         (outer : List Left) (i from : ℕ) (after : List ℕ) (v : Values) (parts : List ℕ) → stack ≡ lead_left i from after v ∷ outer
-        → HasNext d (Trunc parts) parts k next count i after v outer → values ≡ kept_of d (behind d i from v done)
+        → HasNext d (Trunc parts) parts k next count i after v outer → values ≡ numbers_of d (behind d i from v done)
         → Round d frames outer k → TruncStands k next count frames values stack done
 
-  pub trunc_stands : {k next count : ℕ} {frames : List Frame} {values : List Value} {stack : List Left} {done : List ℕ}
+  pub trunc_stands : {k next count : ℕ} {frames : List Frame} {values : List Number} {stack : List Left} {done : List ℕ}
       → Shows d (frame.Trunc k next count ∷ frames) values stack done → TruncStands k next count frames values stack done
   trunc_stands (shows_cut at seen kept count_is round) = stands_cut _ _ _ refl at refl seen kept count_is round
   trunc_stands (shows_lead parts has kept round) = stands_lead _ _ _ _ _ parts refl has kept round
@@ -100,7 +99,7 @@ module _ (d : DescV) where
       (of_read (truncation_read d 12 known.description known.certified parts (before ++ i ∷ []) after at (parted ∙ sym (append_assoc before (i ∷ []) after)) (parts_end_more d so_far read.ends) (omega (arith, order, read.order)))
       (up_part d before i after at parted up)) inner
 
-  module _ {S : Type 0} (takes : S → Move → Node → S → Type 0) (before : S) (values : List Value) (pace : Pace) (coming : Coming) where
+  module _ {S : Type 0} (takes : S → Move → Node → S → Type 0) (before : S) (values : List Number) (pace : Pace) (coming : Coming) where
     on_bits : {old new : List Left} {done : List ℕ} (bits : List ℕ) (bit : ℕ) (more : List ℕ) → bits ≡ bit ∷ more → Steps d old new done [] (bit ∷ more) [] → Steps d old new done [] bits []
     on_bits {old} {new} {done} bits bit more e steps =
         let P : List ℕ → Type 0 = λ l. Steps d old new done [] l [] in
@@ -145,7 +144,7 @@ module _ (d : DescV) where
               before = [];
               is = found.1;
               next_is = omega (arith, none);
-              more = record { count_is = count_is ∙ ap (λ l. length l) (kept ∙ ap (λ w. kept_of d w) seen); same = ap (λ n. take n (kept_of d v)) (count_is ∙ ap (λ l. length l) kept) ∙ take_all (length (kept_of d v)) (kept_of d v) (omega arith) ∙ ap (λ w. kept_of d w) seen };
+              more = record { count_is = count_is ∙ ap (λ l. length l) (kept ∙ ap (λ w. numbers_of d w) seen); same = ap (λ n. take n (numbers_of d v)) (count_is ∙ ap (λ l. length l) kept) ∙ take_all (length (numbers_of d v)) (numbers_of d v) (omega arith) ∙ ap (λ w. numbers_of d w) seen };
             } in
             subst P (sym there)
             (still d takes before values pace coming (begun_by j pace) stands.place (shows_begin refl kept (round_trunc others later round))
@@ -193,7 +192,7 @@ module _ (d : DescV) where
         {k next count i from : ℕ} {rest : List ℕ} {v : Values} {frames : List Frame} {after : S} {stack outer : List Left} {done : List ℕ} (parts : List ℕ)
         → slice_get d.nodes k ≡ Some (Trunc parts) → takes before Leave (Trunc parts) after
         → Known d → Stands d (state d takes before values pace coming (frame.Trunc k next count ∷ frames)) stack done
-        → stack ≡ lead_left i from rest v ∷ outer → SeesMore d outer count v → values ≡ kept_of d (behind d i from v done) → Round d frames outer k
+        → stack ≡ lead_left i from rest v ∷ outer → SeesMore d outer count v → values ≡ numbers_of d (behind d i from v done) → Round d frames outer k
         → (IsStack d pace.next (fresh_at pace (length done)) (lead_left i from rest v ∷ outer) done → coming.limit ≡ limit_in outer
         → (from < length done) ⊎ ((0 < length coming.bits) × Within outer (suc (length done)))
         → Passes d coming.ended (lead_left i from rest v ∷ outer) (none_left ∷ outer) done [] coming.bits [])
@@ -239,7 +238,7 @@ module _ (d : DescV) where
             subst P (sym is)
             (leaves d takes before values pace coming (Trunc parts) known at told refl stands.place
             (cut_done known stack_is) round
-            (all ∙ kept ∙ ap (λ w. kept_of d w) seen ∙ sym (kept_unnamed d done round (unnamed d _ at refl)))
+            (all ∙ kept ∙ ap (λ w. numbers_of d w) seen ∙ sym (kept_unnamed d done round (unnamed d _ at refl)))
             limit (subst (λ (l : List Left). AreOwed l done coming.bits) is stands.owed)
             (closed_passes d good closed stands.place limit (cut_ends d others v done)))
         by (stands_lead outer i from rest v others is has kept round) =
@@ -306,7 +305,7 @@ module _ (d : DescV) where
         let on = begins_component parts found.0 found.1 at here found.2 less known stands in
         by on.stands.shows on.stands.stack_is
       where
-        by : {w : List Value} {now : List Left} {then : List ℕ} → Shows d (frame.Begin j ∷ frame.Trunc k (next + 1) count ∷ frames) w now then
+        by : {w : List Number} {now : List Left} {then : List ℕ} → Shows d (frame.Begin j ∷ frame.Trunc k (next + 1) count ∷ frames) w now then
             → IsStack d (begun_by j pace).next (fresh_at (begun_by j pace) (length then)) now then → ComponentBegins j frames
         by (shows_begin seen kept round) is =
             record { within = omega (arith, begun_within d is, known.description.few); room = omega (arith, room d is, round_length d round) }

@@ -9,4 +9,5 @@ pub mod Turns
 pub mod Credit
 pub mod Reads
 pub mod Judging
+pub mod Following
 pub mod Picked

@@ -1,5 +1,5 @@
 -- How the frames of the machine show what is left of the nodes that are open. (This project's own choice.)
-use Rattle.std.specs.Prelude.{◌≡◌, ℕ, suc, ◌+◌, ◌*◌, ◌<◌, ◌≤◌, Bool, true, false, if◌then◌else◌, List, [], ◌∷◌, ◌++◌, length, take, drop, min, slice_get, ◌==◌, Option, Some, None}
+use Rattle.std.specs.Prelude.{◌≡◌, ℕ, suc, ◌+◌, ◌*◌, ◌<◌, ◌≤◌, Bool, true, false, List, [], ◌∷◌, ◌++◌, length, take, drop, min, slice_get, Some}
 use Rattle.csn_desc.specs.declared.symbol.Symbol.{Symbol}
 use Rattle.csn_desc.specs.declared.node.Count.{Count}
 use Rattle.csn_desc.specs.declared.node.Count.TheVariants.{Fixed}
@@ -9,13 +9,13 @@ use Rattle.csn_desc.specs.Nodes.{DescV}
 use Rattle.csn_bits.specs.Numbers.{number_of}
 use Rattle.csn_desc.specs.Values.{Values}
 use Rattle.csn_desc.specs.Formed.{is_counted}
-use Rattle.csn_certify.specs.CountedValues.{HasNumber}
+use Rattle.csn_certify.specs.KeptNumbers.{numbers_of}
 use Rattle.csn_judge.specs.declared.frame.Frame.{Frame}
 use Rattle.csn_judge.specs.declared.frame.Frame.TheVariants as frame
 use Rattle.csn_judge.specs.declared.frame.Counted.{Counted as CountedFrame}
 use Rattle.csn_judge.specs.declared.leaf.Leaf.{Leaf}
 use Rattle.csn_judge.specs.declared.leaf.Leaf.TheVariants as leaf
-use Rattle.csn_judge.specs.declared.values.Value.{Value}
+use Rattle.csn_certify.specs.declared.numbers.Number.{Number}
 use Rattle.csn_judge.specs.Left.{Left, all_left, bits_left, symbols_left, spare_left, pad_left, rest_left, choice_left, none_left, window_left, parts_left, turns_left, free_left, cut_left, lead_left, behind}
 
 -- the values that a part sees which is read inside these open nodes
@@ -33,26 +33,7 @@ limit_in [] = 4294967295
 limit_in (window_left end ∷ outer) = min (limit_in outer) end
 limit_in (_ ∷ outer) = limit_in outer
 
--- the first number that there is of a field
-abbrev pub number_in : ℕ → List Value → Option ℕ
-number_in field [] = None
-number_in field (value ∷ others) = if value.field == field then Some value.number else number_in field others
-
 module _ (d : DescV) where
-  -- the numbers of values that counts stand on, the last one last
-  abbrev pub kept_of : Values → List Value
-  kept_of [] = []
-  kept_of (last ∷ earlier) =
-      if is_counted d.nodes last.0
-      then kept_of earlier ++ record { field = last.0; number = number_of last.1 } ∷ []
-      else kept_of earlier
-
-  -- the values that are kept are those by which a count is a number
-  pub record KeepsCount (values : List Value) (count : Count) : Type 0 where
-    pub v : Values
-    pub kept : values ≡ kept_of v
-    pub has : HasNumber d v count
-
   -- what is seen behind a part that is read inside these open nodes
   abbrev pub seen_behind : List Left → List ℕ → Values
   seen_behind (parts_left i from after v ∷ outer) done = behind d i from v done
@@ -61,8 +42,8 @@ module _ (d : DescV) where
 
   -- these are the values that a node sees, where so many of them were there outside it
   pub record SeesMore (outer : List Left) (count : ℕ) (v : Values) : Type 0 where
-    pub count_is : count ≡ length (kept_of (seen_in outer))
-    pub same : take count (kept_of v) ≡ kept_of (seen_in outer)
+    pub count_is : count ≡ length (numbers_of d (seen_in outer))
+    pub same : take count (numbers_of d v) ≡ numbers_of d (seen_in outer)
 
   -- ---- a node k with parts, and what is left of it behind a part i that is read inside it
 
@@ -152,60 +133,60 @@ module _ (d : DescV) where
 
   -- the frames, the innermost first, with the values that they see, show what is left of the open nodes behind the
   -- bits `done`
-  pub data Shows : List Frame → List Value → List Left → List ℕ → Type 0 where
-    shows_none : {values : List Value} {done : List ℕ} → values ≡ [] → Shows [] values [] done
+  pub data Shows : List Frame → List Number → List Left → List ℕ → Type 0 where
+    shows_none : {values : List Number} {done : List ℕ} → values ≡ [] → Shows [] values [] done
     shows_begin :
-        {frames : List Frame} {outer : List Left} {i : ℕ} {v : Values} {values : List Value} {done : List ℕ}
-        → v ≡ seen_in outer → values ≡ kept_of v → Round frames outer i
+        {frames : List Frame} {outer : List Left} {i : ℕ} {v : Values} {values : List Number} {done : List ℕ}
+        → v ≡ seen_in outer → values ≡ numbers_of d v → Round frames outer i
         → Shows (frame.Begin i ∷ frames) values (all_left i v ∷ outer) done
     shows_leaf :
-        {frames : List Frame} {outer : List Left} {i : ℕ} {form : Leaf} {left : Left} {values : List Value} {done : List ℕ}
-        → LeafShows i form left → values ≡ kept_of (seen_in outer) → Round frames outer i
+        {frames : List Frame} {outer : List Left} {i : ℕ} {form : Leaf} {left : Left} {values : List Number} {done : List ℕ}
+        → LeafShows i form left → values ≡ numbers_of d (seen_in outer) → Round frames outer i
         → Shows (frame.Leaf i form ∷ frames) values (left ∷ outer) done
     shows_counted :
-        {frames : List Frame} {outer : List Left} {counted : CountedFrame} {n : ℕ} {values : List Value} {done : List ℕ}
+        {frames : List Frame} {outer : List Left} {counted : CountedFrame} {n : ℕ} {values : List Number} {done : List ℕ}
         (label : List ℕ) (unit width from : ℕ) → slice_get d.nodes counted.node ≡ Some (Named label counted.part)
         → slice_get d.nodes counted.part ≡ Some (Field unit (Fixed width)) → is_counted d.nodes counted.node ≡ true
         → BeganAt counted.node from outer → counted.number ≡ number_of (drop from done)
         → from ≤ length done → length done + counted.left ≡ from + unit * width → 0 < counted.left → n ≡ counted.left
-        → values ≡ kept_of (seen_in outer) → Round frames outer counted.node
+        → values ≡ numbers_of d (seen_in outer) → Round frames outer counted.node
         → Shows (frame.Counted counted ∷ frames) values (bits_left n ∷ none_left ∷ outer) done
     shows_open :
-        {frames : List Frame} {outer : List Left} {i : ℕ} {parts : List ℕ} {v : Values} {values : List Value} {done : List ℕ}
-        → slice_get d.nodes i ≡ Some (Choice parts) → v ≡ seen_in outer → values ≡ kept_of v → Round frames outer i
+        {frames : List Frame} {outer : List Left} {i : ℕ} {parts : List ℕ} {v : Values} {values : List Number} {done : List ℕ}
+        → slice_get d.nodes i ≡ Some (Choice parts) → v ≡ seen_in outer → values ≡ numbers_of d v → Round frames outer i
         → Shows (frame.Open i ∷ frames) values (choice_left parts v ∷ outer) done
     shows_cut :
-        {frames : List Frame} {outer : List Left} {i count : ℕ} {parts : List ℕ} {v : Values} {values : List Value} {done : List ℕ}
-        → slice_get d.nodes i ≡ Some (Trunc parts) → v ≡ seen_in outer → values ≡ kept_of v → count ≡ length values
+        {frames : List Frame} {outer : List Left} {i count : ℕ} {parts : List ℕ} {v : Values} {values : List Number} {done : List ℕ}
+        → slice_get d.nodes i ≡ Some (Trunc parts) → v ≡ seen_in outer → values ≡ numbers_of d v → count ≡ length values
         → Round frames outer i
         → Shows (frame.Trunc i 0 count ∷ frames) values (cut_left parts v ∷ outer) done
     shows_lead :
-        {frames : List Frame} {outer : List Left} {k next count i from : ℕ} {after : List ℕ} {v : Values} {values : List Value} {done : List ℕ}
+        {frames : List Frame} {outer : List Left} {k next count i from : ℕ} {after : List ℕ} {v : Values} {values : List Number} {done : List ℕ}
         (parts : List ℕ) → HasNext (Trunc parts) parts k next count i after v outer
-        → values ≡ kept_of (behind d i from v done) → Round frames outer k
+        → values ≡ numbers_of d (behind d i from v done) → Round frames outer k
         → Shows (frame.Trunc k next count ∷ frames) values (lead_left i from after v ∷ outer) done
     shows_parts :
-        {frames : List Frame} {outer : List Left} {k next count i from : ℕ} {after : List ℕ} {v : Values} {values : List Value} {done : List ℕ}
+        {frames : List Frame} {outer : List Left} {k next count i from : ℕ} {after : List ℕ} {v : Values} {values : List Number} {done : List ℕ}
         (parts : List ℕ) → HasNext (Seq parts) parts k next count i after v outer
-        → values ≡ kept_of (behind d i from v done) → Round frames outer k
+        → values ≡ numbers_of d (behind d i from v done) → Round frames outer k
         → Shows (frame.Seq k next count ∷ frames) values (parts_left i from after v ∷ outer) done
     shows_turns :
-        {frames : List Frame} {outer : List Left} {k i n : ℕ} {v : Values} {values : List Value} {done : List ℕ}
-        → Repeats k i v outer → values ≡ kept_of v → Round frames outer k
+        {frames : List Frame} {outer : List Left} {k i n : ℕ} {v : Values} {values : List Number} {done : List ℕ}
+        → Repeats k i v outer → values ≡ numbers_of d v → Round frames outer k
         → Shows (frame.Times k i n ∷ frames) values (turns_left n i v ∷ outer) done
     shows_free :
-        {frames : List Frame} {outer : List Left} {k i : ℕ} {v : Values} {values : List Value} {done : List ℕ}
-        → RepeatsFreely k i v outer → values ≡ kept_of v → Round frames outer k
+        {frames : List Frame} {outer : List Left} {k i : ℕ} {v : Values} {values : List Number} {done : List ℕ}
+        → RepeatsFreely k i v outer → values ≡ numbers_of d v → Round frames outer k
         → Shows (frame.Many k i ∷ frames) values (free_left i v ∷ outer) done
     shows_taken :
-        {frames : List Frame} {outer : List Left} {k : ℕ} {values : List Value} {done : List ℕ}
-        (i : ℕ) → TakesAlternative k i → values ≡ kept_of (seen_in outer) → Round frames outer k
+        {frames : List Frame} {outer : List Left} {k : ℕ} {values : List Number} {done : List ℕ}
+        (i : ℕ) → TakesAlternative k i → values ≡ numbers_of d (seen_in outer) → Round frames outer k
         → Shows (frame.Choice k ∷ frames) values (none_left ∷ outer) done
     shows_labelled :
-        {frames : List Frame} {outer : List Left} {k : ℕ} {values : List Value} {done : List ℕ}
-        (i : ℕ) → LabelsAlone k i → values ≡ kept_of (seen_in outer) → Round frames outer k
+        {frames : List Frame} {outer : List Left} {k : ℕ} {values : List Number} {done : List ℕ}
+        (i : ℕ) → LabelsAlone k i → values ≡ numbers_of d (seen_in outer) → Round frames outer k
         → Shows (frame.Named k ∷ frames) values (none_left ∷ outer) done
     shows_window :
-        {frames : List Frame} {outer : List Left} {k start bits end limit : ℕ} {values : List Value} {done : List ℕ}
-        (i : ℕ) → end ≡ start + bits → Cuts k i limit outer → values ≡ kept_of (seen_in outer) → Round frames outer k
+        {frames : List Frame} {outer : List Left} {k start bits end limit : ℕ} {values : List Number} {done : List ℕ}
+        (i : ℕ) → end ≡ start + bits → Cuts k i limit outer → values ≡ numbers_of d (seen_in outer) → Round frames outer k
         → Shows (frame.Window k start bits limit ∷ frames) values (window_left end ∷ outer) done

@@ -6,7 +6,7 @@ use Rattle.csn_desc.specs.declared.node.Node.{Node}
 use Rattle.csn_desc.specs.Nodes.{DescV}
 use Rattle.csn_judge.specs.declared.frame.Frame.{Frame}
 use Rattle.csn_judge.specs.declared.frame.Frame.TheVariants as frame
-use Rattle.csn_judge.specs.declared.values.Value.{Value}
+use Rattle.csn_certify.specs.declared.numbers.Number.{Number}
 use Rattle.csn_judge.specs.declared.machine.Machine.{Machine}
 use Rattle.csn_judge.specs.declared.pace.Pace.{Pace}
 use Rattle.csn_judge.specs.declared.turn.Turn.{Turn}
@@ -65,7 +65,7 @@ begun_by node pace = record { next = suc node; again = pace.again || nat_lt node
 -- have been gone through
 pub record StateV : Type 0 where
   pub frames : List Frame
-  pub values : List Value
+  pub values : List Number
   pub pace : Pace
   pub coming : Coming
 

@@ -1,12 +1,12 @@
 //! Nodes are entered.
 
-ghost use Rattle.std.specs.Prelude.{◌≡◌, ℕ, ◌+◌, ◌*◌, ◌<◌, ◌≤◌, List, ◌∷◌, false, length, min, reverse, slice_get, Some};
+ghost use Rattle.std.specs.Prelude.{◌≡◌, ℕ, ◌+◌, ◌*◌, ◌<◌, List, ◌∷◌, false, length, min, reverse, slice_get, Some};
 ghost use Rattle.csn_desc.specs.declared.node.Node.TheVariants.{Named};
 ghost use Rattle.csn_judge.specs.declared.frame.Frame.TheVariants as frame;
 ghost use Rattle.csn_desc.specs.Formed.{is_counted};
 ghost use Rattle.csn_desc.specs.Values.{Values, count_of};
 ghost use Rattle.csn_judge.specs.Credit.{TurnPays};
-ghost use Rattle.csn_judge.specs.Shown.{KeepsCount, kept_of};
+ghost use Rattle.csn_certify.specs.KeptNumbers.{KeepsCount, numbers_of};
 ghost use Rattle.csn_judge.specs.Turns.{begun_by, state_then, state_with, turn_in, Entered, StandsSomewhere, Turns};
 
 use crate::frame::{Counted, Frame};
@@ -15,8 +15,7 @@ use crate::machine::Machine;
 use crate::source::Source;
 use crate::track::Track;
 use crate::turn::{Next, PartTurn, Turn};
-use crate::values::value_of;
-use csn_certify::Steps;
+use csn_certify::{Steps, count_of};
 use csn_desc::{Count, Move, Node};
 use std::sync::ledger::Ledger;
 
@@ -194,26 +193,10 @@ impl Machine<'_> {
     /// How many a count is.
     #[inline(always)]
     fn number_of(&self, count: &Count) -> u32
-        requires { KeepsCount self.now.plan.now self.now.values.items count.now }
-        ensures count { (v : Values) → self.now.values.items ≡ kept_of self.now.plan.now v → count_of v count.now ≡ Some result }
+        requires { (v : Values) × KeepsCount self.now.plan.now v self.now.values.items count.now }
+        ensures count { (v : Values) → self.now.values.items ≡ numbers_of self.now.plan.now v → count_of v count.now ≡ Some result }
         ensures small { result < 16777216 }
     {
-        match count {
-            Count::Fixed(n) => *n,
-            Count::Counted { m, field, c } => match value_of(&self.values, *field) {
-                Some(number) => times_and_more(*m, number, *c),
-                None => unreachable!(),
-            },
-        }
+        count_of(count, self.values.as_slice())
     }
-}
-
-/// So many times a number of up to 16 bits, and `c` more.
-fn times_and_more(m: u8, number: u32, c: u32) -> u32
-    requires number { number < 65536 }
-    requires more { c ≤ 65535 }
-    ensures sum { result ≡ m * number + c }
-    ensures small { result < 16777216 }
-{
-    m as u32 * number + c
 }

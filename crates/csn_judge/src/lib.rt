@@ -3,6 +3,7 @@
 #![tactic(auto)]
 
 mod entry;
+mod fed;
 mod frame;
 mod going;
 mod judge;
@@ -17,10 +18,10 @@ mod source;
 mod spelling;
 mod track;
 mod turn;
-mod values;
 mod verdict;
 
 pub use csn_desc::Move;
+pub use fed::Fed;
 pub use judge::Judge;
 pub use track::{NoTrack, Track};
 pub use verdict::{Judged, Verdict};

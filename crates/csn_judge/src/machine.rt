@@ -4,9 +4,8 @@ ghost use Rattle.csn_judge.specs.Turns.{begun_by, over};
 
 use crate::frame::Frame;
 use crate::pace::Pace;
-use crate::values::{MOST_VALUES, Value};
 use arrayvec::ArrayVec;
-use csn_certify::Plan;
+use csn_certify::{MOST_NUMBERS, Number, Plan};
 use csn_desc::MOST_DEPTH;
 
 /// Goes through the nodes of a description along the bits of a block, one frame's turn after another.
@@ -16,7 +15,7 @@ pub(crate) struct Machine<'a> {
     /// The nodes that have begun and not ended, each inside the one before it; and one that begins next.
     pub frames: ArrayVec<Frame, MOST_DEPTH>,
     /// The numbers of the labelled fields that the innermost node sees and that counts stand on.
-    pub values: ArrayVec<Value, MOST_VALUES>,
+    pub values: ArrayVec<Number, MOST_NUMBERS>,
     pub pace: Pace,
 }
 

@@ -11,8 +11,7 @@ use crate::machine::{Machine, put};
 use crate::source::Source;
 use crate::track::Track;
 use crate::turn::{PartTurn, Turn};
-use crate::values::Value;
-use csn_certify::Steps;
+use csn_certify::{Number, Steps};
 use csn_desc::{Move, Node};
 use std::sync::ledger::Ledger;
 
@@ -159,9 +158,9 @@ impl Machine<'_> {
             return Turn::Moved;
         }
         track.step(Move::Leave, field);
-        self.values.push(Value {
+        self.values.push(Number {
             field: counted.node,
-            number,
+            value: number,
         });
         self.leave(counted.node, track, steps);
         Turn::Moved

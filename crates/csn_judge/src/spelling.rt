@@ -1,25 +1,11 @@
 //! The bits of literals and of what is spare, as numbers.
 
 ghost use Rattle.std.specs.Prelude.{◌≡◌, ◌+◌, ◌^◌, ◌<◌, ◌≤◌, length, take, drop, replicate};
-ghost use Rattle.csn_desc.specs.Spelled.{symbol_bit as bit_of, spelled as bits_of};
+ghost use Rattle.csn_desc.specs.Spelled.{spelled as bits_of};
 ghost use Rattle.csn_bits.specs.Numbers.{low_bits};
 
 use crate::source::MOST_RUN;
-use csn_bits::pattern_bit;
 use csn_desc::{Run, Symbol};
-
-/// The bit that a symbol stands for at a place.
-pub(crate) fn symbol_bit(symbol: Symbol, place: u32) -> u8
-    ensures value { result ≡ bit_of symbol place }
-    ensures bit { result ≤ 1 }
-{
-    match symbol {
-        Symbol::Zero => 0,
-        Symbol::One => 1,
-        Symbol::Low => pattern_bit((place % 8) as u8),
-        Symbol::High => 1 - pattern_bit((place % 8) as u8),
-    }
-}
 
 /// The number that `count` symbols of a literal write, from the symbol `at` on, where this one stands at the
 /// place.
@@ -33,7 +19,7 @@ pub(crate) fn spelled(run: &Run, at: u32, count: u32, place: u32) -> u64
 {
     let mut number = 0;
     for k in 0..count {
-        number = 2 * number + symbol_bit(run.get(at + k), place + k) as u64;
+        number = 2 * number + run.get(at + k).bit(place + k) as u64;
     }
     number
 }

@@ -1,16 +1,19 @@
-use Rattle.std.proofs.Common.{◌≡◌, ℕ, List, Option, None, take, sym, subst, ap, ◌∙◌}
+use Rattle.std.proofs.Common.{◌≡◌, ℕ, List, Option, take, sym, subst, ap, ◌∙◌}
 use Rattle.csn_bits.specs.Octets.{bits_of_octets}
 use Rattle.csn_judge.specs.Judging.{JudgeV}
-use Rattle.csn_decode.specs.declared.verdict.Fed.{Fed}
-use Rattle.csn_decode.specs.declared.verdict.Fed.TheVariants.{Going}
+use Rattle.csn_judge.specs.declared.fed.Fed.{Fed}
+use Rattle.csn_judge.specs.declared.fed.Fed.TheVariants.{Going}
+use Rattle.csn_judge.specs.Following.{IsAnswer}
+use Rattle.csn_judge.proofs.FollowingFacts.{feeds_still, going_is, going_no_more}
 use Rattle.csn_decode.specs.Built.{BuiltV}
-use Rattle.csn_decode.specs.Decoding.{DecoderV, stands, IsAnswer, Decodes}
-use Rattle.csn_decode.proofs.DecodingFacts.{feeds, feeds_still, going_is, going_no_more}
+use Rattle.csn_decode.specs.Decoding.{DecoderV, stands, IsTold, Decodes}
+use Rattle.csn_decode.proofs.DecodingFacts.{feeds}
 use Rattle.csn_decode.proofs.decoder.Decoder.feed.Goals as goal
 
 pub returns-then-not-is_going-clause-decodes : goal.returns-then-not-is_going-clause-decodes
 returns-then-not-is_going-clause-decodes g c =
-    feeds_still c.prefixes_are_followed.ensures c.args.self.now (take c.args.bits (bits_of_octets c.args.piece.now)) c.self.inside.answer
+    let d : DecoderV = c.args.self.now in
+    feeds_still d.desc d.answer d.judge (IsTold d) c.prefixes_are_followed.ensures (take c.args.bits (bits_of_octets c.args.piece.now)) c.self.inside.answer
     (sym (ap (λ (d : DecoderV). d.answer) c.self.view_is)) (going_no_more c.self.inside.answer c.is_going.result c.is_going.ensures c.if-not-is_going.true)
 
 pub returns-clause-decodes : goal.returns-clause-decodes

@@ -1,14 +1,17 @@
-use Rattle.std.proofs.Common.{◌≡◌, Option, Ok, Err, sym, subst, ap, ◌∙◌}
-use Rattle.csn_judge.specs.Judging.{JudgeV}
+use Rattle.std.proofs.Common.{Ok, Err, sym, subst, ap, ◌∙◌}
+use Rattle.csn_judge.specs.Judging.{JudgeV, opened}
+use Rattle.csn_judge.specs.Told.{Tells}
+use Rattle.csn_judge.proofs.FollowingFacts.{ends_refused, ends_none}
 use Rattle.csn_decode.specs.declared.verdict.DecodeFault.TheVariants.{Refused, NoMemory}
-use Rattle.csn_decode.specs.Built.{BuiltV}
-use Rattle.csn_decode.specs.Decoding.{DecoderV, stands, Ends}
-use Rattle.csn_decode.proofs.DecodingFacts.{ends_refused, ends_none, ends_wanting, ends_tree}
+use Rattle.csn_decode.specs.Built.{Makes}
+use Rattle.csn_decode.specs.Decoding.{DecoderV, stands, IsTold, Ends}
+use Rattle.csn_decode.proofs.DecodingFacts.{ends_wanting, ends_tree}
 use Rattle.csn_decode.proofs.decoder.Decoder.finish.Goals as goal
 
 pub returns-in-Refused-clause-ends : goal.returns-in-Refused-clause-ends
 returns-in-Refused-clause-ends g c =
-    ends_refused c.strings_are_followed.ensures c.args.self c.in-Refused.place (sym (ap (λ (d : DecoderV). d.answer) c.self.view_is) ∙ c.in-Refused.is)
+    let d : DecoderV = c.args.self in
+    ends_refused d.desc d.answer d.judge (IsTold d) c.strings_are_followed.ensures c.in-Refused.place (sym (ap (λ (d : DecoderV). d.answer) c.self.view_is) ∙ c.in-Refused.is)
 
 pub returns-in-Some-clause-ends : goal.returns-in-Some-clause-ends
 returns-in-Some-clause-ends g c =
@@ -30,4 +33,4 @@ returns-in-Refused-finish_to-clause-ends g c =
     let j : JudgeV = c.self.inside.judge in
     let P : DecoderV → Type 0 = λ d. Ends d (Err (Refused c.in-Refused-finish_to.place)) in
     subst P (ap (λ a. stands j c.self.inside.track a) (sym c.in-Going.is) ∙ c.self.view_is)
-    (ends_none j c.self.inside.track c.finish_to.new.track c.in-Refused-finish_to.place c.in-Refused-finish_to.ensures.ends)
+    (ends_none j (λ around made. Tells j.desc Makes (opened j) made around c.self.inside.track c.finish_to.new.track) (IsTold (stands j c.self.inside.track c.self.inside.answer)) c.in-Refused-finish_to.place c.in-Refused-finish_to.ensures.ends)

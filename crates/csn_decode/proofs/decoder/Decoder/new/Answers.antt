@@ -1,5 +1,5 @@
 use Rattle.std.proofs.Common.{[], Option, sym, subst}
-use Rattle.csn_decode.specs.declared.verdict.Fed.TheVariants.{Going}
+use Rattle.csn_judge.specs.declared.fed.Fed.TheVariants.{Going}
 use Rattle.csn_decode.specs.Built.{BuiltV}
 use Rattle.csn_decode.specs.Decoding.{stands, DecodesFor}
 use Rattle.csn_decode.proofs.DecodingFacts.{decodes_none}

@@ -1,23 +1,15 @@
-use Rattle.std.proofs.Common.{◌≡◌, ◌+◌, ◌-◌, ◌*◌, ◌^◌, ◌≤◌, suc, refl, sym, ap, ◌∙◌, arith}
+use Rattle.std.proofs.Common.{◌≡◌, ◌+◌, ◌-◌, ◌*◌, ◌^◌, suc, sym, ap, ◌∙◌, arith}
 use Rattle.std.proofs.Math.Nat.{pow-suc}
-use Rattle.std.proofs.Math.Pow.{pow_mono}
 use Rattle.std.proofs.lemmas.Nat.{pow_pos}
+use Rattle.csn_certify.proofs.CountedValues.{narrow}
 use Rattle.csn_encode.proofs.Leaves.{number-next, no_number}
 use Rattle.csn_encode.proofs.draft.Draft.value_from.Goals as goal
 
 pub overflow_mul-value : goal.overflow_mul-value
-overflow_mul-value c =
-    let most : 2 ^ 16 ≡ 65536 = refl in
-    let few : c.loop-at.at - c.args.from ≤ 16 = omega (arith, c.requires.few) in
-    let wide : 2 ^ (c.loop-at.at - c.args.from) ≤ 2 ^ 16 = pow_mono few in
-    omega (arith, most, wide, c.loop-at.invariant.1)
+overflow_mul-value c = omega (arith, narrow c.loop-at.value (c.loop-at.at - c.args.from) c.loop-at.invariant.1 (omega (arith, c.requires.few)))
 
 pub overflow_add-value : goal.overflow_add-value
-overflow_add-value c =
-    let most : 2 ^ 16 ≡ 65536 = refl in
-    let few : c.loop-at.at - c.args.from ≤ 16 = omega (arith, c.requires.few) in
-    let wide : 2 ^ (c.loop-at.at - c.args.from) ≤ 2 ^ 16 = pow_mono few in
-    omega (arith, most, wide, c.loop-at.invariant.1)
+overflow_add-value c = omega (arith, narrow c.loop-at.value (c.loop-at.at - c.args.from) c.loop-at.invariant.1 (omega (arith, c.requires.few)))
 
 pub loop-at-init : goal.loop-at-init
 loop-at-init c = (sym (no_number c.args.self.now.bits c.args.from), pow_pos (c.args.from - c.args.from))

@@ -1,7 +1,8 @@
 use Rattle.std.proofs.Common.{take, ap, ◌∙◌, arith}
 use Rattle.csn_bits.specs.Numbers.{number_of}
+use Rattle.csn_bits.proofs.NumberFacts.{masked_small}
 use Rattle.csn_judge.specs.Coming.{Coming}
-use Rattle.csn_judge.proofs.Numbers.{peeked, peeked_bits, peeked_small}
+use Rattle.csn_judge.proofs.Numbers.{peeked, peeked_bits}
 use Rattle.csn_judge.proofs.SourceFacts.{known}
 use Rattle.csn_judge.proofs.source.Source.peek.Goals as goal
 
@@ -12,7 +13,7 @@ returns-clause-value c =
     ∙ ap (λ (s : Coming). number_of (take c.args.count s.bits)) c.self.view_is
 
 pub returns-clause-small : goal.returns-clause-small
-returns-clause-small c = peeked_small _ c.args.count (omega (arith, c.requires.few))
+returns-clause-small c = masked_small _ c.args.count (omega (arith, c.requires.few))
 
 pub returns-clause-written : goal.returns-clause-written
 returns-clause-written c =
