@@ -6,7 +6,6 @@ use Rattle.csn_desc.specs.declared.moves.Move.TheVariants.{Bit}
 use Rattle.csn_desc.specs.declared.node.Node.{Node}
 use Rattle.csn_bits.specs.Numbers.{low_bits}
 use Rattle.csn_judge.specs.Told.{BitsTold}
-use Rattle.csn_desc.specs.TreeV as tree
 use Rattle.csn_decode.specs.Built.{BuiltV, is_literal, with_bits, took_all, Grows, Makes, unless}
 
 pub with_bits-none : (literal : Bool) (bits : List ℕ) → with_bits literal [] bits ≡ bits

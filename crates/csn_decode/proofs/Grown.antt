@@ -1,7 +1,6 @@
 -- The moves of a tree grow it.
-use Rattle.std.proofs.Common.{◌≡◌, ℕ, suc, ◌+◌, Bool, true, false, List, [], ◌∷◌, ◌++◌, length, map, refl, sym, ap, subst, ◌∙◌, append_assoc, append-nil, Option, Some, None}
+use Rattle.std.proofs.Common.{◌≡◌, ℕ, suc, false, List, [], ◌∷◌, ◌++◌, map, refl, sym, ap, subst, ◌∙◌, append_assoc, append-nil, Option, Some, None}
 use Rattle.std.specs.Prelude.{slice_get, IfSome}
-use Rattle.csn_desc.specs.declared.symbol.Symbol.{Symbol}
 use Rattle.csn_desc.specs.declared.moves.Move.{Move}
 use Rattle.csn_desc.specs.declared.moves.Move.TheVariants.{Enter, Bit, Leave}
 use Rattle.csn_desc.specs.declared.node.Node.{Node}
@@ -9,14 +8,14 @@ use Rattle.csn_desc.specs.declared.node.Node.TheVariants.{Lits, Spare, Pad, Null
 use Rattle.csn_desc.specs.TreeV.{TreeV, empty, bits, row, alt, named, Trees, none, more, list_of, trees_of}
 use Rattle.csn_desc.specs.Nodes.{DescV, parts_of}
 use Rattle.csn_desc.specs.Formed.{Spans, PartsSpan, spans, span_next, IsDescription}
-use Rattle.csn_desc.specs.Walks.{bits_of, Walk, NodeWalk, PartsWalk, RepeatsWalk, LeadWalk, walk_at, walk_lits, walk_spare, walk_pad, walk_null, walk_field, walk_rest, walk_seq, walk_choice, walk_times, walk_many, walk_trunc, walk_window, walk_named, parts_end, parts_next, repeats_end, repeats_next, lead_end, lead_next}
+use Rattle.csn_desc.specs.Walks.{Walk, NodeWalk, PartsWalk, RepeatsWalk, LeadWalk, walk_at, walk_lits, walk_spare, walk_pad, walk_null, walk_field, walk_rest, walk_seq, walk_choice, walk_times, walk_many, walk_trunc, walk_window, walk_named, parts_end, parts_next, repeats_end, repeats_next, lead_end, lead_next}
 use Rattle.csn_desc.proofs.Numbering.{parts_distinct, part_spans}
 use Rattle.csn_judge.specs.Told.{Tells, tells_none, tells_enter, tells_bit, tells_leave}
 use Rattle.csn_decode.specs.declared.open.Open.{Open}
 use Rattle.csn_decode.specs.declared.open.Ended.{Ended}
 use Rattle.csn_decode.specs.declared.open.Inside.{Inside}
 use Rattle.csn_decode.specs.declared.open.Inside.TheVariants.{Leaf, Row, Part}
-use Rattle.csn_decode.specs.Built.{BuiltV, nothing, begun, entered, is_literal, took_all, has_bits, bits_behind, bits_left, given, IsTree, Leaves, Grows, GrewFrom, Makes}
+use Rattle.csn_decode.specs.Built.{BuiltV, nothing, begun, entered, took_all, has_bits, bits_behind, bits_left, given, IsTree, Leaves, Grows, GrewFrom, Makes}
 use Rattle.csn_decode.proofs.BuiltFacts.{took_none, took_more}
 
 pub trees_of-list_of : (ts : Trees) → trees_of (list_of ts) ≡ ts

@@ -1,4 +1,4 @@
-use Rattle.std.proofs.Common.{◌≡◌, Option, Some, None, Bool, sym, subst, ap, ◌∙◌}
+use Rattle.std.proofs.Common.{Option, Some, Bool, sym, subst, ◌∙◌}
 use Rattle.csn_bits.specs.Numbers.{low_bits}
 use Rattle.csn_judge.specs.Told.{BitsTold}
 use Rattle.csn_decode.specs.Built.{BuiltV, Makes, unless}
