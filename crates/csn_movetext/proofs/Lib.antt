@@ -1,4 +1,5 @@
 pub mod Written
+pub mod Decimals
 pub mod Octets
 pub mod Gathering
 pub mod NumberFacts

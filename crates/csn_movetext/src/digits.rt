@@ -5,6 +5,7 @@ ghost use Rattle.csn_bits.specs.Octets.{octets_of};
 ghost use Rattle.csn_bits.specs.Numbers.{low_bits};
 ghost use Rattle.csn_movetext.specs.Kept.{Extends};
 
+use crate::room::room;
 use csn_bits::NoMemory;
 use itoa::Buffer;
 
@@ -34,10 +35,22 @@ pub(crate) fn push_octets(out: &mut Vec<u8>, number: u64, count: u32) -> Result<
 }
 
 /// Adds a number in decimal.
+#[tactic(auto, using(crate::proofs::Decimals::one_digit, crate::proofs::Decimals::two_digits))]
 pub(crate) fn push_number(out: &mut Vec<u8>, number: u64) -> Result<(), NoMemory>
     ensures digits { OnOk result (out.new.items ≡ out.old.items ++ decimal number) }
     ensures extends { Extends out.old.items out.new.items }
 {
+    if number < 10 {
+        room(out, 1)?;
+        out.push_reserved(b'0' + number as u8);
+        return Ok(());
+    }
+    if number < 100 {
+        room(out, 2)?;
+        out.push_reserved(b'0' + (number / 10) as u8);
+        out.push_reserved(b'0' + (number % 10) as u8);
+        return Ok(());
+    }
     let mut buffer = Buffer::new();
     out.extend_from_slice(buffer.format(number).as_bytes())?;
     Ok(())

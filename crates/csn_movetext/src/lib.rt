@@ -11,6 +11,7 @@ pub mod laws;
 mod line;
 mod octet_text;
 mod openings;
+mod room;
 mod track;
 mod write;
 mod writing;

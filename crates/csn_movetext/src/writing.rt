@@ -5,6 +5,7 @@ ghost use Rattle.csn_movetext.specs.Told.{IsTold};
 
 use crate::digits::{push_number, push_octets};
 use crate::form::TreeForm;
+use crate::room::room;
 use csn_bits::NoMemory;
 use csn_desc::{Count, Node};
 
@@ -26,7 +27,7 @@ pub(crate) struct Writing {
 }
 
 impl Writing {
-    ghost use Rattle.std.specs.Prelude.{◌≡◌, ℕ, ◌+◌, ◌*◌, ◌<◌, ◌≤◌, ◌^◌, ◌++◌, List, Option, Some, true, false, codes, length, take, OnOk};
+    ghost use Rattle.std.specs.Prelude.{◌≡◌, ℕ, ◌+◌, ◌*◌, ◌<◌, ◌≤◌, ◌^◌, ◌++◌, List, Option, Some, true, false, codes, length, take, OnOk, vec_len, vec_capacity};
     ghost use Rattle.csn_bits.specs.Octets.{IsBits};
     ghost use Rattle.csn_bits.specs.Numbers.{low_bits, number_of};
     ghost use Rattle.csn_bits.specs.Line.{written};
@@ -65,25 +66,38 @@ impl Writing {
             → entered form opening.now w ≡ Some next → Shows form (kept_of self.new) next) }
         ensures extends { Extends self.old.out.items self.new.out.items }
     {
+        room(&mut self.out, opening.len() + 1)?;
         if self.left {
-            self.out.push(gap(form))?;
+            self.out.push_reserved(gap(form));
             self.left = false;
         }
         Writing::push_opening(&mut self.out, opening)
     }
 
-    // Adds the opening of a node. Most have a byte or two, which need no copy.
+    // Adds the opening of a node. Most have a few bytes, which need no copy.
     #[inline(always)]
     fn push_opening(out: &mut Vec<u8>, opening: &[u8]) -> Result<(), NoMemory>
+        requires room { vec_len out.old + length opening.now ≤ vec_capacity out.old }
         ensures text { OnOk result (out.new.items ≡ out.old.items ++ opening.now) }
         ensures extends { Extends out.old.items out.new.items }
     {
         match opening {
             [] => {}
-            [byte] => out.push(*byte)?,
+            [byte] => out.push_reserved(*byte),
             [first, second] => {
-                out.push(*first)?;
-                out.push(*second)?;
+                out.push_reserved(*first);
+                out.push_reserved(*second);
+            }
+            [first, second, third] => {
+                out.push_reserved(*first);
+                out.push_reserved(*second);
+                out.push_reserved(*third);
+            }
+            [first, second, third, fourth] => {
+                out.push_reserved(*first);
+                out.push_reserved(*second);
+                out.push_reserved(*third);
+                out.push_reserved(*fourth);
             }
             _ => out.extend_from_slice(opening)?,
         }
@@ -133,7 +147,8 @@ impl Writing {
             → shut byte w ≡ Some next → Shows form (kept_of self.new) next) }
         ensures extends { Extends self.old.out.items self.new.out.items }
     {
-        self.out.push(byte)?;
+        room(&mut self.out, 1)?;
+        self.out.push_reserved(byte);
         self.left = true;
         Ok(())
     }
