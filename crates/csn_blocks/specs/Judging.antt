@@ -1,6 +1,6 @@
 -- Whether a block is a string of a description, and the bits of one that stands in pieces. (This project's own choice.)
 use Rattle.std.specs.Prelude.{◌≡◌, ◌≤◌, ◌*◌, ◌+◌, ℕ, List, [], ◌∷◌, ◌++◌, length, take}
-use Rattle.csn_bits.specs.Octets.{bits_of_octets}
+use Rattle.csn_bits.specs.Octets.{bits_of_octets, most_bits}
 use Rattle.csn_desc.specs.Nodes.{DescV}
 use Rattle.csn_desc.specs.TreeV.{TreeV}
 use Rattle.csn_desc.specs.Means.{NMeans}
@@ -39,3 +39,7 @@ bits_in (piece ∷ rest) = piece.bits + bits_in rest
 abbrev pub AreWithin : List Piece → Type 0
 AreWithin [] = Unit {0}
 AreWithin (piece ∷ rest) = (piece.bits ≤ 8 * length piece.octets.now) × AreWithin rest
+
+-- they are those of one block, which is no longer than a block may be
+abbrev pub AreOfBlock : List Piece → Type 0
+AreOfBlock pieces = AreWithin pieces × (bits_in pieces ≤ most_bits)

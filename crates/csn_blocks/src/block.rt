@@ -1,8 +1,7 @@
 //! Blocks that are there as a whole.
 
-ghost use Rattle.std.specs.Prelude.{◌≡◌, ◌<◌, ◌≤◌};
-ghost use Rattle.csn_bits.specs.Octets.{most_bits};
-ghost use Rattle.csn_blocks.specs.Judging.{AreWithin, IsFresh, IsJudged, bits_in, bits_of};
+ghost use Rattle.std.specs.Prelude.{◌≡◌, ◌<◌};
+ghost use Rattle.csn_blocks.specs.Judging.{AreOfBlock, IsFresh, IsJudged, bits_of};
 
 use csn_bits::Bits;
 use csn_certify::{Plan, Steps};
@@ -23,8 +22,7 @@ fn judge_with<L: Ledger>(judge: &mut Judge<'_>, pieces: &[Piece<'_>], blank: Bla
     requires parts { blank.parts ≡ L.parts }
     requires some { 0 < blank.parts }
     requires fresh { IsFresh judge.old }
-    requires within { AreWithin pieces.now }
-    requires few { bits_in pieces.now ≤ most_bits }
+    requires block { AreOfBlock pieces.now }
     ensures judged { IsJudged judge.old.desc (bits_of pieces.now) result }
     ensures fresh { IsFresh judge.new }
     ensures desc { judge.new.desc ≡ judge.old.desc }
@@ -41,8 +39,7 @@ fn judge_with<L: Ledger>(judge: &mut Judge<'_>, pieces: &[Piece<'_>], blank: Bla
 /// for none again behind the block, so many blocks can be judged by one.
 pub fn judge_next(judge: &mut Judge<'_>, pieces: &[Piece<'_>]) -> Judged
     requires fresh { IsFresh judge.old }
-    requires within { AreWithin pieces.now }
-    requires few { bits_in pieces.now ≤ most_bits }
+    requires block { AreOfBlock pieces.now }
     ensures judged { IsJudged judge.old.desc (bits_of pieces.now) result }
     ensures fresh { IsFresh judge.new }
     ensures desc { judge.new.desc ≡ judge.old.desc }
@@ -53,8 +50,7 @@ pub fn judge_next(judge: &mut Judge<'_>, pieces: &[Piece<'_>]) -> Judged
 /// Judges a block whose bits stand in some pieces, one behind another: whether they are a string of the description, or
 /// how many can be followed. These are all bits where the block ends too early. It takes no memory.
 pub fn judge_pieces(plan: &Plan, pieces: &[Piece<'_>]) -> Judged
-    requires within { AreWithin pieces.now }
-    requires few { bits_in pieces.now ≤ most_bits }
+    requires block { AreOfBlock pieces.now }
     ensures { IsJudged plan.now (bits_of pieces.now) result }
 {
     let mut judge = Judge::new(plan);

@@ -83,6 +83,10 @@ impl Track for Kept {
 
     ghost takes = { λ _ _ _ _. ⊤ };
 
+    ghost fits = { λ _ _. ⊤ };
+
+    ghost keeps = { λ _ _ _ _ _ _ _. tt };
+
     fn step(&mut self, step: Move, _node: &Node) {
         if self.moves.push(step).is_err() {
             self.lost = true;

@@ -4,7 +4,7 @@ use crate::building::{bits, enter, finished, labelled, leaf, leave, literal};
 use csn_bits::Bits;
 use csn_certify::{Plan, Steps, certify};
 use csn_desc::{DescBuilder, Head, Label, Reading, Rows, Shape, Symbol, Tree};
-use csn_encode::{EncodeFault, Misfit, MisfitWhy, encode};
+use csn_encode::{EncodeFault, Misfit, MisfitWhy, encode, encode_text};
 use std::alloc::Global;
 use std::marker::Brand;
 use std::process::Abort;
@@ -82,6 +82,23 @@ fn is_written<L: Ledger>(
     }
 }
 
+// whether the tree of the text is written as this block line, along the text
+fn is_written_along<L: Ledger>(
+    alloc: Global,
+    plan: &Plan,
+    text: &[u8],
+    line: &[u8],
+    steps: &mut Steps<L>,
+) -> Result<bool, Fail> {
+    match encode_text(alloc, plan, text, steps) {
+        Some(bits) => {
+            let written = bits.to_hex_line(alloc).map_err(|_| "out of memory")?;
+            Ok(written.as_slice() == line)
+        }
+        None => Ok(false),
+    }
+}
+
 // why and where the tree misses
 fn miss_of<L: Ledger>(
     alloc: Global,
@@ -104,6 +121,9 @@ fn writes<L: Ledger, R: Abort>(rt: &R, alloc: Global, blank: Blank) -> Result<()
     let plan = two_fields(alloc)?;
     let tree = two_leaves(alloc, &[1, 0, 1], &[0, 1, 0, 1])?;
     assert!(rt; is_written(alloc, &plan, &tree, b"A5", &mut steps)?);
+    let text = b"[<A>=3'5 . <B>=4'5]";
+    assert!(rt; is_written_along(alloc, &plan, text, b"A5", &mut steps)?);
+    assert!(rt; encode_text(alloc, &plan, b"[<A>=3'5 . <B>=5'5]", &mut steps).is_none());
     let wide = two_leaves(alloc, &[1, 0, 1], &[0, 1, 0, 1, 1])?;
     let Some(misfit) = miss_of(alloc, &plan, &wide, &mut steps) else {
         return Err("it does not miss".into());

@@ -3,7 +3,7 @@ ghost use Rattle.csn_look.specs.ReachV.{IsReachOf};
 ghost use Rattle.csn_certify.specs.Picks.{IsAsked};
 
 use crate::building::{bits, enter, finished, labelled, leaf, leave, literal, word_of};
-use csn_certify::{Pick, Steps, certify};
+use csn_certify::{Layout, Pick, Plan, Steps, certify};
 use csn_desc::{Desc, DescBuilder, Head, Node, Reading, Symbol};
 use csn_look::{Look, Reach};
 use std::alloc::Global;
@@ -162,4 +162,64 @@ fn nodes<L: Ledger, R: Abort>(rt: &R, alloc: Global, blank: Blank) -> Result<(),
 #[test]
 fn a_plan_gives_its_nodes(rt: HostRuntime) -> Result<(), Fail> {
     nodes::<Brand, HostRuntime>(&rt, rt.alloc(), Blank::new(1))
+}
+
+// { L <A : bit (2)> }
+fn low(alloc: Global) -> Result<Desc, Fail> {
+    let mut builder = DescBuilder::new(alloc, Reading::Received);
+    row(alloc, &mut builder, &[Symbol::Low], 2)?;
+    finished(builder)
+}
+
+fn laid_out(width: u32, fixed: u32, number: u64) -> Option<Layout> {
+    Some(Layout {
+        width,
+        fixed,
+        number,
+    })
+}
+
+// The layout of a node.
+fn layout_of(plan: &Plan, i: u16) -> Result<Option<Layout>, Fail> {
+    if i >= plan.len() {
+        return Err("there is no such node".into());
+    }
+    Ok(plan.layout(i))
+}
+
+// Whether all bits of a node, as a number, are a string of it.
+fn admits(plan: &Plan, i: u16, number: u64) -> Result<bool, Fail> {
+    if i >= plan.len() {
+        return Err("there is no such node".into());
+    }
+    let Some(layout) = plan.layout(i) else {
+        return Err("no layout".into());
+    };
+    Ok(layout.admits(number))
+}
+
+#[test]
+fn a_plan_gives_the_layouts_of_its_nodes(rt: HostRuntime) -> Result<(), Fail> {
+    let Ok(plan) = certify(rt.alloc(), choice(rt.alloc())?) else {
+        return Err("not certified".into());
+    };
+    assert_eq!(rt; layout_of(&plan, 0)?, None);
+    assert_eq!(rt; layout_of(&plan, 1)?, laid_out(3, 1, 0));
+    assert_eq!(rt; layout_of(&plan, 4)?, laid_out(2, 0, 0));
+    assert_eq!(rt; layout_of(&plan, 5)?, laid_out(3, 2, 0b10));
+    assert_eq!(rt; layout_of(&plan, 9)?, laid_out(2, 2, 0b11));
+    assert!(rt; admits(&plan, 5, 0b101)?);
+    assert!(rt; !admits(&plan, 5, 0b001)?);
+    Ok(())
+}
+
+#[test]
+fn bits_that_go_by_their_place_have_no_layout(rt: HostRuntime) -> Result<(), Fail> {
+    let Ok(plan) = certify(rt.alloc(), low(rt.alloc())?) else {
+        return Err("not certified".into());
+    };
+    assert_eq!(rt; layout_of(&plan, 0)?, None);
+    assert_eq!(rt; layout_of(&plan, 1)?, None);
+    assert_eq!(rt; layout_of(&plan, 3)?, laid_out(2, 0, 0));
+    Ok(())
 }

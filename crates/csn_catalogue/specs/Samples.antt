@@ -8,31 +8,30 @@ use Rattle.csn_catalogue.specs.declared.entry.Entry.TheVariants.{Uplink, Downlin
 abbrev pub padding : ℕ → List ℕ
 padding n = replicate n 43
 
-abbrev pub sample_octets : Entry → List ℕ
-sample_octets Uplink = (4 ∷ 0 ∷ 0 ∷ 0 ∷ 3 ∷ []) ++ padding 17
-sample_octets Downlink = (16 ∷ 176 ∷ 0 ∷ 0 ∷ 0 ∷ 107 ∷ []) ++ padding 16
-sample_octets Si1 = 131 ∷ []
-sample_octets Si3 = padding 4
-sample_octets Si4 = padding 3
-sample_octets Si13 = (144 ∷ 0 ∷ 88 ∷ 64 ∷ 111 ∷ 162 ∷ 160 ∷ 15 ∷ 81 ∷ []) ++ padding 11
-sample_octets Ia = (208 ∷ 0 ∷ 0 ∷ 0 ∷ 0 ∷ []) ++ padding 6
+-- a sample block, the bit at which its field begins, counted from 0, and how many bits the field has
+pub record EntrySample : Type 0 where
+  pub octets : List ℕ
+  pub at : ℕ
+  pub width : ℕ
 
--- the bit at which the field begins, counted from 0
+abbrev pub sample_of_entry : Entry → EntrySample
+sample_of_entry Uplink = record { octets = (4 ∷ 0 ∷ 0 ∷ 0 ∷ 3 ∷ []) ++ padding 17; at = 6; width = 32 }
+sample_of_entry Downlink = record { octets = (16 ∷ 176 ∷ 0 ∷ 0 ∷ 0 ∷ 107 ∷ []) ++ padding 16; at = 10; width = 32 }
+sample_of_entry Si1 = record { octets = 131 ∷ []; at = 1; width = 5 }
+sample_of_entry Si3 = record { octets = padding 4; at = 6; width = 16 }
+sample_of_entry Si4 = record { octets = padding 3; at = 3; width = 16 }
+sample_of_entry Si13 =
+    record { octets = (144 ∷ 0 ∷ 88 ∷ 64 ∷ 111 ∷ 162 ∷ 160 ∷ 15 ∷ 81 ∷ []) ++ padding 11; at = 10; width = 8 }
+sample_of_entry Ia = record { octets = (208 ∷ 0 ∷ 0 ∷ 0 ∷ 0 ∷ []) ++ padding 6; at = 4; width = 32 }
+
+-- the octets of the sample block
+abbrev pub sample_octets : Entry → List ℕ
+sample_octets entry = (sample_of_entry entry).octets
+
+-- the bit at which the field begins
 abbrev pub field_at : Entry → ℕ
-field_at Uplink = 6
-field_at Downlink = 10
-field_at Si1 = 1
-field_at Si3 = 6
-field_at Si4 = 3
-field_at Si13 = 10
-field_at Ia = 4
+field_at entry = (sample_of_entry entry).at
 
 -- how many bits it has
 abbrev pub field_width : Entry → ℕ
-field_width Uplink = 32
-field_width Downlink = 32
-field_width Si1 = 5
-field_width Si3 = 16
-field_width Si4 = 16
-field_width Si13 = 8
-field_width Ia = 32
+field_width entry = (sample_of_entry entry).width

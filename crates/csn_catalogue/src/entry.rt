@@ -32,19 +32,37 @@ pub fn entries() -> [Entry; 7]
     ]
 }
 
+/// How an entry is called.
+#[derive(Clone, Copy)]
+struct Names {
+    /// The word by which it is asked for.
+    word: &'static [u8],
+    /// The name of the rule that describes its blocks.
+    root: &'static [u8],
+}
+
+/// How each entry is called.
+fn names_of(entry: Entry) -> Names
+    ensures word { result.word.now ≡ entry_word entry }
+    ensures root { result.root.now ≡ entry_root entry }
+{
+    let (word, root): (&'static [u8], &'static [u8]) = match entry {
+        Entry::Uplink => (b"uplink", b"Uplink Control Block"),
+        Entry::Downlink => (b"downlink", b"Downlink Control Block"),
+        Entry::Si1 => (b"si1", b"SI 1 Rest Octets"),
+        Entry::Si3 => (b"si3", b"SI 3 Rest Octets"),
+        Entry::Si4 => (b"si4", b"SI 4 Rest Octets"),
+        Entry::Si13 => (b"si13", b"SI 13 Rest Octets"),
+        Entry::Ia => (b"ia", b"IA Rest Octets"),
+    };
+    Names { word, root }
+}
+
 /// The word by which an entry is asked for.
 pub fn word_of(entry: Entry) -> &'static [u8]
     ensures { result.now ≡ entry_word entry }
 {
-    match entry {
-        Entry::Uplink => b"uplink",
-        Entry::Downlink => b"downlink",
-        Entry::Si1 => b"si1",
-        Entry::Si3 => b"si3",
-        Entry::Si4 => b"si4",
-        Entry::Si13 => b"si13",
-        Entry::Ia => b"ia",
-    }
+    names_of(entry).word
 }
 
 /// The entry that has this word.
@@ -68,13 +86,5 @@ pub fn entry_of(word: &[u8]) -> Option<Entry>
 pub fn root_of(entry: Entry) -> &'static [u8]
     ensures { result.now ≡ entry_root entry }
 {
-    match entry {
-        Entry::Uplink => b"Uplink Control Block",
-        Entry::Downlink => b"Downlink Control Block",
-        Entry::Si1 => b"SI 1 Rest Octets",
-        Entry::Si3 => b"SI 3 Rest Octets",
-        Entry::Si4 => b"SI 4 Rest Octets",
-        Entry::Si13 => b"SI 13 Rest Octets",
-        Entry::Ia => b"IA Rest Octets",
-    }
+    names_of(entry).root
 }

@@ -1,7 +1,6 @@
 ghost use Rattle.std.specs.Prelude.{◌≡◌};
 ghost use Rattle.csn_cert.specs.declared.fault.CertFault.TheVariants.{NoMemory as no_memory};
 
-use csn_bits::NoMemory;
 use std::alloc::AllocFailed;
 use thiserror::Error;
 
@@ -13,14 +12,6 @@ pub enum CertFault {
     Text,
     #[error("out of memory")]
     NoMemory,
-}
-
-impl From<NoMemory> for CertFault {
-    ghost from_gives = { λ _ e. e ≡ no_memory };
-
-    fn from(_e: NoMemory) -> CertFault {
-        CertFault::NoMemory
-    }
 }
 
 impl<T: Drop> From<AllocFailed<T>> for CertFault {

@@ -30,3 +30,5 @@ pub mod Answered
 pub mod ExampleFacts
 pub mod CountedValues
 pub mod KeptNumbers
+pub mod LaidOut
+pub mod LayoutNumbers

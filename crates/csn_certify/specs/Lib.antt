@@ -7,6 +7,8 @@ pub mod Choosing
 pub mod PickTables
 pub mod SameEntries
 pub mod Filling
+pub mod Layouts
+pub mod LayoutParts
 pub mod Plans
 pub mod Ahead
 pub mod Laws

@@ -4,6 +4,7 @@ ghost use Rattle.csn_certify.specs.Certifying.{IsFaultOf};
 ghost use Rattle.csn_certify.specs.Plans.{HasOneTree};
 
 use crate::conflict::Conflict;
+use crate::layouts::layouts;
 use crate::pick_tables::PickTables;
 use crate::plan::Plan;
 use crate::search::first_conflict;
@@ -46,7 +47,8 @@ pub fn certify(alloc: Global, desc: Desc) -> Result<Plan, CertifyFault>
         Some(conflict) => Err(CertifyFault::Conflict(conflict)),
         None => {
             let picks = PickTables::new(alloc, &desc, &look, &reach)?;
-            Ok(Plan::new(desc, look, reach, picks))
+            let layouts = layouts(alloc, &desc)?;
+            Ok(Plan::new(desc, look, reach, picks, layouts))
         }
     }
 }

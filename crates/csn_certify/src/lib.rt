@@ -11,6 +11,7 @@ pub mod examples;
 mod filling;
 mod lasts;
 pub mod laws;
+mod layouts;
 mod meets;
 mod numbers;
 mod overlaps;
@@ -25,6 +26,7 @@ mod steps;
 
 pub use certifying::{CertifyFault, certify};
 pub use conflict::Conflict;
+pub use layouts::Layout;
 pub use numbers::{MOST_NUMBERS, Number, count_of};
 pub use pick::Pick;
 pub use plan::Plan;

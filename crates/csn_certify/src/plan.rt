@@ -1,4 +1,4 @@
-ghost use Rattle.std.specs.Prelude.{◌≡◌, ◌+◌, ◌<◌, ◌≤◌, length, slice_get, Some};
+ghost use Rattle.std.specs.Prelude.{◌≡◌, ◌+◌, ◌<◌, ◌≤◌, length, slice_get, Some, IfSome};
 ghost use Rattle.csn_desc.specs.Formed.{IsDescription, is_counted};
 ghost use Rattle.csn_look.specs.NodeSets.{IsLookOf};
 ghost use Rattle.csn_look.specs.LookKeys.{IsKeysOf};
@@ -7,9 +7,11 @@ ghost use Rattle.csn_look.specs.FollowV.{IsFollowOf};
 ghost use Rattle.csn_certify.specs.Conflicts.{Certified};
 ghost use Rattle.csn_certify.specs.Picks.{IsAsked, Picks};
 ghost use Rattle.csn_certify.specs.PickTables.{ArePickTables};
+ghost use Rattle.csn_certify.specs.Layouts.{HasLayout, AreLayouts};
 ghost use Rattle.csn_certify.specs.Plans.{HasOneTree};
 
 use crate::laws::blocks_have_one_tree;
+use crate::layouts::Layout;
 use crate::pick::{Asked, Pick};
 use crate::pick_tables::PickTables;
 use crate::steps::Steps;
@@ -26,28 +28,37 @@ pub struct Plan {
     look: Look,
     reach: Reach,
     picks: PickTables,
+    layouts: Vec<Option<Layout>>,
 }
 
 impl Model for Plan {
     ghost use Rattle.csn_desc.specs.Nodes.{DescV};
     ghost use Rattle.csn_certify.specs.Plans.{IsPlan};
+    ghost use Rattle.csn_certify.specs.Layouts.{AreLayouts};
 
     ghost Value = { DescV };
 
     ghost view = { λ p. p.desc };
 
-    ghost invariant = { λ p. IsPlan p.desc p.look p.reach p.picks };
+    ghost invariant = { λ p. IsPlan p.desc p.look p.reach p.picks × AreLayouts p.desc p.layouts.items };
 }
 
 impl Plan {
     /// The plan of a certified description, with the tables that look-ahead has of it.
-    pub(crate) fn new(desc: Desc, look: Look, reach: Reach, picks: PickTables) -> Plan
+    pub(crate) fn new(
+        desc: Desc,
+        look: Look,
+        reach: Reach,
+        picks: PickTables,
+        layouts: Vec<Option<Layout>>,
+    ) -> Plan
         requires certified { Certified desc MOST_WORD }
         requires sets { IsLookOf desc look.sets }
         requires keys { IsKeysOf desc look }
         requires reached { IsReachOf desc reach.reached }
         requires follow { IsFollowOf desc reach.follow }
         requires picks { ArePickTables desc picks }
+        requires layouts { AreLayouts desc layouts.items }
         ensures plan { result ≡ desc }
         ensures one_tree { HasOneTree desc }
     {
@@ -59,6 +70,7 @@ impl Plan {
             look,
             reach,
             picks,
+            layouts,
         }
     }
 
@@ -89,6 +101,15 @@ impl Plan {
         self.desc.counts(i)
     }
 
+    /// The layout of node `i`, where its strings have as many bits each, at most 56.
+    #[inline(always)]
+    pub fn layout(&self, i: u16) -> Option<Layout>
+        requires { i < length self.now.nodes }
+        ensures { IfSome result (HasLayout self.now i) }
+    {
+        self.layouts[usize::from(i)]
+    }
+
     /// The description again.
     pub fn into_desc(self) -> Desc
         ensures desc { result ≡ self }
@@ -99,6 +120,7 @@ impl Plan {
             look: _,
             reach: _,
             picks: _,
+            layouts: _,
         } = self;
         desc
     }

@@ -49,29 +49,58 @@ fn finished(builder: DescBuilder, built: bool) -> Result<Desc, Fail> {
     Ok(builder.finish().map_err(|_| "no description")?)
 }
 
+/// What a description is built of, in the order of its text.
+#[derive(Clone, Copy)]
+enum Step {
+    Row,
+    Choice,
+    Close,
+    Literal(Symbol),
+    Field(&'static [u8], u32),
+    Rest(&'static [u8]),
+}
+
+const ROW: Step = Step::Row;
+
+const CHOICE: Step = Step::Choice;
+
+const CLOSE: Step = Step::Close;
+
+const ZERO: Step = Step::Literal(Symbol::Zero);
+
+const ONE: Step = Step::Literal(Symbol::One);
+
+const A: Step = Step::Field(b"A", 3);
+
+const B: Step = Step::Field(b"B", 4);
+
+const LATER: Step = Step::Rest(b"Later");
+
+fn described(alloc: Global, steps: &[Step]) -> Result<Desc, Fail> {
+    let mut builder = DescBuilder::new(alloc, Reading::Received);
+    let mut built = true;
+    for step in steps {
+        built = built
+            && match *step {
+                Step::Row => enter(&mut builder, Head::Seq),
+                Step::Choice => enter(&mut builder, Head::Choice),
+                Step::Close => leave(&mut builder),
+                Step::Literal(symbol) => literal(alloc, &mut builder, symbol)?,
+                Step::Field(name, width) => labelled(alloc, &mut builder, name, bits(width))?,
+                Step::Rest(name) => labelled(alloc, &mut builder, name, Head::Rest)?,
+            };
+    }
+    finished(builder, built)
+}
+
 // 0 <A : bit (3)> <B : bit (4)>
 fn message(alloc: Global) -> Result<Desc, Fail> {
-    let mut builder = DescBuilder::new(alloc, Reading::Received);
-    let built = enter(&mut builder, Head::Seq)
-        && literal(alloc, &mut builder, Symbol::Zero)?
-        && labelled(alloc, &mut builder, b"A", bits(3))?
-        && labelled(alloc, &mut builder, b"B", bits(4))?
-        && leave(&mut builder);
-    finished(builder, built)
+    described(alloc, &[ROW, ZERO, A, B, CLOSE])
 }
 
 // { 0 <A : bit (3)> <Later : bit (**)> | 1 }
 fn later_message(alloc: Global) -> Result<Desc, Fail> {
-    let mut builder = DescBuilder::new(alloc, Reading::Received);
-    let built = enter(&mut builder, Head::Choice)
-        && enter(&mut builder, Head::Seq)
-        && literal(alloc, &mut builder, Symbol::Zero)?
-        && labelled(alloc, &mut builder, b"A", bits(3))?
-        && labelled(alloc, &mut builder, b"Later", Head::Rest)?
-        && leave(&mut builder)
-        && literal(alloc, &mut builder, Symbol::One)?
-        && leave(&mut builder);
-    finished(builder, built)
+    described(alloc, &[CHOICE, ROW, ZERO, A, LATER, CLOSE, ONE, CLOSE])
 }
 
 // <N : bit (2)> <V : bit (val(N) + more)>, under some label in the place of V
@@ -91,29 +120,15 @@ fn counted(alloc: Global, name: &[u8], more: u32) -> Result<Desc, Fail> {
 
 // <A : bit (3)> 0 <B : bit (4)>
 fn flat(alloc: Global) -> Result<Desc, Fail> {
-    let mut builder = DescBuilder::new(alloc, Reading::Received);
-    let built = enter(&mut builder, Head::Seq)
-        && labelled(alloc, &mut builder, b"A", bits(3))?
-        && literal(alloc, &mut builder, Symbol::Zero)?
-        && labelled(alloc, &mut builder, b"B", bits(4))?
-        && leave(&mut builder);
-    finished(builder, built)
+    described(alloc, &[ROW, A, ZERO, B, CLOSE])
 }
 
 // <A : bit (3)> { 0 <B : bit (4)> | 1 }
 fn branched(alloc: Global) -> Result<Desc, Fail> {
-    let mut builder = DescBuilder::new(alloc, Reading::Received);
-    let built = enter(&mut builder, Head::Seq)
-        && labelled(alloc, &mut builder, b"A", bits(3))?
-        && enter(&mut builder, Head::Choice)
-        && enter(&mut builder, Head::Seq)
-        && literal(alloc, &mut builder, Symbol::Zero)?
-        && labelled(alloc, &mut builder, b"B", bits(4))?
-        && leave(&mut builder)
-        && literal(alloc, &mut builder, Symbol::One)?
-        && leave(&mut builder)
-        && leave(&mut builder);
-    finished(builder, built)
+    described(
+        alloc,
+        &[ROW, A, CHOICE, ROW, ZERO, B, CLOSE, ONE, CLOSE, CLOSE],
+    )
 }
 
 fn answer(was: Desc, now: Desc) -> Option<bool> {

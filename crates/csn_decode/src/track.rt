@@ -57,9 +57,14 @@ impl TreeTrack {
 }
 
 impl Track for TreeTrack {
+    ghost use Rattle.std.specs.Prelude.{⊤};
     ghost use Rattle.csn_decode.specs.Built.{Makes};
 
     ghost takes = { Makes };
+
+    ghost fits = { λ _ _. ⊤ };
+
+    ghost keeps = { λ _ _ _ _ _ _ _. tt };
 
     fn step(&mut self, step: Move, node: &Node) {
         if !self.refused {

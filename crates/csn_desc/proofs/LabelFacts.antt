@@ -1,12 +1,13 @@
 -- Words with one space between are a label. Other crates cite this.
-use Rattle.std.proofs.Common.{◌≡◌, ℕ, Bool, true, false, List, [], ◌∷◌, ◌++◌, refl, ◌∙◌, ap, subst}
+use Rattle.std.proofs.Common.{◌≡◌, ◌<◌, ℕ, Bool, true, false, List, [], ◌∷◌, ◌++◌, length, inl, inr, refl, ◌∙◌, ap, subst, arith}
 use Rattle.std.specs.Prelude.{◌==◌, ◌&&◌, ◌||◌}
-use Rattle.std.specs.List.{All, list_all, slice_split}
-use Rattle.std.proofs.lemmas.Bool.{eqb-true}
+use Rattle.std.specs.List.{All, list_all, slice_split, onto_first}
+use Rattle.std.proofs.lemmas.Bool.{eqb-true, and_from, cases_Bool}
 use Rattle.std.proofs.lemmas.List.Elements.{All-nil, All-cons}
-use Rattle.std.proofs.lemmas.List.Splits.{slice_split_none, slice_split_at}
+use Rattle.std.proofs.lemmas.List.Folds.{list_all-append}
+use Rattle.std.proofs.lemmas.List.Splits.{slice_split_none, slice_split_at, length-slice_split}
 use Rattle.csn_lexer.specs.Word.{IsWord, is_word, is_word_tail, begins_word, goes_on_in_word, joins_pieces, starts_alphanumeric}
-use Rattle.csn_desc.specs.Label.{IsLabel}
+use Rattle.csn_desc.specs.Label.{is_label, IsLabel}
 
 -- a byte that may stand in a word is no space
 no_space : (c : ℕ) → (goes_on_in_word c || joins_pieces c) ≡ true → (c == 32) ≡ false
@@ -58,3 +59,33 @@ pub label_behind_word : (w rest : List ℕ) → IsWord w → IsLabel rest → Is
 label_behind_word w rest h others =
     ap (λ parts. list_all is_word parts) (slice_split_at (λ c. c == 32) w 32 rest (word_without_space w h) refl)
     ∙ and_true (is_word w) (list_all is_word (slice_split (λ c. c == 32) rest)) h others
+
+-- ---- one word more
+
+abbrev split : List ℕ → List (List ℕ)
+split bytes = slice_split (λ c. c == 32) bytes
+
+-- what stands between the spaces has a first part
+some_part : (a : List ℕ) → (p : List ℕ) × (ps : List (List ℕ)) × (split a ≡ p ∷ ps)
+some_part a = first_part (split a) (omega (arith, length-slice_split (λ c. c == 32) a))
+  where
+    first_part : (parts : List (List ℕ)) → 0 < length parts → (p : List ℕ) × (ps : List (List ℕ)) × (parts ≡ p ∷ ps)
+    first_part [] h = absurd (omega arith)
+    first_part (p ∷ ps) h = (p, ps, refl)
+
+onto_first-append : (x : ℕ) (a : List ℕ) (bs : List (List ℕ)) → onto_first x (split a ++ bs) ≡ onto_first x (split a) ++ bs
+onto_first-append x a bs = let some = some_part a in rw some.2 refl
+
+split-append : (a w : List ℕ) → split (a ++ 32 ∷ w) ≡ split a ++ split w
+split-append [] w = refl
+split-append (x ∷ a) w = elim (cases_Bool (x == 32)) [
+  | inl is ↦ rw (is, split-append a w) refl
+  | inr other ↦ rw (other, split-append a w) (onto_first-append x a (split w))
+]
+
+-- a label with a space and a word behind it is a label
+pub label_more : (a w : List ℕ) → IsLabel a → IsWord w → IsLabel (a ++ 32 ∷ w)
+label_more a w h k =
+    ap (list_all is_word) (split-append a w)
+    ∙ list_all-append is_word (split a) (split w)
+    ∙ and_from (is_label a) (is_label w) h (word_is_label w k)

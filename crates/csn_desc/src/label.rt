@@ -1,6 +1,6 @@
-ghost use Rattle.std.specs.Prelude.{◌≡◌, ◌↔◌, IsTrue, IfOk, OnOk};
+ghost use Rattle.std.specs.Prelude.{◌≡◌, ◌↔◌, ◌∷◌, ◌++◌, IsTrue, IfOk, OnOk};
 ghost use Rattle.csn_desc.specs.Label.{IsLabel, is_label};
-ghost use Rattle.csn_lexer.specs.Word.{is_word};
+ghost use Rattle.csn_lexer.specs.Word.{IsWord, is_word};
 
 use csn_bits::NoMemory;
 use csn_lexer::is_word;
@@ -48,6 +48,25 @@ impl Label {
             Ok(bytes) => Ok(Label { bytes }),
             Err(_) => Err(LabelFault::NoMemory),
         }
+    }
+
+    /// The label that is one word.
+    pub fn of_word(alloc: Global, word: &[u8]) -> Result<Label, NoMemory>
+        requires { IsWord word.now }
+        ensures { IfOk result (λ label. label ≡ word.now) }
+    {
+        let bytes = Vec::from_slice(alloc, word)?;
+        Ok(Label { bytes })
+    }
+
+    /// This label and one word more.
+    pub fn and(mut self, word: &[u8]) -> Result<Label, NoMemory>
+        requires { IsWord word.now }
+        ensures { IfOk result (λ label. label ≡ self ++ 32 ∷ word.now) }
+    {
+        self.bytes.push(b' ')?;
+        self.bytes.extend_from_slice(word)?;
+        Ok(self)
     }
 
     /// The bytes as they are written.

@@ -32,6 +32,14 @@ fn labels_are_words_with_one_space_between(rt: HostRuntime) -> Result<(), Fail> 
 }
 
 #[test]
+fn a_label_grows_by_words(rt: HostRuntime) -> Result<(), Fail> {
+    let label = Label::of_word(rt.alloc(), b"GPRS").map_err(|_| "out of memory")?;
+    let longer = label.and(b"Cell").map_err(|_| "out of memory")?;
+    assert_eq!(rt; longer.bytes(), b"GPRS Cell".as_slice());
+    Ok(())
+}
+
+#[test]
 fn a_run_holds_its_symbols(rt: HostRuntime) -> Result<(), Fail> {
     let mut run = Run::new(rt.alloc());
     run.push(Symbol::High).map_err(|_| "out of memory")?;

@@ -8,3 +8,5 @@ pub mod Leaves
 pub mod NodeKinds
 pub mod Total
 pub mod Blocks
+pub mod Texts
+pub mod OctetRuns

@@ -3,3 +3,4 @@ pub mod Writing
 pub mod Encoding
 pub mod Laws
 pub mod Examples
+pub mod Following

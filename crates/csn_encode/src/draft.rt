@@ -1,7 +1,8 @@
 //! The bits that are written of a tree.
 
-ghost use Rattle.std.specs.Prelude.{◌≡◌, ℕ, ◌+◌, ◌-◌, ◌*◌, ◌<◌, ◌≤◌, [], ◌∷◌, ◌++◌, Bool, true, length, drop, if◌then◌else◌, OnOk, IfErr, Some, IsTrue, IsOk};
-ghost use Rattle.csn_bits.specs.Octets.{most_bits, IsBits};
+ghost use Rattle.std.specs.Prelude.{◌≡◌, ℕ, ◌+◌, ◌-◌, ◌*◌, ◌<◌, ◌≤◌, [], ◌∷◌, ◌++◌, Bool, true, length, take, drop, if◌then◌else◌, OnOk, IfErr, Some, IsTrue, IsOk};
+ghost use Rattle.csn_bits.specs.Octets.{most_bits, IsBits, bits_of_octets};
+ghost use Rattle.csn_encode.specs.declared.draft.TheConstants.{RUN_OCTETS};
 ghost use Rattle.csn_bits.specs.Numbers.{number_of};
 ghost use Rattle.csn_desc.specs.Nodes.{DescV};
 ghost use Rattle.csn_desc.specs.Spelled.{spelled};
@@ -16,10 +17,13 @@ use crate::fault::Stop;
 use crate::misfit::MisfitWhy;
 use crate::path::Path;
 use arrayvec::ArrayVec;
-use csn_bits::{Bits, MOST_BITS, PackedBits};
+use csn_bits::{Bits, MOST_ADDED, MOST_BITS, PackedBits};
 use csn_certify::{MOST_NUMBERS, Number, Plan, count_of};
 use csn_desc::{Count, Run};
 use std::alloc::Global;
+
+/// The octets whose bits are added at once.
+const RUN_OCTETS: usize = 7;
 
 /// What is written so far of a tree, and where in the tree the writing stands.
 #[derive(Drop)]
@@ -67,7 +71,29 @@ impl Draft {
         if leaf.len() > MOST_BITS - self.bits.len() {
             return Err(Stop::Misfit(MisfitWhy::TooManyBits));
         }
-        Ok(self.bits.append(leaf)?)
+        let mut rest = leaf.octets();
+        let mut left = leaf.len();
+        while left > MOST_ADDED {
+            let (front, back) = rest.split_at(RUN_OCTETS);
+            self.add_run(front, MOST_ADDED)?;
+            rest = back;
+            left -= MOST_ADDED;
+        }
+        self.add_run(rest, left)
+    }
+
+    /// Adds the first bits of a few octets, as one number.
+    fn add_run(&mut self, octets: &[u8], count: u32) -> Result<(), Stop>
+        requires few { length octets.now ≤ RUN_OCTETS }
+        requires within { count ≤ 8 * length octets.now }
+        requires room { length self.old.bits + count ≤ most_bits }
+        ensures bits { OnOk result (self.new.bits ≡ self.old.bits ++ take count (bits_of_octets octets.now)) }
+        ensures memory { IfErr result (λ stop. stop ≡ Stop.NoMemory) }
+        ensures path { self.new.path ≡ self.old.path }
+        ensures numbers { self.new.numbers ≡ self.old.numbers }
+    {
+        let unused = 8 * octets.len() as u32 - count;
+        Ok(self.bits.add(octets_number(octets) >> unused, count)?)
     }
 
     /// Adds the bits of a literal, where a block has room for them.
@@ -126,4 +152,17 @@ impl Draft {
         }
         value
     }
+}
+
+/// The number that the bits of a few octets write.
+fn octets_number(octets: &[u8]) -> u64
+    requires { length octets.now ≤ RUN_OCTETS }
+    ensures number { result ≡ number_of (bits_of_octets octets.now) }
+    ensures bits { IsBits (bits_of_octets octets.now) }
+{
+    let mut number = 0;
+    for &octet in octets {
+        number = 256 * number + u64::from(octet);
+    }
+    number
 }

@@ -1,6 +1,10 @@
-ghost use Rattle.std.specs.Prelude.{IfOk, IfErr};
+ghost use Rattle.std.specs.Prelude.{◌≡◌, IfOk, IfErr, IfSome};
+ghost use Rattle.csn_desc.specs.TreeV.{TreeV};
+ghost use Rattle.csn_treetext.specs.declared.version.Version.TheVariants.{Second};
+ghost use Rattle.csn_treetext.specs.Text.{text_of};
 ghost use Rattle.csn_encode.specs.Encoding.{IsBlockOf, IsFaultOf};
 
+use crate::along::Ground;
 use crate::draft::Draft;
 use crate::fault::{EncodeFault, Stop};
 use crate::misfit::Misfit;
@@ -36,4 +40,27 @@ pub fn encode<L: Ledger>(
         })),
         Err(Stop::NoMemory) => Err(EncodeFault::NoMemory),
     }
+}
+
+/// The bits that have the tree of a text, as a whole block, without the tree itself. Where there are none, and
+/// for want of memory, it tells nothing.
+pub fn encode_text<L: Ledger>(
+    alloc: Global,
+    plan: &Plan,
+    text: &[u8],
+    steps: &mut Steps<L>,
+) -> Option<Bits>
+    ensures { IfSome result (λ bits. (t : TreeV) × (text.now ≡ text_of Second t) × IsBlockOf plan.now t bits) }
+{
+    // its length tells that it is certified
+    let _count = plan.len();
+    let mut draft = Draft::new(alloc);
+    let rest = draft.write_text(Ground { alloc, plan }, 0, 0, text, steps)?;
+    if rest.len() != 0 {
+        return None;
+    }
+    let Ok(bits) = draft.bits.take(alloc) else {
+        return None;
+    };
+    Some(bits)
 }

@@ -42,6 +42,11 @@ claimed_there (Some position) p there = refl
 pub pattern_reached : (c : List NodeV) (i o : ℕ) (p : PatternV) → Contains (patterns_at c i o) p → IsTrue ((claims_of c).reached i o)
 pattern_reached c i o p there = claimed_there (claimed c i o) p there
 
+-- where a node does not have an octet position, it has no pattern there
+pub no_pattern : (c : List NodeV) (i o : ℕ) (p : PatternV) (has : Bool) → has ≡ is_some (claimed c i o) → has ≡ false → ¬ Contains (patterns_at c i o) p
+no_pattern c i o p has told wrong at =
+    let there : IsTrue (is_some (claimed c i o)) = pattern_reached c i o p at in cc
+
 not_true : (b : Bool) → (IsTrue b → ⊥) → b ≡ false
 not_true true never = absurd (never refl)
 not_true false never = refl
@@ -58,6 +63,10 @@ pub item_at : {X : Type 0} (xs : List X) (k : ℕ) → k < length xs → (x : X)
 item_at [] k less = absurd (omega arith)
 item_at (x ∷ xs) zero less = (x, refl)
 item_at (x ∷ xs) (suc k) less = item_at xs k (omega arith)
+
+-- at one place stands one thing
+pub one_item : {X : Type 0} (xs : List X) {k n : ℕ} {x y : X} → k ≡ n → slice_get xs k ≡ Some x → slice_get xs n ≡ Some y → x ≡ y
+one_item xs same at_k at_n = let here = ap (λ m. slice_get xs m) same in cc
 
 no_marks : (p : PatternV) (mark : Bool) → denotes p [] mark ≡ true → p.marks ≡ []
 no_marks p mark holds = no_size p.marks (says p [] mark holds).bits

@@ -99,6 +99,14 @@ take_until xs k most all = elim (cases_order k 12) [
 
 -- ---- what the equation of a node makes
 
+-- a node of none of these kinds is a leaf
+pub other_is_leaf : (n : Node) → ((parts : List ℕ) → ¬ (n ≡ Seq parts)) → ((parts : List ℕ) → ¬ (n ≡ Choice parts)) → ((count : Count) (part : ℕ) → ¬ (n ≡ Times count part)) → ((label : List ℕ) (part : ℕ) → ¬ (n ≡ Named label part)) → IsLeaf n
+other_is_leaf (Seq parts) no_seq no_choice no_times no_name = no_seq parts refl
+other_is_leaf (Choice parts) no_seq no_choice no_times no_name = no_choice parts refl
+other_is_leaf (Times count part) no_seq no_choice no_times no_name = absurd (no_times count part refl)
+other_is_leaf (Named label part) no_seq no_choice no_times no_name = no_name label part refl
+other_is_leaf _ no_seq no_choice no_times no_name = tt
+
 module _ (d : DescV) (c : List NodeV) (is : IsCertificate c) (i : ℕ) where
   leaf_only : {n : Node} {o : ℕ} {p : PatternV} → IsLeaf n → NodePatterns d.reading c n o p → p ≡ leaf_pattern d.reading n o
   leaf_only leaf (patterns_lits same) = same

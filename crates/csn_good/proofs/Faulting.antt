@@ -25,20 +25,19 @@ module _ (d : DescV) (c : List NodeV) (number : KeepsNumber d c) where
     pub reached : 6 < rule → KeepsReached d c i n
     pub follow : 7 < rule → KeepsFollow d c i n
 
+  -- a rule that the node breaks is none of those that it keeps
+  not_kept : (own rule i : ℕ) {n m : Node} {other : ℕ} (Keeps : Node → Type 0) → slice_get d.nodes i ≡ Some n → slice_get d.nodes i ≡ Some m → (own < rule → Keeps n) → ¬ Keeps m → other ≡ own → rule ≤ other
+  not_kept own rule i Keeps at there kept wrong is =
+      elim (lower own rule) [ inl less ↦ absurd (wrong (subst Keeps (same_node d i at there) (kept less))) | inr low ↦ omega arith ]
+
   pub least : (rule i : ℕ) (n : Node) → rule ≤ 8 → slice_get d.nodes i ≡ Some n → KeptBelow rule i n → (other : ℕ) → Breaks d c other i → rule ≤ other
   least rule i n most at kept other (breaks_number r z wrong) = absurd (wrong number)
-  least rule i n most at kept other (breaks_nullable m r there wrong) =
-      elim (lower 2 rule) [ inl less ↦ absurd (wrong (subst (KeepsNullable d c i) (same_node d i at there) (kept.nullable less))) | inr low ↦ omega arith ]
-  least rule i n most at kept other (breaks_ends m r there wrong) =
-      elim (lower 3 rule) [ inl less ↦ absurd (wrong (subst (KeepsEnds d c i) (same_node d i at there) (kept.ends less))) | inr low ↦ omega arith ]
-  least rule i n most at kept other (breaks_start m r there wrong) =
-      elim (lower 4 rule) [ inl less ↦ absurd (wrong (subst (KeepsStart d c i) (same_node d i at there) (kept.start less))) | inr low ↦ omega arith ]
-  least rule i n most at kept other (breaks_keys m r there wrong) =
-      elim (lower 5 rule) [ inl less ↦ absurd (wrong (subst (KeepsKeys d c i) (same_node d i at there) (kept.keys less))) | inr low ↦ omega arith ]
-  least rule i n most at kept other (breaks_reached m r there wrong) =
-      elim (lower 6 rule) [ inl less ↦ absurd (wrong (subst (KeepsReached d c i) (same_node d i at there) (kept.reached less))) | inr low ↦ omega arith ]
-  least rule i n most at kept other (breaks_follow m r there wrong) =
-      elim (lower 7 rule) [ inl less ↦ absurd (wrong (subst (KeepsFollow d c i) (same_node d i at there) (kept.follow less))) | inr low ↦ omega arith ]
+  least rule i n most at kept other (breaks_nullable m r there wrong) = not_kept 2 rule i (KeepsNullable d c i) at there kept.nullable wrong r
+  least rule i n most at kept other (breaks_ends m r there wrong) = not_kept 3 rule i (KeepsEnds d c i) at there kept.ends wrong r
+  least rule i n most at kept other (breaks_start m r there wrong) = not_kept 4 rule i (KeepsStart d c i) at there kept.start wrong r
+  least rule i n most at kept other (breaks_keys m r there wrong) = not_kept 5 rule i (KeepsKeys d c i) at there kept.keys wrong r
+  least rule i n most at kept other (breaks_reached m r there wrong) = not_kept 6 rule i (KeepsReached d c i) at there kept.reached wrong r
+  least rule i n most at kept other (breaks_follow m r there wrong) = not_kept 7 rule i (KeepsFollow d c i) at there kept.follow wrong r
   least rule i n most at kept other (breaks_apart m r there wrong) = omega arith
 
   -- a node that keeps each rule breaks none

@@ -1,6 +1,6 @@
 -- Patterns that are made: their numbers, two of them one after the other, and those of parts one after another.
 use Rattle.std.proofs.Common.{◌≡◌, ℕ, zero, suc, ◌+◌, ◌*◌, ◌-◌, ◌%◌, ◌<◌, ◌≤◌, Bool, true, false, if◌then◌else◌, List, [], ◌∷◌, ◌++◌, length, take, drop, inl, inr, refl, sym, ◌∙◌, ap, subst, arith, Option, Some, None, slice_get, nat_eq, append_assoc, length-append}
-use Rattle.std.specs.Prelude.{◌⊎◌, ◌↔◌, IsTrue, Contains, nat_le, ◌&&◌, is_some, IfSome}
+use Rattle.std.specs.Prelude.{◌⊎◌, ◌↔◌, IsTrue, Contains, nat_le, ◌==◌, ◌&&◌, is_some, IfSome}
 use Rattle.std.specs.List.{list_any}
 use Rattle.std.proofs.lemmas.Bool.Decides.{nat_tests}
 use Rattle.std.proofs.lemmas.List.Elements.{Contains-append_left, Contains-append_right, Contains-append_cases}
@@ -24,16 +24,17 @@ digit_low Zero = (omega arith, omega arith)
 digit_low One = (omega arith, omega arith)
 digit_low Any = (omega arith, omega arith)
 
+-- the mark of a digit
+abbrev mark_for : ℕ → Mark
+mark_for digit = if digit == 1 then Zero else (if digit == 2 then One else Any)
+
+digit_back : (mark : Mark) → mark_for (digit_of mark) ≡ mark
+digit_back Zero = refl
+digit_back One = refl
+digit_back Any = refl
+
 digits_same : (a b : Mark) → digit_of a ≡ digit_of b → a ≡ b
-digits_same Zero Zero same = refl
-digits_same Zero One same = absurd (omega arith)
-digits_same Zero Any same = absurd (omega arith)
-digits_same One Zero same = absurd (omega arith)
-digits_same One One same = refl
-digits_same One Any same = absurd (omega arith)
-digits_same Any Zero same = absurd (omega arith)
-digits_same Any One same = absurd (omega arith)
-digits_same Any Any same = refl
+digits_same a b same = sym (digit_back a) ∙ ap mark_for same ∙ digit_back b
 
 marks_same : (left right : List Mark) → marks_number left ≡ marks_number right → left ≡ right
 marks_same [] [] same = refl

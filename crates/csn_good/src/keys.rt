@@ -309,25 +309,13 @@ pub(crate) fn keeps_keys(
     ensures { IfOk result (λ keeps. IsTrue keeps ↔ KeepsKeys desc.now c.now i node.now) }
 {
     match node {
-        Node::Lits(_) => Ok(leaf_is_covered(desc, c, i, node)),
-        Node::Spare(_) => Ok(leaf_is_covered(desc, c, i, node)),
-        Node::Pad => Ok(leaf_is_covered(desc, c, i, node)),
-        Node::Null => Ok(leaf_is_covered(desc, c, i, node)),
-        Node::Field { unit: _, count: _ } => Ok(leaf_is_covered(desc, c, i, node)),
-        Node::Rest => Ok(leaf_is_covered(desc, c, i, node)),
         Node::Seq(parts) => {
             let made = made_of_parts(alloc, c, parts)?;
             Ok(made_is_covered(c, i, &made))
         }
         Node::Choice(parts) => Ok(each_is_covered(c, i, parts)),
         Node::Times { count, part } => turns_are_covered(alloc, desc, c, i, node, *count, *part),
-        Node::Many(_) => Ok(leaf_is_covered(desc, c, i, node)),
-        Node::Trunc(_) => Ok(leaf_is_covered(desc, c, i, node)),
-        Node::Window {
-            unit: _,
-            count: _,
-            part: _,
-        } => Ok(leaf_is_covered(desc, c, i, node)),
         Node::Named { label: _, part } => Ok(part_is_covered(c, i, *part)),
+        _ => Ok(leaf_is_covered(desc, c, i, node)),
     }
 }

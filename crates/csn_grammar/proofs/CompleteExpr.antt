@@ -1,5 +1,6 @@
 -- The reader takes every expression and all rules.
 use Rattle.std.proofs.Common.{◌≡◌, ℕ, suc, ◌<◌, Bool, true, false, List, [], ◌∷◌, ◌++◌, length, Some, None, refl, sym, ap, ◌∙◌, subst, arith, append_assoc, lt-ltb}
+use Rattle.csn_lexer.specs.declared.token.TokenKind.{TokenKind}
 use Rattle.csn_lexer.specs.declared.token.TokenKind.TheVariants as kind
 use Rattle.csn_grammar.specs.declared.expr.TheConstants.{MOST_OPEN}
 use Rattle.csn_grammar.specs.declared.reader.body.Frame.{Frame}
@@ -16,7 +17,7 @@ use Rattle.csn_grammar.specs.Grammar.{NotSlashes, components_of, IsBase, bit_bas
 use Rattle.csn_grammar.specs.reader.Spellings.{word_form}
 use Rattle.csn_grammar.specs.reader.Building.{end_of, seq_with, cut_with, choice_with, both_of, sends_of, power_of}
 use Rattle.csn_grammar.specs.reader.BodySteps.{fresh, with_joint, word_mode, open_frame, begin_side, close, after_seq, after_item, after_window, after_joint, after_side, after_slashes, after_base, after_words, first_word, body_step}
-use Rattle.csn_grammar.proofs.Run.{level_of, Leads, Comes}
+use Rattle.csn_grammar.proofs.Run.{level_of, Step, Leads, Comes}
 use Rattle.csn_grammar.proofs.Members.{whole_seq, whole_cut, items_begin, no_items, no_branches, whole_choice}
 use Rattle.csn_grammar.proofs.Complete.{close_none, no_lead, close_to_seq, seq_to_item, side_to_item, item_to_window, window_to_side}
 use Rattle.csn_grammar.proofs.CompleteWords.{lits_is, exponent_from}
@@ -74,20 +75,24 @@ module _ (rules : RulesV) (begin : ℕ) (title : List ℕ) where
   leads_done frames level x [] out h = absurd h
   leads_done frames level x (token k s n w ∷ ts) out h = h
 
+  -- where two steps are one, tokens lead by one where they lead by the other
+  leads_as : (f g : Step) → ((k : TokenKind) (s n : ℕ) (w : List ℕ) → f k s n w ≡ g k s n w) → (ts : List TokenV) (out : RulesV)
+      → Leads rules begin title f ts out → Leads rules begin title g ts out
+  leads_as f g same [] out h = h
+  leads_as f g same (token k s n w ∷ ts) out h = rw (same k s n w) at h
+
   -- behind the second side of `&` and of `=`
   pub both_leads : (frames : List Frame) (bs : List BranchV) (e : Bool) (xs : List ExprV) (l x : ExprV) (ts : List TokenV) (out : RulesV)
       → Leads rules begin title (after_window frames (level_of bs e xs Alone) (both_of l x)) ts out
       → Leads rules begin title (after_side frames (level_of bs e xs (Window l)) x) ts out
   unfolding after_side after_joint
-  both_leads frames bs e xs l x [] out h = h
-  both_leads frames bs e xs l x (token k s n w ∷ ts) out h = h
+  both_leads frames bs e xs l x = leads_as (after_window frames (level_of bs e xs Alone) (both_of l x)) (after_side frames (level_of bs e xs (Window l)) x) (λ k s n w. refl)
 
   pub sends_leads : (frames : List Frame) (bs : List BranchV) (e : Bool) (xs : List ExprV) (l x : ExprV) (ts : List TokenV) (out : RulesV)
       → Leads rules begin title (after_item frames (level_of bs e xs Alone) (sends_of l x)) ts out
       → Leads rules begin title (after_side frames (level_of bs e xs (Sends l)) x) ts out
   unfolding after_side after_joint
-  sends_leads frames bs e xs l x [] out h = h
-  sends_leads frames bs e xs l x (token k s n w ∷ ts) out h = h
+  sends_leads frames bs e xs l x = leads_as (after_item frames (level_of bs e xs Alone) (sends_of l x)) (after_side frames (level_of bs e xs (Sends l)) x) (λ k s n w. refl)
 
   slashes_lead : (frames : List Frame) (bs : List BranchV) (e : Bool) (q : ExprV) (ts : List TokenV) (out : RulesV)
       → Leads rules begin title (λ k s n w. after_seq frames (level_of bs e [] Alone) q k n) ts out

@@ -5,7 +5,6 @@ pub mod Empties
 pub mod OneRule
 pub mod ExampleFacts
 pub mod RefusedExamples
-pub mod Labels
 pub mod Spelled
 pub mod Run
 pub mod Members

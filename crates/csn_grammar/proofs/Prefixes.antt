@@ -3,7 +3,7 @@ use Rattle.std.proofs.Common.{◌≡◌, ℕ, ◌+◌, true, List, [], ◌∷◌
 use Rattle.csn_desc.specs.declared.reading.Reading.{Reading}
 use Rattle.csn_desc.specs.TreeV.{TreeV, empty, bits, row, Trees, none, more}
 use Rattle.csn_desc.specs.Spelled.{spelled}
-use Rattle.csn_desc.proofs.Splits.{inside, behind, splits}
+use Rattle.csn_desc.proofs.Splits.{inside, behind, splits, front_begun, front_empty, cut_again}
 use Rattle.csn_desc.proofs.BitFacts.{IsBits-front, IsBits-along}
 use Rattle.csn_grammar.specs.declared.exponent.Exponent.{Exponent}
 use Rattle.csn_grammar.specs.declared.exponent.Exponent.TheVariants.{Any, Number, Linear}
@@ -17,14 +17,6 @@ use Rattle.csn_grammar.specs.Void.{SomeVoid}
 use Rattle.csn_grammar.specs.Meaning.{Means, ItemsMean, TimesMean, ManyMean, LeadMean, RuleMeans, TailMeans, means_lits, means_null, means_bit, means_octet, means_field, means_rest, means_spare_bit, means_spare_low, means_padding, means_seq, means_choice, means_only, means_times, means_many, means_cut_all, means_cut, means_window, means_labelled, means_name, means_group, means_received, means_sent, items_end, items_next, times_end, times_next, many_end, many_next, lead_last, lead_next, rule_plain, rule_tail, tail_stop, tail_again}
 use Rattle.csn_grammar.specs.Follow.{Follow, ItemsFollow, TimesFollow, ManyFollow, RuleFollows, TailFollows, follows_whole, follows_leaf, follows_seq, follows_choice, follows_times, follows_many, follows_cut, follows_window, follows_labelled, follows_name, follows_group, follows_received, follows_sent, items_here, items_later, times_here, times_later, many_here, many_later, follows_plain, follows_tail, tail_items, tail_stops, tail_goes_on, tail_turns}
 use Rattle.csn_grammar.proofs.VoidFacts.{items_full}
-
-none_before : {A : Type 0} (b c : List A) → [] ≡ b ++ c → b ≡ []
-none_before [] c e = refl
-none_before (x ∷ b) c e = cc
-
--- bits cut from a whole, cut once more
-again : {A : Type 0} {w : List A} (l b c r : List A) → w ≡ l ++ r → l ≡ b ++ c → w ≡ b ++ (c ++ r)
-again l b c r p q = p ∙ ap (λ m. m ++ r) q ∙ append_assoc b c r
 
 -- a part with a number of units is a leaf
 pub field_leaf : (s e : ℕ) (x : ExprV) (k : Exponent) (env : Env) (unit n : ℕ) → unit_of x ≡ Some unit
@@ -66,7 +58,7 @@ module _ (rules : RulesV) (r : Reading) where
     pub begins : {x : ExprV} {o : ℕ} {env : Env} {w : List ℕ} {t : TreeV} → Means rules r x o env w t
         → (b c : List ℕ) → w ≡ b ++ c → Follow rules r x o env b
     begins {w = w} (means_lits h) b c e = follows_leaf w c refl e (means_lits h)
-    begins (means_null h) b c e = follows_whole empty (means_null (none_before b c (sym h ∙ e)))
+    begins (means_null h) b c e = follows_whole empty (means_null (front_empty b c (sym e ∙ h)))
     begins {w = w} (means_bit one h) b c e = follows_leaf w c refl e (means_bit one h)
     begins {w = w} (means_octet eight h) b c e = follows_leaf w c refl e (means_octet eight h)
     begins {env = env} {w = w} (means_field {s = s} {e = end} {x = x} {k = k} unit n is count wide h) b c e =
@@ -83,7 +75,7 @@ module _ (rules : RulesV) (r : Reading) where
         elim (times_begin h b c e) [ inl f ↦ follows_times n is count f | inr whole ↦ follows_whole (row whole.0) (means_times n is count whole.1) ]
     begins (means_many is h) b c e =
         elim (many_begin h b c e) [ inl f ↦ follows_many is f | inr whole ↦ follows_whole (row whole.0) (means_many is whole.1) ]
-    begins (means_cut_all h) b c e = follows_whole (row none) (means_cut_all (none_before b c (sym h ∙ e)))
+    begins (means_cut_all h) b c e = follows_whole (row none) (means_cut_all (front_empty b c (sym e ∙ h)))
     begins (means_cut h) b c e = follows_cut (lead_begins h b c e)
     begins {w = w} (means_window v n at count wide h) b c e =
         follows_window v n at count (omega (arith, ap length e, length-append b c)) (begins h b c e)
@@ -95,39 +87,24 @@ module _ (rules : RulesV) (r : Reading) where
 
     items_begin : {xs : ExprsV} {o : ℕ} {frame : Frame} {env : Env} {w : List ℕ} {ts : Trees}
         → ItemsMean rules r xs o frame env w ts → (b c : List ℕ) → w ≡ b ++ c → ItemsBegun xs o frame env b
-    items_begin (items_end h) b c e = inr (none, items_end (none_before b c (sym h ∙ e)))
+    items_begin (items_end h) b c e = inr (none, items_end (front_empty b c (sym e ∙ h)))
     items_begin (items_next {t = t} b1 b2 joins h others) b c e =
-        elim (splits b1 b2 b c (sym joins ∙ e)) [
-          | inside m p q ↦ inl (items_here (begins h b m p))
-          | behind m p q ↦ elim (items_begin others m c q) [
-            | inl f ↦ inl (items_later b1 m p h f)
-            | inr whole ↦ inr (more t whole.0, items_next b1 m p h whole.1)
-          ]
-        ]
+        front_begun b1 b2 b c (sym joins ∙ e) (λ m p. inl (items_here (begins h b m p))) (λ m q. items_begin others m c q)
+        (λ m p f. inl (items_later b1 m p h f)) (λ m p ts are. inr (more t ts, items_next b1 m p h are))
 
     times_begin : {n o : ℕ} {x : ExprV} {env : Env} {w : List ℕ} {ts : Trees}
         → TimesMean rules r n x o env w ts → (b c : List ℕ) → w ≡ b ++ c → TimesBegun n x o env b
-    times_begin (times_end zero h) b c e = inr (none, times_end zero (none_before b c (sym h ∙ e)))
+    times_begin (times_end zero h) b c e = inr (none, times_end zero (front_empty b c (sym e ∙ h)))
     times_begin (times_next {t = t} m is b1 b2 joins h others) b c e =
-        elim (splits b1 b2 b c (sym joins ∙ e)) [
-          | inside l p q ↦ inl (times_here (omega arith) (begins h b l p))
-          | behind l p q ↦ elim (times_begin others l c q) [
-            | inl f ↦ inl (times_later m is b1 l p h f)
-            | inr whole ↦ inr (more t whole.0, times_next m is b1 l p h whole.1)
-          ]
-        ]
+        front_begun b1 b2 b c (sym joins ∙ e) (λ l p. inl (times_here (omega arith) (begins h b l p))) (λ l q. times_begin others l c q)
+        (λ l p f. inl (times_later m is b1 l p h f)) (λ l p ts are. inr (more t ts, times_next m is b1 l p h are))
 
     many_begin : {x : ExprV} {o : ℕ} {env : Env} {w : List ℕ} {ts : Trees} → ManyMean rules r x o env w ts
         → (b c : List ℕ) → w ≡ b ++ c → ManyBegun x o env b
-    many_begin (many_end h) b c e = inr (none, many_end (none_before b c (sym h ∙ e)))
+    many_begin (many_end h) b c e = inr (none, many_end (front_empty b c (sym e ∙ h)))
     many_begin (many_next {t = t} b1 b2 joins some h others) b c e =
-        elim (splits b1 b2 b c (sym joins ∙ e)) [
-          | inside l p q ↦ inl (many_here (begins h b l p))
-          | behind l p q ↦ elim (many_begin others l c q) [
-            | inl f ↦ inl (many_later b1 l p some h f)
-            | inr whole ↦ inr (more t whole.0, many_next b1 l p some h whole.1)
-          ]
-        ]
+        front_begun b1 b2 b c (sym joins ∙ e) (λ l p. inl (many_here (begins h b l p))) (λ l q. many_begin others l c q)
+        (λ l p f. inl (many_later b1 l p some h f)) (λ l p ts are. inr (more t ts, many_next b1 l p some h are))
 
     lead_begins : {xs : ExprsV} {o : ℕ} {frame : Frame} {env : Env} {w : List ℕ} {ts : Trees}
         → LeadMean rules r xs o frame env w ts → (b c : List ℕ) → w ≡ b ++ c
@@ -167,7 +144,7 @@ module _ (rules : RulesV) (r : Reading) where
     pub prefix_followed : {x : ExprV} {o : ℕ} {env : Env} {w : List ℕ} → Follow rules r x o env w
         → (b c : List ℕ) → w ≡ b ++ c → Follow rules r x o env b
     prefix_followed (follows_whole t h) b c e = begins h b c e
-    prefix_followed {w = w} (follows_leaf whole rest leaf joins h) b c e = follows_leaf whole (c ++ rest) leaf (again w b c rest joins e) h
+    prefix_followed {w = w} (follows_leaf whole rest leaf joins h) b c e = follows_leaf whole (c ++ rest) leaf (cut_again w b c rest joins e) h
     prefix_followed (follows_seq full h) b c e = follows_seq full (items_prefix h b c e)
     prefix_followed (follows_choice xs j kept at h) b c e = follows_choice xs j kept at (prefix_followed h b c e)
     prefix_followed (follows_times n is count h) b c e = follows_times n is count (times_prefix h b c e)
@@ -220,12 +197,12 @@ module _ (rules : RulesV) (r : Reading) where
     tail_prefix (tail_stops b1 b2 joins items word) b c e =
         elim (splits b1 b2 b c (sym joins ∙ e)) [
           | inside m p q ↦ begun b (items_full rules r items) (items_begin items b m p)
-          | behind m p q ↦ tail_stops b1 m p items (c ++ word.0, again b2 m c word.0 word.1 q)
+          | behind m p q ↦ tail_stops b1 m p items (c ++ word.0, cut_again b2 m c word.0 word.1 q)
         ]
     tail_prefix (tail_goes_on b1 b2 joins items word) b c e =
         elim (splits b1 b2 b c (sym joins ∙ e)) [
           | inside m p q ↦ begun b (items_full rules r items) (items_begin items b m p)
-          | behind m p q ↦ tail_goes_on b1 m p items (c ++ word.0, again b2 m c word.0 word.1 q)
+          | behind m p q ↦ tail_goes_on b1 m p items (c ++ word.0, cut_again b2 m c word.0 word.1 q)
         ]
     tail_prefix (tail_turns b1 b2 b3 joins items word next) b c e =
         elim (splits b1 (b2 ++ b3) b c (sym joins ∙ e)) [

@@ -11,6 +11,7 @@ use Rattle.csn_grammar.specs.Meaning.{Means, ItemsMean, means_lits, means_field,
 use Rattle.csn_grammar.specs.Follow.{Follow, ItemsFollow, follows_whole, follows_leaf, follows_seq, follows_times, follows_labelled, items_here, items_later}
 use Rattle.csn_grammar.specs.Strings.{Strings}
 use Rattle.csn_grammar.specs.Examples.{M, A, B, part, word, sequence, field, bits_by, fields, octet_B5, B5IsRefusedAtThree, padding}
+use Rattle.csn_desc.proofs.Splits.{behind_front}
 use Rattle.csn_grammar.proofs.Prefixes.{begins, rule_begins, prefix_followed}
 use Rattle.csn_grammar.proofs.VoidFacts.{no_rule}
 use Rattle.csn_grammar.proofs.ExampleFacts.{a5_has_its_tree}
@@ -51,11 +52,7 @@ literal_begins_zero {bit = bit} {b = b} (follows_leaf whole rest leaf joins h) =
 
 -- behind three bits of these four stands a 1
 one_behind : (b1 b2 : List ℕ) → 1 ∷ 0 ∷ 1 ∷ 1 ∷ [] ≡ b1 ++ b2 → length b1 ≡ 3 → b2 ≡ 1 ∷ []
-one_behind [] b2 joins three = absurd (omega arith)
-one_behind (x ∷ []) b2 joins three = absurd (omega arith)
-one_behind (x ∷ y ∷ []) b2 joins three = absurd (omega arith)
-one_behind (x ∷ y ∷ z ∷ []) b2 joins three = cc
-one_behind (x ∷ y ∷ z ∷ w ∷ b) b2 joins three = absurd (omega arith)
+one_behind b1 b2 = behind_front (1 ∷ 0 ∷ 1 ∷ 1 ∷ []) b1 b2 3
 
 -- the items behind A do not begin with a 1
 no_one_means : {o : ℕ} {frame : Frame} {env : Env} {b : List ℕ} {ts : Trees}

@@ -7,7 +7,7 @@ use Rattle.csn_grammar.specs.declared.reader.body.Joint.{Joint}
 use Rattle.csn_grammar.specs.declared.reader.body.Joint.TheVariants.{Alone, Window, Sends}
 use Rattle.csn_grammar.specs.declared.reader.body.Level.{Level}
 use Rattle.csn_grammar.specs.declared.reader.body.Opening.TheVariants.{Brace, Label}
-use Rattle.csn_grammar.specs.ExprV.{ExprV, expr, labelled, group, seq, choice, cut, ExprsV, no_item, item, item_list, exprs_of, BranchesV, no_branch, branch, BranchV, branch_list, branches_of}
+use Rattle.csn_grammar.specs.ExprV.{ExprV, expr, FormV, labelled, group, seq, choice, cut, ExprsV, no_item, item, item_list, exprs_of, BranchesV, no_branch, branch, BranchV, branch_list, branches_of}
 use Rattle.csn_grammar.specs.RulesV.{RulesV}
 use Rattle.csn_grammar.specs.TokenV.{TokenV, token}
 use Rattle.csn_grammar.specs.Counts.{IsExponent}
@@ -214,21 +214,27 @@ module _ (rules : RulesV) (begin : ℕ) (title : List ℕ) where
       → IsSide (length frames) ts x middle → AfterSide frames bs e [] Alone x middle out → Seqs frames bs e ts out
   seq_gather x is b = let i = side_gather x is b in first_behind i.one i.is i.behind
 
+  -- one more alternative, behind `|` or `!`
+  next_behind : {frames : List Frame} {bs : List BranchV} {e : Bool} {q : ExprV} {ts middle : List TokenV} {out : RulesV} (t : TokenV) (d : Bool)
+      → ((s n : ℕ) (f : FormV) → IsSeq (length frames) ts (expr s n f) middle → AreBranches (length frames) (t ∷ ts) (branch d (expr s n f) no_branch) n middle)
+      → ((x : ExprV) (brs : BranchesV) (n : ℕ) (rest : List TokenV) → IsSeq (length frames) ts x middle → AreBranches (length frames) middle brs n rest
+      → AreBranches (length frames) (t ∷ ts) (branch d x brs) n rest)
+      → (i : ExprV) → IsSeq (length frames) ts i middle → AfterSeq frames (bs ++ record { error = e; body = q } ∷ []) d i middle out
+      → AfterSeq frames bs e q (t ∷ ts) out
+  next_behind {bs = bs} {e = e} {q = q} {middle = middle} t d last next (expr s n f) is (seq_closes c) =
+      seq_more (branch d (expr s n f) no_branch) n middle (last s n f is) (choice_one bs e q d (expr s n f)) c
+  next_behind {bs = bs} {e = e} {q = q} t d last next i is (seq_more brs n rest more same c) =
+      seq_more (branch d i brs) n rest (next i brs n rest is more) (same ∙ choice_next bs e q d i brs n) c
+
   pub bar_behind : {frames : List Frame} {bs : List BranchV} {e : Bool} {q : ExprV} {ts middle : List TokenV} {out : RulesV} (s0 n0 : ℕ) (w0 : List ℕ) (i : ExprV)
       → IsSeq (length frames) ts i middle → AfterSeq frames (bs ++ record { error = e; body = q } ∷ []) false i middle out
       → AfterSeq frames bs e q (token kind.Bar s0 n0 w0 ∷ ts) out
-  bar_behind {bs = bs} {e = e} {q = q} {middle = middle} s0 n0 w0 (expr s n f) is (seq_closes c) =
-      seq_more (branch false (expr s n f) no_branch) n middle (last_branch is) (choice_one bs e q false (expr s n f)) c
-  bar_behind {bs = bs} {e = e} {q = q} s0 n0 w0 i is (seq_more brs n rest more same c) =
-      seq_more (branch false i brs) n rest (more_branches is more) (same ∙ choice_next bs e q false i brs n) c
+  bar_behind s0 n0 w0 = next_behind (token kind.Bar s0 n0 w0) false (λ s n f is. last_branch is) (λ x brs n rest is more. more_branches is more)
 
   pub bang_behind : {frames : List Frame} {bs : List BranchV} {e : Bool} {q : ExprV} {ts middle : List TokenV} {out : RulesV} (s0 n0 : ℕ) (w0 : List ℕ) (i : ExprV)
       → IsSeq (length frames) ts i middle → AfterSeq frames (bs ++ record { error = e; body = q } ∷ []) true i middle out
       → AfterSeq frames bs e q (token kind.Bang s0 n0 w0 ∷ ts) out
-  bang_behind {bs = bs} {e = e} {q = q} {middle = middle} s0 n0 w0 (expr s n f) is (seq_closes c) =
-      seq_more (branch true (expr s n f) no_branch) n middle (last_error is) (choice_one bs e q true (expr s n f)) c
-  bang_behind {bs = bs} {e = e} {q = q} s0 n0 w0 i is (seq_more brs n rest more same c) =
-      seq_more (branch true i brs) n rest (more_errors is more) (same ∙ choice_next bs e q true i brs n) c
+  bang_behind s0 n0 w0 = next_behind (token kind.Bang s0 n0 w0) true (λ s n f is. last_error is) (λ x brs n rest is more. more_errors is more)
 
   expr_behind : {frames : List Frame} {ts middle : List TokenV} {out : RulesV} (q : ExprV)
       → IsSeq (length frames) ts q middle → AfterSeq frames [] false q middle out → Exprs frames ts out

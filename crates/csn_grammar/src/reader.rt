@@ -9,7 +9,6 @@ mod spellings;
 mod state;
 mod steps;
 mod stop;
-mod words;
 
 pub use piece::Piece;
 pub use state::{Reader, State, reader_step};

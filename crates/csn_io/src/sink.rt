@@ -1,6 +1,7 @@
 ghost use Rattle.std.specs.Prelude.{◌≡◌, ℕ, ◌<◌, ◌≤◌, List, Option, length, take, ⊤};
-ghost use Rattle.csn_io.specs.Faults.{Rose};
-ghost use Rattle.csn_io.specs.Put.{IfTook, UnlessTook, OnFailed, UnlessFailed, Appended, FlushedAll, KeepsFlushed};
+ghost use Rattle.csn_io.specs.Faults.{Keeps, Rose};
+ghost use Rattle.csn_io.specs.Put.{IfTook, UnlessTook, OnFailed, Appended, FlushedAll, KeepsFlushed};
+ghost use Rattle.csn_io.specs.declared.sink.Put.TheVariants.{Failed};
 
 /// What came of handing bytes to a sink, or of flushing it.
 #[derive(Clone, Copy, Debug, PartialEq, Eq)]
@@ -46,11 +47,7 @@ pub trait Sink {
 
         // Failed comes only with a fault, and nothing else is a fault.
         ensures failed { OnFailed result (Rose (faults self.old) (faults self.new)) }
-        ensures no_fault { UnlessFailed result (faults self.new ≡ faults self.old) }
-        ensures never_falls { faults self.old ≤ faults self.new }
-
-        ensures steady_stays { steady self.old → steady self.new }
-        ensures steady_count { steady self.old → faults self.new ≡ faults self.old }
+        ensures outside { Keeps (steady self.old) (steady self.new) (faults self.old) (faults self.new) (result ≡ Failed) }
         ensures steady_not_failed { OnFailed result (steady self.old → ⊥) }
 
         ensures gives { put_gives self.old (length piece.now) result self.new };
@@ -64,11 +61,7 @@ pub trait Sink {
 
         // Failed comes only with a fault, and nothing else is a fault.
         ensures failed { OnFailed result (Rose (faults self.old) (faults self.new)) }
-        ensures no_fault { UnlessFailed result (faults self.new ≡ faults self.old) }
-        ensures never_falls { faults self.old ≤ faults self.new }
-
-        ensures steady_stays { steady self.old → steady self.new }
-        ensures steady_count { steady self.old → faults self.new ≡ faults self.old }
+        ensures outside { Keeps (steady self.old) (steady self.new) (faults self.old) (faults self.new) (result ≡ Failed) }
         ensures steady_not_failed { OnFailed result (steady self.old → ⊥) }
 
         ensures gives { flush_gives self.old result self.new };

@@ -1,6 +1,7 @@
 ghost use Rattle.std.specs.Prelude.{◌≡◌, ◌≢◌, ℕ, ◌<◌, ◌≤◌, List, [], Option, Some, length, take, ⊤};
-ghost use Rattle.csn_io.specs.Faults.{Rose};
-ghost use Rattle.csn_io.specs.Got.{IfBytes, OnEnd, OnFailed, UnlessBytes, UnlessFailed, Gave, NothingLeft};
+ghost use Rattle.csn_io.specs.Faults.{Keeps, Rose};
+ghost use Rattle.csn_io.specs.Got.{IfBytes, OnEnd, OnFailed, UnlessBytes, Gave, NothingLeft};
+ghost use Rattle.csn_io.specs.declared.source.Got.TheVariants.{Failed};
 
 /// What came of asking a source for bytes.
 #[derive(Clone, Copy, Debug, PartialEq, Eq)]
@@ -44,11 +45,7 @@ pub trait Source {
 
         // Failed comes only with a fault, and nothing else is a fault.
         ensures failed { OnFailed result (Rose (faults self.old) (faults self.new)) }
-        ensures no_fault { UnlessFailed result (faults self.new ≡ faults self.old) }
-        ensures never_falls { faults self.old ≤ faults self.new }
-
-        ensures steady_stays { steady self.old → steady self.new }
-        ensures steady_count { steady self.old → faults self.new ≡ faults self.old }
+        ensures outside { Keeps (steady self.old) (steady self.new) (faults self.old) (faults self.new) (result ≡ Failed) }
         ensures steady_not_failed { OnFailed result (steady self.old → ⊥) }
 
         ensures gives { take_gives self.old (length into.old) result self.new };

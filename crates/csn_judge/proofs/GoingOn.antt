@@ -12,6 +12,7 @@ use Rattle.csn_judge.specs.Turns.{StateV, Stands, StandsSomewhere, GoesOn, Turns
 use Rattle.csn_judge.proofs.TurningOn.{on_then, turns_then}
 use Rattle.csn_desc.proofs.Splits.{rest_empty}
 use Rattle.csn_judge.proofs.Turning.{stays_as}
+use Rattle.csn_judge.proofs.ToldFacts.{tells_fit}
 
 module _ (d : DescV) {S : Type 0} (takes : S → Move → Node → S → Type 0) where
   -- the turns so far, from the first state on: what they have come to, and that they are paid for
@@ -35,6 +36,12 @@ module _ (d : DescV) {S : Type 0} (takes : S → Move → Node → S → Type 0)
       let on = going.on some.stack some.done some.stands in
       subst (λ (e : DescV). StandsSomewhere e now) (sym same)
       (record { known = some.known; stack = on.now; done = some.done ++ on.taken; stands = on.stands })
+
+  -- and a track that fits goes on to fit
+  pub going_fits : (fits : S → DescV → Type 0) → ((e : DescV) (old new : S) (step : Move) (node : Node) → takes old step node new → fits old e → fits new e)
+      → {first now : StateV} {s t : S} {steps steps_now : ℕ} {here : DescV} → here ≡ d → Going first now s t steps steps_now → StandsSomewhere d first → fits s d → fits t here
+  going_fits fits keeps {t = t} same going some fit =
+      subst (fits t) (sym same) (tells_fit d takes (λ u. fits u d) (keeps d) (going.on some.stack some.done some.stands).tells fit)
 
   -- one more
   pub going_more : {first now : StateV} {s t : S} {steps steps_now : ℕ} {here : DescV} (next : StateV) (u : S) (steps_next : ℕ) → here ≡ d → Going first now s t steps steps_now

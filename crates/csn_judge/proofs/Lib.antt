@@ -24,6 +24,7 @@ pub mod SpellingFacts
 pub mod LeafStacks
 pub mod LeafReads
 pub mod TurningLeaves
+pub mod WholeParts
 pub mod TurningCounted
 pub mod CountedParents
 pub mod TurningNamed

@@ -1,15 +1,19 @@
 -- What is known of the description by which blocks are judged, for the proofs of each step.
 use Rattle.csn_desc.specs.Nodes.{DescV}
 use Rattle.csn_desc.specs.Formed.{IsDescription}
-use Rattle.csn_desc.specs.Laws.{TreesHaveMoves, TreesHaveOneListOfMoves, EmptyBitsAreFollowed}
-use Rattle.csn_look.specs.Laws.{BeginningsOfKeysAreFollowed, BehindPartsOfSequences, FollowedBehindPartsOfSequences, BehindPartsOfTruncations, BehindLastOfTruncations, FollowedBehindPartsOfTruncations, BehindTurns, FollowedBehindTurns, BehindFreeTurns, FollowedBehindFreeTurns, BehindAlternatives, BehindLabelledParts}
+use Rattle.csn_desc.specs.Laws.{MeaningsAreBits, TreesHaveMoves, TreesHaveOneListOfMoves, ValuesHaveTheirWidth, EmptyBitsAreFollowed}
+use Rattle.csn_look.specs.Laws.{NoBitsAreOfNullable, MeantBitsEnd, BeginningsOfKeysAreFollowed, BehindPartsOfSequences, FollowedBehindPartsOfSequences, BehindPartsOfTruncations, BehindLastOfTruncations, FollowedBehindPartsOfTruncations, BehindTurns, FollowedBehindTurns, BehindFreeTurns, FollowedBehindFreeTurns, BehindAlternatives, BehindLabelledParts}
 use Rattle.csn_certify.specs.Conflicts.{Certified}
 use Rattle.csn_certify.specs.Laws.{NoBitFollowsTheLast, NoBitFollowsComponents, ChoicesTakeTheOne, FollowedTakeTheOne, RepetitionsGoOn, RepetitionsStop, FollowedStop, FreeTurnsHaveBits, ChoicesRefuseNone, FollowedRefuseNone, WaitingIsFollowed, WaitingHoldsFew, WaitingEndsInRefusal, RefusedHasNoEmptyTree}
 
 pub record Known (d : DescV) : Type 0 where
   pub description : IsDescription d
   pub certified : Certified d 12
-  -- moves, and no bits
+  -- bits, where they end, moves, and no bits
+  pub good : MeaningsAreBits
+  pub value_widths : ValuesHaveTheirWidth
+  pub nullable : NoBitsAreOfNullable
+  pub meant_end : MeantBitsEnd
   pub have_moves : TreesHaveMoves
   pub one_list : TreesHaveOneListOfMoves
   pub empties : EmptyBitsAreFollowed

@@ -4,7 +4,11 @@ use Rattle.std.specs.Prelude.{◌≡◌, ℕ, List, [], ◌∷◌, slice_get, So
 use Rattle.csn_desc.specs.declared.moves.Move.{Move}
 use Rattle.csn_desc.specs.declared.moves.Move.TheVariants.{Enter, Bit, Leave}
 use Rattle.csn_desc.specs.declared.node.Node.{Node}
+use Rattle.csn_desc.specs.TreeV.{TreeV}
 use Rattle.csn_desc.specs.Nodes.{DescV}
+use Rattle.csn_desc.specs.Values.{Values}
+use Rattle.csn_desc.specs.Means.{NMeans}
+use Rattle.csn_desc.specs.Walks.{Walk}
 
 -- from one state to another by the moves of a node's bits, where `takes` says which states a move makes of one
 abbrev pub BitsTold : {S : Type 0} → (S → Move → Node → S → Type 0) → Node → List ℕ → S → S → Type 0
@@ -31,3 +35,8 @@ module _ (d : DescV) {S : Type 0} (takes : S → Move → Node → S → Type 0)
         (node : Node) (next : S) → slice_get d.nodes i ≡ Some node → takes old Leave node next
         → Tells around moves others next new
         → Tells (i ∷ around) (Leave ∷ moves) others old new
+
+  -- from one state to another by all moves of node i for these bits, which are a string of it, wherever it stands
+  abbrev pub WholeTold : ℕ → List ℕ → S → S → Type 0
+  WholeTold i b old new =
+      (o : ℕ) (v : Values) (t : TreeV) (moves : List Move) (around : List ℕ) → NMeans d i o v b t → Walk d i o t moves → Tells around moves around old new

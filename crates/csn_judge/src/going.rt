@@ -1,9 +1,11 @@
 //! Turns, one after another.
 
-ghost use Rattle.std.specs.Prelude.{◌≡◌, ◌+◌, ◌*◌, ◌<◌, [], length, reverse};
+ghost use Rattle.std.specs.Prelude.{◌≡◌, ◌+◌, ◌*◌, ◌<◌, IsTrue, false, [], length, reverse};
+ghost use Rattle.csn_judge.specs.declared.frame.Frame.TheVariants as frame;
 ghost use Rattle.csn_judge.specs.declared.turn.Turn.TheVariants as turn;
-ghost use Rattle.csn_judge.specs.Credit.{credit_in, credit_of, turns_left_at, turns_left_then, NextPays, PaysAll};
-ghost use Rattle.csn_judge.specs.Turns.{state_at, state_of, state_then, turn_in, turn_of, StandsSomewhere, Turns};
+ghost use Rattle.csn_judge.specs.Coming.{IsSame};
+ghost use Rattle.csn_judge.specs.Credit.{credit_in, credit_of, turns_left_at, turns_left_then, NextPays, PaysAll, TurnPays};
+ghost use Rattle.csn_judge.specs.Turns.{state_at, state_of, state_then, state_with, turn_in, turn_of, StandsSomewhere, Turns};
 
 use crate::frame::Frame;
 use crate::machine::Machine;
@@ -22,7 +24,8 @@ impl Machine<'_> {
         track: &mut T,
         steps: &mut Steps<L>,
     ) -> Verdict
-        requires { StandsSomewhere self.old.plan.now (state_of self.old source.old) }
+        requires stands { StandsSomewhere self.old.plan.now (state_of self.old source.old) }
+        requires fits { T.fits track.old self.old.plan.now }
         ensures turns { Turns self.old.plan.now T.takes (state_of self.old source.old) (state_of self.new source.new)
             track.old track.new (turn_of result) }
         ensures pays { PaysAll
@@ -52,7 +55,8 @@ impl Machine<'_> {
         track: &mut T,
         steps: &mut Steps<L>,
     ) -> Next
-        requires { StandsSomewhere self.old.plan.now (state_at begins self.old source.old) }
+        requires stands { StandsSomewhere self.old.plan.now (state_at begins self.old source.old) }
+        requires fits { T.fits track.old self.old.plan.now }
         ensures turns { Turns self.old.plan.now T.takes (state_at begins self.old source.old) (state_then result self.new source.new)
             track.old track.new (turn_in result) }
         ensures pays { NextPays (credit_in self.old.plan.now (state_at begins self.old source.old))
@@ -62,9 +66,64 @@ impl Machine<'_> {
         ensures plan { self.new.plan ≡ self.old.plan }
     {
         match begins {
-            Some(node) => self.enter(node, source, track, steps),
+            Some(node) => self.read_or_enter(node, source, track, steps),
             None => self.turn(source, track, steps),
         }
+    }
+
+    /// A node that begins is read at once, or else it is entered.
+    #[inline(always)]
+    fn read_or_enter<T: Track, L: Ledger>(
+        &mut self,
+        i: u16,
+        source: &mut Source<'_>,
+        track: &mut T,
+        steps: &mut Steps<L>,
+    ) -> Next
+        requires stands { StandsSomewhere self.old.plan.now (state_with (frame.Begin i) self.old source.old) }
+        requires fits { T.fits track.old self.old.plan.now }
+        ensures turns { Turns self.old.plan.now T.takes (state_with (frame.Begin i) self.old source.old)
+            (state_then result self.new source.new) track.old track.new (turn_in result) }
+        ensures pays { TurnPays self.old.plan.now (state_with (frame.Begin i) self.old source.old) (state_then result self.new source.new)
+            steps.old steps.new (turn_in result) }
+        ensures plan { self.new.plan ≡ self.old.plan }
+    {
+        if self.read_whole(i, source, track) {
+            return Next::Turn(Turn::Moved);
+        }
+        self.enter(i, source, track, steps)
+    }
+
+    /// All bits of a node that begins are read at once, where they can be taken and are a string of it, and the track is
+    /// told them so. Else nothing is.
+    #[inline(always)]
+    fn read_whole<T: Track>(&mut self, i: u16, source: &mut Source<'_>, track: &mut T) -> bool
+        requires stands { StandsSomewhere self.old.plan.now (state_with (frame.Begin i) self.old source.old) }
+        requires fits { T.fits track.old self.old.plan.now }
+        ensures turns { IsTrue result → Turns self.old.plan.now T.takes (state_with (frame.Begin i) self.old source.old)
+            (state_of self.new source.new) track.old track.new turn.Moved }
+        ensures pays { IsTrue result → credit_in self.old.plan.now (state_of self.new source.new)
+            < credit_in self.old.plan.now (state_with (frame.Begin i) self.old source.old) }
+        ensures same { result ≡ false → IsSame source.old source.new }
+        ensures machine { result ≡ false → self.new ≡ self.old }
+        ensures untold { result ≡ false → track.new ≡ track.old }
+        ensures plan { self.new.plan ≡ self.old.plan }
+    {
+        source.none_behind_end();
+        let Some(layout) = self.plan.layout(i) else {
+            return false;
+        };
+        let width = layout.width;
+        if source.ready(width) < width {
+            return false;
+        }
+        let number = source.peek(width);
+        if !layout.admits(number) || !track.whole(self.plan, i, layout, number) {
+            return false;
+        }
+        source.take(width);
+        self.pace.bits(width > 0);
+        true
     }
 
     /// The turn of the innermost frame. A node that stands ready to begin does so next.

@@ -95,6 +95,7 @@ impl<'a> Judge<'a> {
     ) -> Verdict
         requires within { bits ≤ 8 * length piece.now }
         requires few { self.old.seen + bits ≤ 524288 }
+        requires fits { T.fits track.old self.old.desc }
         ensures judges { Judges (λ around made. Tells self.old.desc T.takes (opened self.old) made around track.old track.new)
             self.old self.new (take bits (bits_of_octets piece.now)) result }
         ensures refused { self.new.refused ≡ refusal_of result }
@@ -134,6 +135,7 @@ impl<'a> Judge<'a> {
 
     /// The same, where each move is told.
     pub fn finish_to<T: Track, L: Ledger>(mut self, track: &mut T, steps: &mut Steps<L>) -> Judged
+        requires fits { T.fits track.old self.desc }
         ensures ends { Ends (λ around made. Tells self.entry.desc T.takes (opened self.entry) made around track.old track.new) self.entry result }
         ensures stays { (place : ℕ) → self.entry.refused ≡ Some place → track.new ≡ track.old }
         ensures steps { steps.new ≤ steps.old + credit self.entry }
@@ -162,6 +164,7 @@ impl<'a> Judge<'a> {
         track: &mut T,
         steps: &mut Steps<L>,
     ) -> Judged
+        requires fits { T.fits track.old self.old.desc }
         ensures ends { Ends (λ around made. Tells self.old.desc T.takes (opened self.old) made around track.old track.new) self.old result }
         ensures stays { (place : ℕ) → self.old.refused ≡ Some place → track.new ≡ track.old }
         ensures judges { JudgesFor self.new [] [] }
@@ -179,6 +182,7 @@ impl<'a> Judge<'a> {
 
     // The block has ended. The judge refuses whatever comes behind it.
     fn end<T: Track, L: Ledger>(&mut self, track: &mut T, steps: &mut Steps<L>) -> Judged
+        requires fits { T.fits track.old self.old.desc }
         ensures ends { Ends (λ around made. Tells self.old.desc T.takes (opened self.old) made around track.old track.new) self.old result }
         ensures stays { (place : ℕ) → self.old.refused ≡ Some place → track.new ≡ track.old }
         ensures desc { self.new.desc ≡ self.old.desc }

@@ -8,8 +8,12 @@ use csn_certify::Plan;
 pub(crate) fn known(plan: &Plan)
     ensures { Known plan.now }
 {
+    csn_desc::laws::meanings_are_bits();
+    csn_desc::laws::values_have_their_width();
     csn_desc::laws::trees_have_moves();
     csn_desc::laws::empty_bits_are_followed();
+    csn_look::laws::no_bits_are_of_nullable();
+    csn_look::laws::bits_end();
     csn_look::laws::bits_stand_behind_parts();
     csn_look::laws::keys_are_of_bits();
     csn_certify::laws::nothing_is_behind_the_last();

@@ -1,5 +1,5 @@
 -- The text of a block between two pieces of it, and at its end.
-use Rattle.std.proofs.Common.{◌≡◌, ℕ, ◌<◌, ◌≤◌, Bool, true, false, List, [], ◌++◌, length, take, refl, sym, ap, subst, ◌∙◌, arith, length-append, Some, None}
+use Rattle.std.proofs.Common.{◌≡◌, ℕ, ◌≤◌, Bool, true, false, List, [], ◌++◌, length, take, refl, sym, ap, subst, ◌∙◌, arith, length-append, Some, None}
 use Rattle.std.specs.Prelude.{Result, Ok, Err, OnOk, IfErr}
 use Rattle.std.proofs.lemmas.List.{take-append-le}
 use Rattle.csn_desc.specs.declared.moves.Move.{Move}
@@ -7,21 +7,22 @@ use Rattle.csn_desc.specs.Nodes.{DescV}
 use Rattle.csn_desc.specs.TreeV.{TreeV}
 use Rattle.csn_desc.specs.TreeParts.{HasTreeParts}
 use Rattle.csn_treetext.specs.Fits.{Fits}
-use Rattle.csn_desc.specs.Follows.{NFollow, IsPlace}
+use Rattle.csn_desc.specs.Follows.{NFollow}
 use Rattle.csn_desc.specs.Formed.{IsDescription}
-use Rattle.csn_desc.specs.Laws.{PrefixesAreFollowed, StringsAreFollowed, MeaningsAreBits}
+use Rattle.csn_desc.specs.Laws.{StringsAreFollowed, MeaningsAreBits}
 use Rattle.csn_certify.specs.Plans.{HasOneTree}
 use Rattle.csn_judge.specs.Told.{Tells, tells_none}
-use Rattle.csn_judge.specs.Judging.{JudgeV, JudgesFor, judges_on, judges_no_more, opened, refusal_of, Judges}
+use Rattle.csn_judge.specs.Judging.{JudgeV, JudgesFor, judges_on, judges_no_more, opened, Judges}
 use Rattle.csn_judge.specs.Judging.{Ends as JudgeEnds}
 use Rattle.csn_judge.specs.declared.verdict.Verdict.{Verdict}
 use Rattle.csn_judge.specs.declared.verdict.Verdict.TheVariants as verdict
 use Rattle.csn_judge.specs.declared.verdict.Judged.{Judged}
 use Rattle.csn_judge.specs.declared.verdict.Judged.TheVariants as judged
-use Rattle.csn_judge.proofs.JudgingFacts.{place_stays, not_followed}
+use Rattle.csn_judge.specs.declared.fed.Fed.{Fed}
+use Rattle.csn_judge.specs.declared.fed.Fed.TheVariants.{Going, Refused, NoMemory}
+use Rattle.csn_judge.specs.Following.{is_going, answer_of, IsAnswer, comes_on, comes_no_more}
+use Rattle.csn_judge.proofs.FollowingFacts as following
 use Rattle.csn_json.specs.Laws.{TextsAreJoined}
-use Rattle.csn_movetext.specs.declared.fault.Fed.{Fed}
-use Rattle.csn_movetext.specs.declared.fault.Fed.TheVariants.{Going, Refused, NoMemory}
 use Rattle.csn_movetext.specs.declared.fault.BlockFault.TheVariants as fault
 use Rattle.csn_movetext.specs.declared.fault.BlockFault.{BlockFault}
 use Rattle.csn_movetext.specs.declared.form.TreeForm.{TreeForm}
@@ -31,7 +32,7 @@ use Rattle.csn_movetext.specs.Openings.{OpeningsV, opening_in, HasOpenings}
 use Rattle.csn_movetext.specs.Writing.{ready}
 use Rattle.csn_movetext.specs.Kept.{Extends}
 use Rattle.csn_movetext.specs.Track.{TrackV, Writes}
-use Rattle.csn_movetext.specs.Blocks.{BlockV, stands, nothing, is_going, answer_of, outcome_of, IsAnswer, JudgesSome, WritesFor, writes_on, writes_no_more, Continues, Ends, AddsText, IsFaultOf}
+use Rattle.csn_movetext.specs.Blocks.{BlockV, stands, nothing, outcome_of, JudgesSome, IsTold, WritesFor, Continues, Ends, AddsText, IsFaultOf}
 use Rattle.csn_movetext.proofs.Written.{block_writes}
 use Rattle.csn_movetext.proofs.TreesFit.{tree_fits}
 use Rattle.csn_movetext.proofs.TreeParts.{node_parts}
@@ -40,7 +41,7 @@ use Rattle.csn_movetext.proofs.Followed.{same_openings, extends, followed, tells
 
 -- no bits so far
 pub writes_none : (j : JudgeV) (openings : OpeningsV) (before : List ℕ) → JudgesFor j [] [] → opened j ≡ [] → WritesFor (stands j (nothing openings before) Going before) []
-writes_none j openings before for none = writes_on [] refl for (tells_none none refl)
+writes_none j openings before for none = comes_on [] refl for (tells_none none refl)
 
 -- ---- what stays, whatever is judged
 
@@ -89,51 +90,14 @@ longer start old new within more = omega (arith, within, ap length more.1, lengt
 
 -- ---- behind some more bits
 
-module _ (old new : JudgeV) (before after : TrackV) (front : List ℕ) (more : List ℕ) where
-  abbrev Says : Verdict → Type 0
-  Says says = Judges (λ around made. Tells old.desc Writes (opened old) made around before after) old new more says
-
-  feeds_on : new.desc ≡ old.desc → after.openings ≡ before.openings → Says verdict.Going
-      → Continues (stands old before Going front) (stands new after Going front) more Going
-  feeds_on same kept judges b (writes_no_more place refusal at small) = absurd (cc)
-  feeds_on same kept judges b (writes_on moves going for told) =
-      let on = judges b moves for in
-      let T : DescV → Type 0 = λ d. Tells d Writes [] (moves ++ on.made) (opened new) (nothing after.openings front) after in
-      let O : OpeningsV → Type 0 = λ l. Tells old.desc Writes [] (moves ++ on.made) (opened new) (nothing l front) after in
-      record {
-        writes = writes_on (moves ++ on.made) refl on.judges (subst T (sym same) (subst O (sym kept) (tells-then old.desc told on.told)));
-        followed = on.followed;
-      }
-
-  feeds_refused : (place : ℕ) → new.desc ≡ old.desc → old.refused ≡ None → Says (verdict.Refused place)
-      → Continues (stands old before Going front) (stands new after (Refused place) front) more (Refused place)
-  feeds_refused place same none judges b (writes_no_more other refusal at small) = absurd (cc)
-  feeds_refused place same none judges b (writes_on moves going for told) =
-      let no = judges b moves for in
-      let P : DescV → Type 0 = λ d. IsPlace d (b ++ more) place in
-      record {
-        writes = writes_no_more place refl (subst P (sym same) no.place_is) no.before_end;
-        place_is = no.place_is;
-        before_end = no.before_end;
-        not_followed = no.not_followed;
-        in_piece = λ going. no.in_piece none;
-      }
-
-  feeds_short : Says verdict.Going → Continues (stands old before Going front) (stands new after NoMemory front) more NoMemory
-  feeds_short judges b (writes_no_more place refusal at small) = absurd (cc)
-  feeds_short judges b (writes_on moves going for told) = (judges b moves for).followed
-
-  -- by what the judge says, and where memory was wanting or not
-  pub feeds : (says : Verdict) (short : Bool) → new.desc ≡ old.desc → after.openings ≡ before.openings → old.refused ≡ None → Says says
-      → Continues (stands old before Going front) (stands new after (answer_of says short) front) more (answer_of says short)
-  feeds verdict.Going false same kept none judges = feeds_on same kept judges
-  feeds verdict.Going true same kept none judges = feeds_short judges
-  feeds (verdict.Refused place) short same kept none judges = feeds_refused place same none judges
-
-pub answer_is : (says : Verdict) (short : Bool) (new : JudgeV) → new.refused ≡ refusal_of says → IsAnswer (answer_of says short) new
-answer_is verdict.Going false new is = is
-answer_is verdict.Going true new is = is
-answer_is (verdict.Refused place) short new is = is
+pub feeds : (old new : JudgeV) (before after : TrackV) (front more : List ℕ) (says : Verdict) (short : Bool) → new.desc ≡ old.desc → after.openings ≡ before.openings → old.refused ≡ None
+    → Judges (λ around made. Tells old.desc Writes (opened old) made around before after) old new more says
+    → Continues (stands old before Going front) (stands new after (answer_of says short) front) more (answer_of says short)
+feeds old new before after front more says short same kept =
+    let T : List Move → DescV → Type 0 = λ moves d. Tells d Writes [] moves (opened new) (nothing after.openings front) after in
+    let O : List Move → OpeningsV → Type 0 = λ moves l. Tells old.desc Writes [] moves (opened new) (nothing l front) after in
+    following.feeds old new more (λ around made. Tells old.desc Writes (opened old) made around before after) (IsTold (stands old before Going front)) (IsTold (stands new after Going front))
+    (λ moves made told on. subst (T (moves ++ made)) (sym same) (subst (O (moves ++ made)) (sym kept) (tells-then old.desc told on))) says short same
 
 -- nothing was refused so far
 pub record Begun (answer : Fed) (j : JudgeV) : Type 0 where
@@ -146,37 +110,6 @@ begun Going j going is on none some = record { going = refl; none = none; judges
 begun (Refused place) j going is on none some = absurd (cc)
 begun NoMemory j going is on none some = absurd (cc)
 
-never_going : (answer : Fed) → answer ≡ Going → false ≡ is_going answer → ⊥
-never_going answer e off = let on : is_going answer ≡ true = ap (λ a. is_going a) e in absurd (cc)
-
-pub going_no_more : (answer : Fed) (going : Bool) → going ≡ is_going answer → going ≡ false → ¬ (answer ≡ Going)
-going_no_more answer going is off e = never_going answer e (sym off ∙ is)
-
--- the answer stays
-refused_still : PrefixesAreFollowed → (d : BlockV) (more : List ℕ) (place : ℕ) → d.answer ≡ Refused place → Continues d d more (Refused place)
-refused_still prefixes d more place is b (writes_on moves going for told) = absurd (cc)
-refused_still prefixes d more place is b (writes_no_more before refusal at small) =
-    let same : before ≡ place = cc in
-    let P : ℕ → Type 0 = λ n. IsPlace d.desc (b ++ more) n in
-    let here = subst P same (place_stays d.desc prefixes more at small) in
-    let far : place < length (b ++ more) = omega (arith, same, length-append b more) in
-    record {
-      writes = writes_no_more place is here far;
-      place_is = here;
-      before_end = far;
-      not_followed = not_followed d.desc here far;
-      in_piece = λ going. let clash : Refused place ≡ Going = sym is ∙ going in absurd (cc);
-    }
-
-wanting_still : (d : BlockV) (more : List ℕ) → d.answer ≡ NoMemory → Continues d d more NoMemory
-wanting_still d more is b (writes_on moves going for told) = absurd (cc)
-wanting_still d more is b (writes_no_more place refusal at small) = absurd (cc)
-
-pub feeds_still : PrefixesAreFollowed → (d : BlockV) (more : List ℕ) (answer : Fed) → d.answer ≡ answer → ¬ (answer ≡ Going) → Continues d d more answer
-feeds_still prefixes d more Going is other = absurd (other refl)
-feeds_still prefixes d more (Refused place) is other = refused_still prefixes d more place is
-feeds_still prefixes d more NoMemory is other = wanting_still d more is
-
 -- ---- at the end of a block
 
 -- a tree that fits is shown by its text in a form
@@ -184,33 +117,13 @@ pub shown : (form : TreeForm) (t : TreeV) → Fits t → HasTreeParts t → IsSh
 shown Text t fits parts = record { fits = fits; parts = parts; spelled = refl }
 shown Json t fits parts = record { fits = fits; parts = parts; spelled = refl }
 
-pub ends_refused : StringsAreFollowed → (d : BlockV) (place : ℕ) → d.answer ≡ Refused place → Ends d (Err (fault.Refused place))
-ends_refused strings d place is b (writes_on moves going for told) = absurd (cc)
-ends_refused strings d place is b (writes_no_more before refusal at small) =
-    let same : before ≡ place = cc in
-    let P : ℕ → Type 0 = λ n. IsPlace d.desc b n in
-    record {
-      place_is = subst P same at;
-      no_tree = λ tree means. not_followed d.desc at small (strings d.desc 0 0 [] b tree means);
-    }
-
-pub ends_short : (d : BlockV) → d.answer ≡ NoMemory → Ends d (Err fault.NoMemory)
-ends_short d is b (writes_on moves going for told) = absurd (cc)
-ends_short d is b (writes_no_more place refusal at small) = absurd (cc)
-
 module _ (j : JudgeV) (before after : TrackV) (front : List ℕ) where
   abbrev EndSays : Judged → Type 0
   EndSays says = JudgeEnds (λ around made. Tells j.desc Writes (opened j) made around before after) j says
 
-  pub ends_none : (place : ℕ) → EndSays (judged.Refused place) → Ends (stands j before Going front) (Err (fault.Refused place))
-  ends_none place judges b (writes_no_more other refusal at small) = absurd (cc)
-  ends_none place judges b (writes_on moves going for told) =
-      let no = judges b moves for in
-      record { place_is = no.place_is; no_tree = no.no_tree }
-
   pub ends_wanting : StringsAreFollowed → EndSays judged.Ok → Ends (stands j before Going front) (Err fault.NoMemory)
-  ends_wanting strings judges b (writes_no_more other refusal at small) = absurd (cc)
-  ends_wanting strings judges b (writes_on moves going for told) =
+  ends_wanting strings judges b (comes_no_more other refusal at small) = absurd (cc)
+  ends_wanting strings judges b (comes_on moves going for told) =
       let is = judges b moves for in strings j.desc 0 0 [] b is.block.tree is.block.means
 
   few_bits : {b : List ℕ} {moves : List Move} → j.refused ≡ None → j.seen ≤ 524288 → JudgesFor j b moves → length b ≤ 524288
@@ -219,14 +132,14 @@ module _ (j : JudgeV) (before after : TrackV) (front : List ℕ) where
 
   pub ends_text : TextsAreJoined → MeaningsAreBits → IsDescription j.desc → HasOneTree j.desc → HasOpenings j.desc before.openings → j.refused ≡ None → j.seen ≤ 524288
       → after.refused ≡ false → EndSays judged.Ok → Ends (stands j before Going front) (Ok after.kept.text)
-  ends_text joined are_bits is one are none few going judges b (writes_no_more other refusal at small) = absurd (cc)
-  ends_text joined are_bits is one are none few going judges b (writes_on moves on for told) =
+  ends_text joined are_bits is one are none few going judges b (comes_no_more other refusal at small) = absurd (cc)
+  ends_text joined are_bits is one are none few going judges b (comes_on moves on for told) =
       let string = judges b moves for in
       let tree : TreeV = string.block.tree in
       let all = tells-then j.desc told string.told in
       let text : List ℕ = text_in before.openings.form tree in
       let written = followed j.desc [] tt all going (ready front false) (ready (front ++ text) true) (nothing_shown before.openings front)
-      (block_writes joined before.openings.form j.desc (opening_in before.openings) are_bits are front false string.block.means string.block.walks) in (
+      (block_writes joined before.openings.form j.desc (opening_in before.openings) are_bits are.opened front false string.block.means string.block.walks) in (
         text,
         all_written after (front ++ text) true written,
         record {
@@ -234,7 +147,7 @@ module _ (j : JudgeV) (before after : TrackV) (front : List ℕ) where
           means = string.block.means;
           only = λ other there. one b other tree there string.block.means;
           spelled = shown before.openings.form tree (tree_fits j.desc is b tree string.block.means)
-              (node_parts j.desc are.labels are_bits string.block.means (few_bits none few for));
+              (node_parts j.desc are.opened.labels are_bits string.block.means (few_bits none few for));
         },
       )
 
@@ -247,9 +160,14 @@ pub ends_as : (j : JudgeV) (before after : TrackV) (front : List ℕ) (answer : 
     → IsDescription j.desc → HasOneTree j.desc → HasOpenings j.desc before.openings → IsAnswer answer j → j.seen ≤ 524288 → short ≡ after.refused
     → JudgeEnds (λ around made. Tells j.desc Writes (opened j) made around before after) j says
     → EndsAs (stands j before answer front) (outcome_of answer says short) after.kept.text
-ends_as j before after front (Refused place) says short strings joined are_bits is one are answer few wanting judges = ends_refused strings (stands j before (Refused place) front) place refl
-ends_as j before after front NoMemory says short strings joined are_bits is one are answer few wanting judges = ends_short (stands j before NoMemory front) refl
-ends_as j before after front Going (judged.Refused place) short strings joined are_bits is one are answer few wanting judges = ends_none j before after front place judges
+ends_as j before after front (Refused place) says short strings joined are_bits is one are answer few wanting judges =
+    let w : BlockV = stands j before (Refused place) front in
+    following.ends_refused w.desc w.answer w.judge (IsTold w) strings place refl
+ends_as j before after front NoMemory says short strings joined are_bits is one are answer few wanting judges =
+    let w : BlockV = stands j before NoMemory front in
+    λ b writes. absurd (following.wanting_none w.desc w.answer w.judge (IsTold w) refl b writes)
+ends_as j before after front Going (judged.Refused place) short strings joined are_bits is one are answer few wanting judges =
+    following.ends_none j (λ around made. Tells j.desc Writes (opened j) made around before after) (IsTold (stands j before Going front)) place judges
 ends_as j before after front Going judged.Ok true strings joined are_bits is one are answer few wanting judges = ends_wanting j before after front strings judges
 ends_as j before after front Going judged.Ok false strings joined are_bits is one are answer few wanting judges =
     ends_text j before after front joined are_bits is one are answer few (sym wanting) judges
@@ -281,14 +199,14 @@ text_wanting strings w kept (Err why) ends wanting =
 
 pub whole_text : (old new : BlockV) (more : List ℕ) (fed : Fed) (out : List ℕ) → WritesFor old [] → Continues old new more fed → (fed ≡ NoMemory → ⊥) → Ends new (Ok out)
     → AddsText new.form new.desc more new.before out
-whole_text old new more Going out none fed there ends = ends more (fed [] none).writes
-whole_text old new more (Refused place) out none fed there ends = ends more (fed [] none).writes
+whole_text old new more Going out none fed there ends = ends more (fed [] none).comes
+whole_text old new more (Refused place) out none fed there ends = ends more (fed [] none).comes
 whole_text old new more NoMemory out none fed there ends = absurd (there refl)
 
 pub whole_fault : (old new : BlockV) (more : List ℕ) (fed : Fed) (why : BlockFault) → new.desc ≡ old.desc → WritesFor old [] → Continues old new more fed → (fed ≡ NoMemory → why ≡ fault.NoMemory)
     → Ends new (Err why) → IsFaultOf new.desc more why
-whole_fault old new more Going why same none fed there ends = ends more (fed [] none).writes
-whole_fault old new more (Refused place) why same none fed there ends = ends more (fed [] none).writes
+whole_fault old new more Going why same none fed there ends = ends more (fed [] none).comes
+whole_fault old new more (Refused place) why same none fed there ends = ends more (fed [] none).comes
 whole_fault old new more NoMemory why same none fed there ends =
     let P : BlockFault → Type 0 = λ y. IsFaultOf new.desc more y in
     let Q : DescV → Type 0 = λ d. NFollow d 0 0 [] more in

@@ -10,3 +10,6 @@ pub mod TreesFit
 pub mod TreeParts
 pub mod BlockFacts
 pub mod LineFacts
+pub mod TemplateFacts
+pub mod Going
+pub mod WholeFacts

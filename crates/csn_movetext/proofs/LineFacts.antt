@@ -12,8 +12,8 @@ use Rattle.csn_bits.proofs.Packing.{length-bits_of_octets, bits_of_octets-append
 use Rattle.csn_bits.proofs.Written.{block_line-dot}
 use Rattle.csn_desc.specs.Nodes.{DescV}
 use Rattle.csn_movetext.specs.declared.form.TreeForm.{TreeForm}
-use Rattle.csn_movetext.specs.declared.fault.Fed.{Fed as Answer}
-use Rattle.csn_movetext.specs.declared.fault.Fed.TheVariants.{Going, Refused, NoMemory}
+use Rattle.csn_judge.specs.declared.fed.Fed.{Fed as Answer}
+use Rattle.csn_judge.specs.declared.fed.Fed.TheVariants.{Going, Refused, NoMemory}
 use Rattle.csn_movetext.specs.declared.octet_text.OctetText.{OctetText}
 use Rattle.csn_movetext.specs.declared.line.LineEnd.{LineEnd}
 use Rattle.csn_movetext.specs.declared.line.LineEnd.TheVariants as end
@@ -28,8 +28,8 @@ wants_still old new stays fits wants =
 
 pub goes_on : (old new : BlockV) (more : List ℕ) (answer : Answer) → new.answer ≡ answer → (¬ (old.answer ≡ Going) → new ≡ old) → Continues old new more answer
     → (b : List ℕ) → WritesOrWants old b → WritesOrWants new (b ++ more)
-goes_on old new more Going is stays continues b writes fits = (continues b (writes (wants_still old new stays fits))).writes
-goes_on old new more (Refused place) is stays continues b writes fits = (continues b (writes (wants_still old new stays fits))).writes
+goes_on old new more Going is stays continues b writes fits = (continues b (writes (wants_still old new stays fits))).comes
+goes_on old new more (Refused place) is stays continues b writes fits = (continues b (writes (wants_still old new stays fits))).comes
 goes_on old new more NoMemory is stays continues b writes fits = absurd (fits is)
 
 seen_by : (answer : Answer) (old new : BlockV) (bits : ℕ) → old.answer ≡ answer → (old.answer ≡ Going → new.seen ≡ old.seen + bits) → (¬ (old.answer ≡ Going) → new ≡ old)

@@ -1,5 +1,5 @@
 -- Openings that are made one after another.
-use Rattle.std.proofs.Common.{◌≡◌, ℕ, zero, suc, ◌+◌, ◌-◌, ◌<◌, List, [], ◌∷◌, ◌++◌, length, take, drop, map, ◌⊎◌, Option, Some, None, unwrap_or, refl, sym, ◌∙◌, subst, ap, arith, inl, inr, length-append, length-drop}
+use Rattle.std.proofs.Common.{◌≡◌, ℕ, zero, suc, ◌+◌, ◌-◌, ◌<◌, List, [], ◌∷◌, ◌++◌, length, take, drop, map, ◌⊎◌, Option, Some, None, unwrap_or, get_or, refl, sym, ◌∙◌, subst, ap, arith, inl, inr, length-append, length-drop}
 use Rattle.std.specs.Prelude.{slice_get}
 use Rattle.std.proofs.Math.Seq.{drop-append_seam, take-length}
 use Rattle.std.proofs.lemmas.Option.{slice_get_within, slice_get-get_or}
@@ -15,7 +15,7 @@ use Rattle.csn_movetext.specs.declared.openings.Place.{Place}
 use Rattle.csn_movetext.specs.Pool.{bytes_at, IsWithin}
 use Rattle.csn_movetext.specs.Numbers.{AreNumbers}
 use Rattle.csn_movetext.specs.declared.form.TreeForm.{TreeForm}
-use Rattle.csn_movetext.specs.Openings.{OpeningsV, opening_of, number_at, HasLabel, HasOpenings}
+use Rattle.csn_movetext.specs.Openings.{OpeningsV, AreOpened, AreOpenings, opening_in, opening_of, number_at, number_text, HasLabel}
 use Rattle.csn_movetext.proofs.NumberFacts.{parts_within}
 
 -- ---- the pool
@@ -174,7 +174,7 @@ module _ (d : DescV) (is : IsDescription d) (numbers : List (Option ℕ)) (are :
       let low = part_from d.nodes k 0 (span_parts d.nodes a.there s.span) a.part in
       absurd (omega (arith, low))
 
-  pub are_openings : (openings : OpeningsV) → AreBegun openings.form d numbers (length d.nodes) openings.texts → HasOpenings d openings
+  pub are_openings : (openings : OpeningsV) → AreBegun openings.form d numbers (length d.nodes) openings.texts → AreOpenings openings.form d (opening_in openings)
   are_openings openings begun =
       record {
         parts = λ c j i n m at get here.
@@ -184,4 +184,16 @@ module _ (d : DescV) (is : IsDescription d) (numbers : List (Option ℕ)) (are :
             let there = slice_get-get_or numbers 0 None (omega (arith, are.all, within)) in
             ap (λ o. unwrap_or o []) (begun.opened 0 None m within (there ∙ ap Some (no_parent _ there)) here);
         labels = λ i part label at. begun.labelled i (Named label part) (slice_get_within d.nodes i (Named label part) at) at;
+      }
+
+  pub are_opened : (openings : OpeningsV) → AreBegun openings.form d numbers (length d.nodes) openings.texts → AreOpened d openings
+  are_opened openings begun =
+      record {
+        opened = are_openings openings begun;
+        marks = λ i n at.
+            let within = slice_get_within d.nodes i n at in
+            let there = slice_get-get_or numbers i None (omega (arith, are.all, within)) in (
+              number_text openings.form (get_or numbers i None),
+              λ m here. ap (λ o. unwrap_or o []) (begun.opened i (get_or numbers i None) m within there here),
+            );
       }

@@ -44,7 +44,7 @@ still t move node off =
     }
 
 -- memory is refused
-refuses : (openings : OpeningsV) (old new : KeptV) (move : Move) (node : Node) → Extends old.text new.text
+pub refuses : (openings : OpeningsV) (old new : KeptV) (move : Move) (node : Node) → Extends old.text new.text
     → Writes (view openings old false) move node (view openings new true)
 refuses openings old new move node more =
     record { same_openings = refl; extends = more; going = λ on. cc; goes_on = λ on. absurd (cc) }

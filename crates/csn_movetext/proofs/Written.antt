@@ -52,20 +52,20 @@ same_either A true B = refl
 same_either A false B = refl
 
 -- bits are as many as were told, and their text is cut behind the width
-record Told (width : Option ℕ) (b : List ℕ) : Type 0 where
-  wide : has_width width b ≡ true
-  text : width_text width ++ bits_text width b ≡ leaf_text Second b
+pub record Told (width : Option ℕ) (b : List ℕ) : Type 0 where
+  pub wide : has_width width b ≡ true
+  pub text : width_text width ++ bits_text width b ≡ leaf_text Second b
 
 width_kept : (b : List ℕ) (short : Bool) → has_width (if short then Some (length b) else None) b ≡ true
 width_kept b true = eq-eqb (length b) (length b) refl
 width_kept b false = refl
 
-wide_leaf : (b : List ℕ) (width : ℕ) → length b ≡ width → Told (told_width width) b
+pub wide_leaf : (b : List ℕ) (width : ℕ) → length b ≡ width → Told (told_width width) b
 wide_leaf b width e =
     let P : ℕ → Type 0 = λ w. Told (told_width w) b in
     subst P e (record { wide = width_kept b (is_short b); text = told_text b (is_short b) ∙ same_either (short_text b) (is_short b) (other_text Second b) })
 
-field_leaf : (v : Values) (unit : ℕ) (count : Count) (n : ℕ) (b : List ℕ) → count_of v count ≡ Some n → length b ≡ unit * n → Told (leaf_width (Field unit count)) b
+pub field_leaf : (v : Values) (unit : ℕ) (count : Count) (n : ℕ) (b : List ℕ) → count_of v count ≡ Some n → length b ≡ unit * n → Told (leaf_width (Field unit count)) b
 field_leaf v unit (Fixed m) n b count wide = let same : n ≡ m = cc in wide_leaf b (unit * m) (wide ∙ ap (λ k. unit * k) same)
 field_leaf v unit (Counted m field c) n b count wide = record { wide = refl; text = refl }
 
@@ -94,7 +94,7 @@ nothing_is Text = refl
 nothing_is Json = refl
 
 -- the trees of a row, where a node was left before them or not
-abbrev trees_text : TreeForm → Bool → Trees → List ℕ
+abbrev pub trees_text : TreeForm → Bool → Trees → List ℕ
 trees_text form left none = []
 trees_text form left (more t ts) = gap_after form left ++ (text_in form t ++ trees_text form true ts)
 
@@ -110,7 +110,7 @@ rest_is : (ts : Trees) → rest_text Second ts ≡ trees_text Text true ts
 rest_is none = refl
 rest_is (more t ts) = ap (λ l. 32 ∷ (text_of Second t ++ l)) (rest_is ts)
 
-first_is : (ts : Trees) → row_text Second ts ≡ trees_text Text false ts
+pub first_is : (ts : Trees) → row_text Second ts ≡ trees_text Text false ts
 first_is none = refl
 first_is (more t ts) = ap (λ l. text_of Second t ++ l) (rest_is ts)
 

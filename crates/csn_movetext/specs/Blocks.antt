@@ -1,23 +1,23 @@
 -- What the writer of a block's text stands for, between two pieces of the block. (This project's own choice.)
-use Rattle.std.specs.Prelude.{◌≡◌, ℕ, ◌<◌, ◌≤◌, Bool, true, false, List, [], ◌++◌, length, take, Some, None, Result, Ok, Err}
+use Rattle.std.specs.Prelude.{◌≡◌, ℕ, ◌≤◌, Bool, true, false, List, [], ◌++◌, length, take, Result, Ok, Err}
 use Rattle.csn_desc.specs.declared.moves.Move.{Move}
 use Rattle.csn_desc.specs.Nodes.{DescV}
 use Rattle.csn_desc.specs.TreeV.{TreeV}
 use Rattle.csn_desc.specs.Means.{NMeans}
-use Rattle.csn_desc.specs.Follows.{NFollow, IsPlace}
+use Rattle.csn_desc.specs.Follows.{NFollow}
 use Rattle.csn_desc.specs.Formed.{IsDescription}
 use Rattle.csn_certify.specs.Plans.{HasOneTree}
 use Rattle.csn_judge.specs.Judging as judge
 use Rattle.csn_judge.specs.Judging.{JudgeV, JudgesFor, opened}
 use Rattle.csn_judge.specs.Told.{Tells}
-use Rattle.csn_judge.specs.declared.verdict.Verdict.{Verdict}
-use Rattle.csn_judge.specs.declared.verdict.Verdict.TheVariants as verdict
+use Rattle.csn_judge.specs.declared.fed.Fed.{Fed}
+use Rattle.csn_judge.specs.declared.fed.Fed.TheVariants.{Going, Refused, NoMemory}
+use Rattle.csn_judge.specs.Following.{IsAnswer, ComesAlong, IsNoString}
+use Rattle.csn_judge.specs.Following as following
 use Rattle.csn_judge.specs.declared.verdict.Judged.{Judged}
 use Rattle.csn_judge.specs.declared.verdict.Judged.TheVariants as judged
 use Rattle.csn_movetext.specs.declared.block.BlockText.TheInside.{Inside}
 use Rattle.csn_movetext.specs.declared.form.TreeForm.{TreeForm}
-use Rattle.csn_movetext.specs.declared.fault.Fed.{Fed}
-use Rattle.csn_movetext.specs.declared.fault.Fed.TheVariants.{Going, Refused, NoMemory}
 use Rattle.csn_movetext.specs.declared.fault.BlockFault.{BlockFault}
 use Rattle.csn_movetext.specs.declared.fault.BlockFault.TheVariants as fault
 use Rattle.csn_movetext.specs.Forms.{IsShown}
@@ -50,17 +50,6 @@ stands j track answer before =
 abbrev pub block_of : Inside → BlockV
 block_of b = stands b.judge b.track b.answer (take b.start b.track.kept.text)
 
-abbrev pub is_going : Fed → Bool
-is_going Going = true
-is_going (Refused place) = false
-is_going NoMemory = false
-
--- what is answered by what the judge says, where memory was wanting or not
-abbrev pub answer_of : Verdict → Bool → Fed
-answer_of verdict.Going false = Going
-answer_of verdict.Going true = NoMemory
-answer_of (verdict.Refused place) short = Refused place
-
 -- what a block comes to behind an answer, by what the judge says of its end, where memory was wanting or not
 abbrev pub outcome_of : Fed → Judged → Bool → Result (Unit {0}) BlockFault
 outcome_of (Refused place) says short = Err (fault.Refused place)
@@ -68,12 +57,6 @@ outcome_of NoMemory says short = Err fault.NoMemory
 outcome_of Going (judged.Refused place) short = Err (fault.Refused place)
 outcome_of Going judged.Ok true = Err fault.NoMemory
 outcome_of Going judged.Ok false = Ok tt
-
--- the judge has refused exactly where this was the answer, or memory was wanting before
-abbrev pub IsAnswer : Fed → JudgeV → Type 0
-IsAnswer Going j = j.refused ≡ None
-IsAnswer (Refused place) j = j.refused ≡ Some place
-IsAnswer NoMemory j = j.refused ≡ None
 
 -- the judge stands for some bits, unless they were refused
 abbrev pub JudgesSome : Fed → JudgeV → Type 0
@@ -104,36 +87,18 @@ nothing openings before =
       pending = [];
     }
 
+-- what there is of the text is written by these moves
+abbrev pub IsTold : BlockV → List Move → Type 0
+IsTold w moves = Tells w.desc Writes [] moves (opened w.judge) (nothing w.track.openings w.before) w.track
+
 -- the text has come along these bits, by the moves that the judge has made for them, and all of them can be followed;
 -- or they are refused. Where memory was wanting it stands for none.
-pub data WritesFor (w : BlockV) (b : List ℕ) : Type 0 where
-  writes_on :
-      (moves : List Move)
-      → w.answer ≡ Going → JudgesFor w.judge b moves
-      → Tells w.desc Writes [] moves (opened w.judge) (nothing w.track.openings w.before) w.track
-      → WritesFor w b
-  writes_no_more :
-      (place : ℕ) → w.answer ≡ Refused place → IsPlace w.desc b place → place < length b → WritesFor w b
-
--- behind some more bits, which can be followed: it stands for all of them
-pub record IsFollowed (old new : BlockV) (b more : List ℕ) : Type 0 where
-  pub writes : WritesFor new (b ++ more)
-  pub followed : NFollow old.desc 0 0 [] (b ++ more)
-
--- behind some more bits, which cannot be followed: the place is that of all of them, before their end, and where
--- nothing was refused before, it lies in the bits that came last
-pub record IsRefused (old new : BlockV) (b more : List ℕ) (place : ℕ) : Type 0 where
-  pub writes : WritesFor new (b ++ more)
-  pub place_is : IsPlace old.desc (b ++ more) place
-  pub before_end : place < length (b ++ more)
-  pub not_followed : ¬ NFollow old.desc 0 0 [] (b ++ more)
-  pub in_piece : old.answer ≡ Going → length b ≤ place
+abbrev pub WritesFor : BlockV → List ℕ → Type 0
+WritesFor w b = ComesAlong w.desc w.answer w.judge (IsTold w) b
 
 -- what is known behind some more bits, for all bits that it stood for. Where memory was wanting, they can be followed
 abbrev pub Continues : (old new : BlockV) (more : List ℕ) → Fed → Type 0
-Continues old new more Going = (b : List ℕ) → WritesFor old b → IsFollowed old new b more
-Continues old new more (Refused place) = (b : List ℕ) → WritesFor old b → IsRefused old new b more place
-Continues old new more NoMemory = (b : List ℕ) → WritesFor old b → NFollow old.desc 0 0 [] (b ++ more)
+Continues old new more answer = following.Continues old.desc old.answer (WritesFor old) (WritesFor new) more answer
 
 -- bits that are a string: these bytes are the text of their tree in a form, and they have no other tree
 pub record IsTextOfBlock (form : TreeForm) (d : DescV) (b text : List ℕ) : Type 0 where
@@ -141,11 +106,6 @@ pub record IsTextOfBlock (form : TreeForm) (d : DescV) (b text : List ℕ) : Typ
   pub means : NMeans d 0 0 [] b tree
   pub only : (other : TreeV) → NMeans d 0 0 [] b other → other ≡ tree
   pub spelled : IsShown form tree text
-
--- bits that have no tree: the place is theirs
-pub record IsNoString (d : DescV) (b : List ℕ) (place : ℕ) : Type 0 where
-  pub place_is : IsPlace d b place
-  pub no_tree : (tree : TreeV) → ¬ NMeans d 0 0 [] b tree
 
 -- behind these bytes stands the text of the tree
 abbrev pub AddsText : TreeForm → DescV → List ℕ → List ℕ → List ℕ → Type 0

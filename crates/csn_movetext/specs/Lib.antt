@@ -1,6 +1,8 @@
 pub mod Forms
 pub mod WithNodes
+pub mod Templates
 pub mod Openings
+pub mod Making
 pub mod Numbers
 pub mod Pool
 pub mod Writing

@@ -7,11 +7,12 @@ use Rattle.csn_bits.specs.Feed.{Fed, octets_given, seen_of}
 use Rattle.csn_bits.specs.declared.feed.HexFeed.{HexFeed}
 use Rattle.csn_desc.specs.Nodes.{DescV}
 use Rattle.csn_movetext.specs.declared.form.TreeForm.{TreeForm}
-use Rattle.csn_movetext.specs.declared.fault.Fed.TheVariants.{NoMemory}
+use Rattle.csn_judge.specs.declared.fed.Fed.TheVariants.{NoMemory}
 use Rattle.csn_movetext.specs.declared.line.LineText.TheInside.{Inside}
 use Rattle.csn_movetext.specs.declared.line.LineEnd.{LineEnd}
 use Rattle.csn_movetext.specs.declared.line.LineEnd.TheVariants.{Text, Refused, Fault}
-use Rattle.csn_movetext.specs.Blocks.{BlockV, WritesFor, AddsText, IsNoString}
+use Rattle.csn_judge.specs.Following.{IsNoString}
+use Rattle.csn_movetext.specs.Blocks.{BlockV, WritesFor, AddsText}
 
 -- the form, the description, how many bytes of the line have come, how many octets of its block they gave, what is kept
 -- of the line, and the text of its block

@@ -6,11 +6,16 @@ use Rattle.csn_desc.specs.declared.node.Count.TheVariants.{Fixed}
 use Rattle.csn_desc.specs.declared.node.Node.{Node}
 use Rattle.csn_desc.specs.declared.node.Node.TheVariants.{Lits, Spare, Pad, Null, Field, Rest, Seq, Choice, Times, Many, Trunc, Named}
 use Rattle.csn_desc.specs.Label.{IsLabel}
+use Rattle.csn_desc.specs.TreeV.{TreeV}
 use Rattle.csn_desc.specs.Nodes.{DescV, parts_of}
+use Rattle.csn_desc.specs.Values.{Values}
+use Rattle.csn_desc.specs.Means.{NMeans}
 use Rattle.csn_treetext.specs.declared.bounds.TheConstants.{MOST_SHORT}
 use Rattle.csn_movetext.specs.declared.form.TreeForm.{TreeForm}
 use Rattle.csn_movetext.specs.declared.form.TreeForm.TheVariants.{Text, Json}
-use Rattle.csn_movetext.specs.Forms.{leaf_opening, label_text, mark_text, nothing_text}
+use Rattle.csn_movetext.specs.declared.template.Template.{Template}
+use Rattle.csn_movetext.specs.Forms.{leaf_opening, label_text, mark_text, nothing_text, text_in}
+use Rattle.csn_movetext.specs.Templates.{EndsIn, filled, template_at}
 
 -- the number of an alternative, which stands before what it writes
 abbrev pub number_text : TreeForm → Option ℕ → List ℕ
@@ -52,10 +57,11 @@ abbrev pub number_at : Node → ℕ → Option ℕ
 number_at (Choice parts) j = Some j
 number_at _ j = None
 
--- what the nodes write in a form
+-- what the nodes write in a form where they begin, and the templates of those that are written at once
 pub record OpeningsV : Type 0 where
   pub form : TreeForm
   pub texts : List (List ℕ)
+  pub templates : List (Option Template)
 
 abbrev pub opening_in : OpeningsV → ℕ → List ℕ
 opening_in openings i = unwrap_or (slice_get openings.texts i) []
@@ -74,9 +80,34 @@ pub record AreOpenings (form : TreeForm) (d : DescV) (openings : ℕ → List �
   pub root : (m : Node) → slice_get d.nodes 0 ≡ Some m → openings 0 ≡ opening_of form None m
   pub labels : (i part : ℕ) (label : List ℕ) → slice_get d.nodes i ≡ Some (Named label part) → IsLabel label
 
--- what the nodes write are their openings in the form
-abbrev pub HasOpenings : DescV → OpeningsV → Type 0
-HasOpenings d openings = AreOpenings openings.form d (opening_in openings)
+-- node i writes this mark before what its kind does
+abbrev pub IsMark : DescV → OpeningsV → ℕ → List ℕ → Type 0
+IsMark d openings i mark = (n : Node) → slice_get d.nodes i ≡ Some n → opening_in openings i ≡ mark ++ node_opening openings.form n
+
+-- a template of node i: for the bits that a number ends in, where they are a string of the node, it has the text of their
+-- tree behind the mark
+pub record IsTemplate (d : DescV) (openings : OpeningsV) (i : ℕ) (template : Template) : Type 0 where
+  pub form : openings.form ≡ Text
+  pub mark : List ℕ
+  pub marked : IsMark d openings i mark
+  pub writes :
+      (front : List ℕ) → IsMark d openings i front
+      → (o : ℕ) (v : Values) (b : List ℕ) (t : TreeV) (number : ℕ) → NMeans d i o v b t → EndsIn number b
+      → filled template number ≡ front ++ text_in Text t
+
+abbrev pub AreTemplates : DescV → OpeningsV → List (Option Template) → Type 0
+AreTemplates d openings templates =
+    (i : ℕ) (template : Template) → template_at templates i ≡ Some template → IsTemplate d openings i template
+
+-- what the nodes write are their openings in the form, each with a mark or none
+pub record AreOpened (d : DescV) (openings : OpeningsV) : Type 0 where
+  pub opened : AreOpenings openings.form d (opening_in openings)
+  pub marks : (i : ℕ) (n : Node) → slice_get d.nodes i ≡ Some n → (mark : List ℕ) × IsMark d openings i mark
+
+-- so that a text can be written by them
+pub record HasOpenings (d : DescV) (openings : OpeningsV) : Type 0 where
+  pub opened : AreOpenings openings.form d (opening_in openings)
+  pub templates : AreTemplates d openings openings.templates
 
 -- ---- examples
 

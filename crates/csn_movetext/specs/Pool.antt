@@ -9,7 +9,7 @@ abbrev pub bytes_at : List ℕ → Place → List ℕ
 bytes_at pool place = take (place.end - place.start) (drop place.start pool)
 
 abbrev pub openings_of : Inside → OpeningsV
-openings_of o = record { form = o.form; texts = map (bytes_at o.pool.items) o.places.items }
+openings_of o = record { form = o.form; texts = map (bytes_at o.pool.items) o.places.items; templates = o.templates.items }
 
 -- each place lies in the bytes
 abbrev pub IsWithin : List ℕ → Place → Type 0

@@ -113,7 +113,7 @@ example_moves =
 -- what is written behind a text of a sequence of two fields of two bits each, which these bytes open
 abbrev fields_written : TreeForm → List ℕ → Option WritingV
 fields_written form field =
-    written_by form (opening_in (record { form = form; texts = codes "[" ∷ field ∷ field ∷ [] })) (ready (codes "a") false) example_moves
+    written_by form (opening_in (record { form = form; texts = codes "[" ∷ field ∷ field ∷ []; templates = [] })) (ready (codes "a") false) example_moves
 
 -- such a sequence
 pub two_fields : fields_written Text (codes "2'") ≡ Some (ready (codes "a[2'2 2'3]") true)

@@ -5,11 +5,11 @@ ghost use Rattle.csn_movetext.specs.Openings.{HasOpenings};
 ghost use Rattle.csn_movetext.specs.Kept.{Extends};
 ghost use Rattle.csn_movetext.specs.Blocks.{WritesFor, credit, Continues, Ends, AddsText};
 
-use crate::fault::{BlockFault, Fed, Unwritten};
+use crate::fault::{BlockFault, Unwritten, outcome};
 use crate::openings::Openings;
 use crate::track::TextTrack;
 use csn_certify::{Plan, Steps};
-use csn_judge::Judge;
+use csn_judge::{Fed, Judge};
 use std::marker::Model;
 use std::sync::ledger::Ledger;
 
@@ -171,7 +171,7 @@ impl<'a> BlockText<'a> {
         csn_desc::laws::meanings_are_bits();
         csn_json::laws::texts_are_joined();
         let judged = self.judge.next_block_to(&mut self.track, steps);
-        let ended = self.answer.outcome(judged, self.track.is_refused());
+        let ended = outcome(self.answer, judged, self.track.is_refused());
         self.answer = Fed::Going;
         ended
     }

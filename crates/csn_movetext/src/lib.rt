@@ -12,12 +12,15 @@ mod line;
 mod octet_text;
 mod openings;
 mod room;
+mod template;
+mod templates;
 mod track;
 mod write;
 mod writing;
 
 pub use block::BlockText;
-pub use fault::{BlockFault, Fed, Unwritten};
+pub use csn_judge::Fed;
+pub use fault::{BlockFault, Unwritten};
 pub use form::TreeForm;
 pub use line::{LineEnd, LineText};
 pub use openings::Openings;

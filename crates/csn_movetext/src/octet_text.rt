@@ -5,10 +5,11 @@ ghost use Rattle.csn_movetext.specs.Blocks.{WritesFor};
 ghost use Rattle.csn_movetext.specs.Lines.{WritesOrWants, EndsBlock};
 
 use crate::block::BlockText;
-use crate::fault::{BlockFault, Fed};
+use crate::fault::BlockFault;
 use crate::line::LineEnd;
 use crate::openings::Openings;
 use csn_certify::{Plan, Steps};
+use csn_judge::Fed;
 use std::alloc::{AllocError, Global};
 use std::sync::ledger::Ledger;
 

@@ -1,11 +1,14 @@
-ghost use Rattle.std.specs.Prelude.{◌≡◌, ◌<◌, ◌++◌, ◌∷◌, [], length, slice_get, Some, OnOk, IfOk};
+ghost use Rattle.std.specs.Prelude.{◌≡◌, ◌<◌, ◌++◌, ◌∷◌, [], length, slice_get, Some, OnOk, IfOk, option_copied};
 ghost use Rattle.csn_desc.specs.Label.{IsLabel};
 ghost use Rattle.csn_movetext.specs.Forms.{label_text, leaf_opening, mark_text, nothing_text};
-ghost use Rattle.csn_movetext.specs.Openings.{HasLabel, HasOpenings, node_opening, opening_in, opening_of};
+ghost use Rattle.csn_movetext.specs.Openings.{AreOpened, AreTemplates, HasLabel, HasOpenings, node_opening, opening_in, opening_of};
+ghost use Rattle.csn_movetext.specs.Templates.{template_at};
 
 use crate::alternatives::alternatives;
 use crate::digits::push_number;
 use crate::form::TreeForm;
+use crate::template::Template;
+use crate::templates::templates;
 use crate::writing::leaf_width;
 use csn_bits::NoMemory;
 use csn_certify::{Plan, Steps};
@@ -14,13 +17,15 @@ use std::alloc::Global;
 use std::marker::{Brand, Model};
 use std::sync::ledger::{Blank, Ledger};
 
-/// What each node of a plan writes of its tree in a form where it begins. A contract sees the form, and the list of these
-/// texts.
+/// What each node of a plan writes of its tree in a form where it begins, and the templates of those that are written at
+/// once. A contract sees the form, and the lists of these texts and of the templates.
 #[derive(Drop)]
 pub struct Openings {
     form: TreeForm,
     pool: Vec<u8>,
     places: Vec<Place>,
+    /// For each node its template, if it has one; none at all in JSON.
+    templates: Vec<Option<Template>>,
 }
 
 /// Where a text stands in the pool.
@@ -70,9 +75,28 @@ impl Openings {
         }
     }
 
+    /// The template of node `i`, where it has one.
+    #[inline(always)]
+    pub(crate) fn template(&self, i: u16) -> Option<&Template>
+        ensures { option_copied result ≡ template_at self.now.templates i }
+    {
+        if usize::from(i) < self.templates.len() {
+            self.templates[usize::from(i)].as_ref()
+        } else {
+            None
+        }
+    }
+
+    /// The same with other templates.
+    fn with_templates(self, templates: Vec<Option<Template>>) -> Openings
+        ensures { result ≡ record { form = self.form; texts = self.texts; templates = templates.items } }
+    {
+        Openings { templates, ..self }
+    }
+
     /// One more behind the others.
     fn push(&mut self, opening: &[u8]) -> Result<(), NoMemory>
-        ensures { OnOk result (self.new ≡ record { form = self.old.form; texts = self.old.texts ++ opening.now ∷ [] }) }
+        ensures { OnOk result (self.new ≡ record { form = self.old.form; texts = self.old.texts ++ opening.now ∷ []; templates = self.old.templates }) }
     {
         let start = self.pool.len();
         self.pool.extend_from_slice(opening)?;
@@ -102,16 +126,38 @@ fn openings_of_plan<L: Ledger>(
     ensures form { IfOk result (λ openings. openings.form ≡ form) }
 {
     let mut steps = Steps::<L>::new(blank);
-    let numbers = alternatives(alloc, plan, &mut steps)?;
+    let openings = bare_openings(alloc, plan, form, &mut steps)?;
+    match form {
+        TreeForm::Text => {
+            let templates = templates(alloc, plan, &openings, &mut steps)?;
+            Ok(openings.with_templates(templates))
+        }
+        TreeForm::Json => Ok(openings),
+    }
+}
+
+/// The openings of a plan, with no templates.
+fn bare_openings<L: Ledger>(
+    alloc: Global,
+    plan: &Plan,
+    form: TreeForm,
+    steps: &mut Steps<L>,
+) -> Result<Openings, NoMemory>
+    ensures opened { IfOk result (AreOpened plan.now) }
+    ensures form { IfOk result (λ openings. openings.form ≡ form) }
+    ensures templates { IfOk result (λ openings. openings.templates ≡ []) }
+{
+    let numbers = alternatives(alloc, plan, steps)?;
     let mut openings = Openings {
         form,
         pool: Vec::new(alloc),
         places: Vec::new(alloc),
+        templates: Vec::new(alloc),
     };
     let mut opening = Vec::new(alloc);
     for i in 0..plan.len() {
         opening.clear();
-        let node = plan.node(i, &mut steps);
+        let node = plan.node(i, steps);
         push_opening(&mut opening, form, numbers[usize::from(i)], node)?;
         openings.push(opening.as_slice())?;
     }

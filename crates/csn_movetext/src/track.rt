@@ -4,9 +4,11 @@ ghost use Rattle.csn_movetext.specs.Kept.{Extends, kept_of};
 ghost use Rattle.csn_movetext.specs.Track.{Moves, TookAll};
 
 use crate::form::TreeForm;
+use crate::laws::moves_write_their_tree;
 use crate::openings::Openings;
 use crate::writing::Writing;
 use csn_bits::NoMemory;
+use csn_certify::{Layout, Plan};
 use csn_desc::{Move, Node};
 use csn_judge::Track;
 use std::marker::Model;
@@ -78,9 +80,15 @@ impl<'a> TextTrack<'a> {
 }
 
 impl<'a> Track for TextTrack<'a> {
+    ghost use Rattle.csn_movetext.specs.Openings.{HasOpenings};
     ghost use Rattle.csn_movetext.specs.Track.{Writes};
+    ghost use Rattle.std.proofs.Common.{subst, sym};
 
     ghost takes = { Writes };
+
+    ghost fits = { λ track desc. HasOpenings desc track.openings };
+
+    ghost keeps = { λ d old new step node writes has. subst (HasOpenings d) (sym writes.same_openings) has };
 
     #[inline(always)]
     fn step(&mut self, step: Move, node: &Node) {
@@ -97,6 +105,21 @@ impl<'a> Track for TextTrack<'a> {
         if count > 0 {
             let form = self.openings.form();
             self.refused = take_bits(&mut self.writing, form, number, count, node).is_err();
+        }
+    }
+
+    #[inline(always)]
+    fn whole(&mut self, _plan: &Plan, _i: u16, _layout: Layout, _number: u64) -> bool {
+        if self.refused || self.writing.is_open() {
+            return false;
+        }
+        moves_write_their_tree();
+        match self.openings.template(_i) {
+            Some(template) => {
+                self.refused = self.writing.whole(template, _number).is_err();
+                true
+            }
+            None => false,
         }
     }
 }

@@ -4,9 +4,10 @@ ghost use Rattle.csn_movetext.specs.Openings.{HasOpenings};
 ghost use Rattle.csn_movetext.specs.Blocks.{AddsText, IsFaultOf};
 
 use crate::block::BlockText;
-use crate::fault::{BlockFault, Fed, Unwritten};
+use crate::fault::{BlockFault, Unwritten};
 use crate::openings::Openings;
 use csn_certify::{Plan, Steps};
+use csn_judge::Fed;
 use std::mem;
 use std::sync::ledger::Ledger;
 

@@ -5,7 +5,8 @@ ghost use Rattle.csn_movetext.specs.Told.{IsTold};
 
 use crate::digits::{push_number, push_octets};
 use crate::form::TreeForm;
-use crate::room::room;
+use crate::room::{push_within, room};
+use crate::template::Template;
 use csn_bits::NoMemory;
 use csn_desc::{Count, Node};
 
@@ -31,7 +32,8 @@ impl Writing {
     ghost use Rattle.csn_bits.specs.Octets.{IsBits};
     ghost use Rattle.csn_bits.specs.Numbers.{low_bits, number_of};
     ghost use Rattle.csn_bits.specs.Line.{written};
-    ghost use Rattle.csn_movetext.specs.Forms.{octets_sign};
+    ghost use Rattle.csn_movetext.specs.Forms.{octets_sign, gap_after};
+    ghost use Rattle.csn_movetext.specs.Templates.{filled};
     ghost use Rattle.csn_movetext.specs.Writing.{WritingV, bits_text, entered, has_width, shut, passed, part_left, closed, left_node, gathering};
     ghost use Rattle.csn_movetext.specs.Kept.{KeptV, kept_of, Shows, Flushed, sign, Extends};
 
@@ -71,35 +73,50 @@ impl Writing {
             self.out.push_reserved(gap(form));
             self.left = false;
         }
-        Writing::push_opening(&mut self.out, opening)
+        push_within(&mut self.out, opening)
     }
 
-    // Adds the opening of a node. Most have a few bytes, which need no copy.
+    /// Whether bits of a leaf are held or written.
     #[inline(always)]
-    fn push_opening(out: &mut Vec<u8>, opening: &[u8]) -> Result<(), NoMemory>
-        requires room { vec_len out.old + length opening.now ≤ vec_capacity out.old }
-        ensures text { OnOk result (out.new.items ≡ out.old.items ++ opening.now) }
-        ensures extends { Extends out.old.items out.new.items }
+    pub fn is_open(&self) -> bool
+        ensures held { result ≡ false → self.now.held ≡ 0 }
+        ensures long { result ≡ false → self.now.long ≡ false }
     {
-        match opening {
-            [] => {}
-            [byte] => out.push_reserved(*byte),
-            [first, second] => {
-                out.push_reserved(*first);
-                out.push_reserved(*second);
-            }
-            [first, second, third] => {
-                out.push_reserved(*first);
-                out.push_reserved(*second);
-                out.push_reserved(*third);
-            }
-            [first, second, third, fourth] => {
-                out.push_reserved(*first);
-                out.push_reserved(*second);
-                out.push_reserved(*third);
-                out.push_reserved(*fourth);
-            }
-            _ => out.extend_from_slice(opening)?,
+        self.long || self.held > 0
+    }
+
+    /// All of a node is written at once as a text, for the bits that a number ends in.
+    #[inline(always)]
+    pub fn whole(&mut self, template: &Template, number: u64) -> Result<(), NoMemory>
+        ensures whole { OnOk result (kept_of self.new ≡ record {
+          text = self.old.out.items ++ (gap_after TreeForm.Text self.old.left ++ filled template.now number);
+          left = true;
+          long = self.old.long;
+          held = self.old.held;
+          bits = self.old.bits;
+        }) }
+        ensures extends { Extends self.old.out.items self.new.out.items }
+    {
+        self.part(TreeForm::Text)?;
+        self.left = true;
+        template.write(&mut self.out, number)
+    }
+
+    // What stands before a node, where the last move left one.
+    #[inline(always)]
+    fn part(&mut self, form: TreeForm) -> Result<(), NoMemory>
+        ensures part { OnOk result (kept_of self.new ≡ record {
+          text = self.old.out.items ++ gap_after form self.old.left;
+          left = self.old.left;
+          long = self.old.long;
+          held = self.old.held;
+          bits = self.old.bits;
+        }) }
+        ensures extends { Extends self.old.out.items self.new.out.items }
+    {
+        room(&mut self.out, 1)?;
+        if self.left {
+            self.out.push_reserved(gap(form));
         }
         Ok(())
     }

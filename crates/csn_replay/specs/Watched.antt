@@ -1,10 +1,9 @@
 -- What watchers count, and what they report. (This project's own choice.)
-use Rattle.std.specs.Prelude.{◌≡◌, ℕ, ◌+◌, min, Bool, true, false, not, leb, List, ◌∷◌, [], ◌++◌, map, Option, Some, None, codes, if◌then◌else◌}
+use Rattle.std.specs.Prelude.{◌≡◌, ℕ, ◌+◌, ◌==◌, min, Bool, true, false, not, leb, List, ◌∷◌, [], ◌++◌, map, Option, Some, None, codes, if◌then◌else◌}
 use Rattle.std.specs.Fmt.{decimal}
 use Rattle.std.specs.List.{filter, flat_map}
 use Rattle.csn_catalogue.specs.declared.entry.Entry.{Entry}
-use Rattle.csn_catalogue.specs.declared.entry.Entry.TheVariants.{Uplink, Downlink, Si1, Si3, Si4, Si13, Ia}
-use Rattle.csn_catalogue.specs.Entries.{entry_word}
+use Rattle.csn_catalogue.specs.Entries.{entry_place, entry_word}
 use Rattle.csn_replay.specs.declared.seen.Seen.{Seen}
 use Rattle.csn_replay.specs.declared.seen.Kind.{Kind}
 use Rattle.csn_replay.specs.declared.seen.Kind.TheVariants.{Blocks, Refused, Length}
@@ -19,15 +18,9 @@ pub record Watched : Type 0 where
 abbrev pub greatest_count : ℕ
 greatest_count = 18446744073709551615
 
+-- two entries are one where they stand at one place
 abbrev pub same_entry : Entry → Entry → Bool
-same_entry Uplink Uplink = true
-same_entry Downlink Downlink = true
-same_entry Si1 Si1 = true
-same_entry Si3 Si3 = true
-same_entry Si4 Si4 = true
-same_entry Si13 Si13 = true
-same_entry Ia Ia = true
-same_entry _ _ = false
+same_entry entry other = entry_place entry == entry_place other
 
 -- what a block adds to a count of this kind
 abbrev pub weight : Kind → Seen → ℕ

@@ -1,7 +1,7 @@
 //! Text on its way to the sink.
 
-ghost use Rattle.std.specs.Prelude.{◌≡◌, ◌≢◌, ◌≤◌};
-ghost use Rattle.csn_io.specs.Faults.{Rose};
+ghost use Rattle.std.specs.Prelude.{◌≡◌, ◌≢◌};
+ghost use Rattle.csn_io.specs.Faults.{Keeps, Rose};
 ghost use Rattle.csn_replay.specs.Told.{Wrote};
 ghost use Rattle.csn_replay.specs.declared.told.Told.TheVariants.{WriteFault};
 
@@ -12,10 +12,7 @@ use csn_io::{Put, Sink};
 pub fn put_all<K: Sink>(text: &[u8], out: &mut K) -> Told
     ensures wrote { Wrote result (K.taken out.old) (K.taken out.new) text.now }
     ensures write_fault { result ≡ WriteFault → Rose (K.faults out.old) (K.faults out.new) }
-    ensures no_fault { result ≢ WriteFault → K.faults out.new ≡ K.faults out.old }
-    ensures never_falls { K.faults out.old ≤ K.faults out.new }
-    ensures steady_stays { K.steady out.old → K.steady out.new }
-    ensures steady_count { K.steady out.old → K.faults out.new ≡ K.faults out.old }
+    ensures outside { Keeps (K.steady out.old) (K.steady out.new) (K.faults out.old) (K.faults out.new) (result ≡ WriteFault) }
     ensures steady_no_fault { K.steady out.old → result ≢ WriteFault }
 {
     let mut passed = 0;

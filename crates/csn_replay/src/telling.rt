@@ -1,6 +1,6 @@
-ghost use Rattle.std.specs.Prelude.{◌≡◌, ◌≢◌, ◌↔◌, ◌≤◌, ◌<◌, ◌+◌, ◌++◌, true, IfSome, IfNone, List, map, codes, vec_len, length};
+ghost use Rattle.std.specs.Prelude.{◌≡◌, ◌≢◌, ◌↔◌, ◌<◌, ◌+◌, ◌++◌, true, IfSome, IfNone, List, map, codes, vec_len, length};
 ghost use Rattle.std.specs.Option.{option_map};
-ghost use Rattle.csn_io.specs.Faults.{Rose};
+ghost use Rattle.csn_io.specs.Faults.{Keeps, Rose};
 ghost use Rattle.csn_replay.specs.Told.{Wrote};
 ghost use Rattle.csn_replay.specs.Watched.{Watched, Showed, counted, is_done, still_watching, done_watching, report_line, reports};
 ghost use Rattle.csn_replay.specs.declared.seen.Go.TheVariants.{Done};
@@ -40,10 +40,7 @@ fn show(watchers: &mut Vec<Box<dyn Watcher>>, at: usize, seen: &Seen) -> Option<
 fn report<K: Sink>(alloc: Global, watcher: &Box<dyn Watcher>, out: &mut K) -> Told
     ensures wrote { Wrote result (K.taken out.old) (K.taken out.new) (report_line (watched watcher.now) ++ codes "\n") }
     ensures write_fault { result ≡ WriteFault → Rose (K.faults out.old) (K.faults out.new) }
-    ensures no_fault { result ≢ WriteFault → K.faults out.new ≡ K.faults out.old }
-    ensures never_falls { K.faults out.old ≤ K.faults out.new }
-    ensures steady_stays { K.steady out.old → K.steady out.new }
-    ensures steady_count { K.steady out.old → K.faults out.new ≡ K.faults out.old }
+    ensures outside { Keeps (K.steady out.old) (K.steady out.new) (K.faults out.old) (K.faults out.new) (result ≡ WriteFault) }
     ensures steady_no_fault { K.steady out.old → result ≢ WriteFault }
 {
     let Ok(mut line) = watcher.report_line(alloc) else {
@@ -66,10 +63,7 @@ pub fn tell<K: Sink>(
     ensures watchers { map (λ b. watched b) watchers.new.items ≡ still_watching seen.now (map (λ b. watched b) watchers.old.items) }
     ensures wrote { Wrote result (K.taken out.old) (K.taken out.new) (reports (done_watching seen.now (map (λ b. watched b) watchers.old.items))) }
     ensures write_fault { result ≡ WriteFault → Rose (K.faults out.old) (K.faults out.new) }
-    ensures no_fault { result ≢ WriteFault → K.faults out.new ≡ K.faults out.old }
-    ensures never_falls { K.faults out.old ≤ K.faults out.new }
-    ensures steady_stays { K.steady out.old → K.steady out.new }
-    ensures steady_count { K.steady out.old → K.faults out.new ≡ K.faults out.old }
+    ensures outside { Keeps (K.steady out.old) (K.steady out.new) (K.faults out.old) (K.faults out.new) (result ≡ WriteFault) }
     ensures steady_no_fault { K.steady out.old → result ≢ WriteFault }
 {
     let mut told = Told::Ok;
@@ -90,10 +84,7 @@ pub fn tell<K: Sink>(
 pub fn close<K: Sink>(alloc: Global, watchers: Vec<Box<dyn Watcher>>, out: &mut K) -> Told
     ensures wrote { Wrote result (K.taken out.old) (K.taken out.new) (reports (map (λ b. watched b) watchers.items)) }
     ensures write_fault { result ≡ WriteFault → Rose (K.faults out.old) (K.faults out.new) }
-    ensures no_fault { result ≢ WriteFault → K.faults out.new ≡ K.faults out.old }
-    ensures never_falls { K.faults out.old ≤ K.faults out.new }
-    ensures steady_stays { K.steady out.old → K.steady out.new }
-    ensures steady_count { K.steady out.old → K.faults out.new ≡ K.faults out.old }
+    ensures outside { Keeps (K.steady out.old) (K.steady out.new) (K.faults out.old) (K.faults out.new) (result ≡ WriteFault) }
     ensures steady_no_fault { K.steady out.old → result ≢ WriteFault }
 {
     for watcher in watchers {

@@ -6,6 +6,7 @@ use csn_catalogue::Entry;
 use csn_io::MemSink;
 use std::alloc::Global;
 use std::cell::Cell;
+use std::process::Abort;
 use std::rc::Rc;
 use std::test::Fail;
 
@@ -120,46 +121,55 @@ fn a_head_is_the_same_in_any_pieces(rt: HostRuntime) -> Result<(), Fail> {
     Ok(())
 }
 
+/// Watchers are shown blocks, and closed behind the last one: what is written in all behind each block, and at the end.
+fn expect_told(
+    rt: &impl Abort,
+    alloc: Global,
+    watchers: Vec<Box<dyn Watcher>>,
+    rows: &[(Seen, &str)],
+    end: &str,
+) {
+    let mut watchers = watchers;
+    let mut out = MemSink::new(alloc, 4096, Vec::new(alloc));
+    for (seen, text) in rows {
+        assert_eq!(rt; tell(alloc, &mut watchers, seen, &mut out), Told::Ok);
+        assert_eq!(rt; out.taken(), text.as_bytes());
+    }
+    assert_eq!(rt; close(alloc, watchers, &mut out), Told::Ok);
+    assert_eq!(rt; out.taken(), end.as_bytes());
+}
+
 #[test]
 fn watchers_report_when_they_are_done(rt: HostRuntime) -> Result<(), Fail> {
     let alloc = rt.alloc();
-    let mut out = MemSink::new(alloc, 4096, Vec::new(alloc));
     let mut watchers: Vec<Box<dyn Watcher>> = Vec::new(alloc);
     watchers.push(Box::new(alloc, RefusedWatcher::new(2))?)?;
     watchers.push(Box::new(alloc, BitsWatcher::new(u64::MAX))?)?;
-    for (seen, text) in [
+    let rows = [
         (seen(Entry::Si1, 8, true), ""),
         (seen(Entry::Si1, 0, false), ""),
         (seen(Entry::Si1, 1, false), "refused 2\n"),
         (seen(Entry::Si1, 8, true), "refused 2\n"),
-    ] {
-        assert_eq!(rt; tell(alloc, &mut watchers, &seen, &mut out), Told::Ok);
-        assert_eq!(rt; out.taken(), text.as_bytes());
-    }
-    assert_eq!(rt; close(alloc, watchers, &mut out), Told::Ok);
-    assert_eq!(rt; out.taken(), b"refused 2\nbits 17\n".as_slice());
+    ];
+    expect_told(&rt, alloc, watchers, &rows, "refused 2\nbits 17\n");
     Ok(())
 }
 
 #[test]
 fn watchers_of_one_kind_count_apart(rt: HostRuntime) -> Result<(), Fail> {
     let alloc = rt.alloc();
-    let mut out = MemSink::new(alloc, 4096, Vec::new(alloc));
     let mut watchers: Vec<Box<dyn Watcher>> = Vec::new(alloc);
     watchers.push(Box::new(alloc, EntryWatcher::new(Entry::Si1, u64::MAX))?)?;
     watchers.push(Box::new(alloc, BitsWatcher::new(10))?)?;
     watchers.push(Box::new(alloc, EntryWatcher::new(Entry::Ia, u64::MAX))?)?;
     watchers.push(Box::new(alloc, BitsWatcher::new(9))?)?;
-    for (bits, text) in [(8, ""), (1, "bits 9\n"), (88, "bits 9\nbits 97\n")] {
-        let seen = seen(Entry::Si1, bits, true);
-        assert_eq!(rt; tell(alloc, &mut watchers, &seen, &mut out), Told::Ok);
-        assert_eq!(rt; out.taken(), text.as_bytes());
-    }
-    assert_eq!(rt; close(alloc, watchers, &mut out), Told::Ok);
-    assert_eq!(rt;
-        out.taken(),
-        b"bits 9\nbits 97\nentry si1 3\nentry ia 0\n".as_slice()
-    );
+    let rows = [
+        (seen(Entry::Si1, 8, true), ""),
+        (seen(Entry::Si1, 1, true), "bits 9\n"),
+        (seen(Entry::Si1, 88, true), "bits 9\nbits 97\n"),
+    ];
+    let end = "bits 9\nbits 97\nentry si1 3\nentry ia 0\n";
+    expect_told(&rt, alloc, watchers, &rows, end);
     Ok(())
 }
 

@@ -3,6 +3,7 @@ ghost use Rattle.csn_replay.specs.Watched.{counted, is_done, report_line};
 ghost use Rattle.csn_replay.specs.declared.seen.Go.TheVariants.{Done};
 
 use crate::seen::{Go, Kind, Seen};
+use crate::tally::line_of;
 use csn_bits::NoMemory;
 use std::alloc::Global;
 
@@ -30,5 +31,8 @@ pub trait Watcher: Drop {
 
     /// The line in which it reports, without its line feed.
     fn report_line(&self, alloc: Global) -> Result<Vec<u8>, NoMemory>
-        ensures { IfOk result (λ line. line.items ≡ report_line (watched self.now)) };
+        ensures { IfOk result (λ line. line.items ≡ report_line (watched self.now)) }
+    {
+        line_of(alloc, self.kind(), self.count())
+    }
 }

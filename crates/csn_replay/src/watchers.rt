@@ -4,11 +4,9 @@ ghost use Rattle.std.specs.Prelude.{◌≡◌, ◌≤◌};
 ghost use Rattle.csn_replay.specs.declared.seen.Kind.TheVariants.{Blocks, Refused, Length};
 
 use crate::seen::{Go, Kind, Seen};
-use crate::tally::{Tally, line_of};
+use crate::tally::Tally;
 use crate::watcher::Watcher;
-use csn_bits::NoMemory;
 use csn_catalogue::Entry;
-use std::alloc::Global;
 
 /// Counts the blocks of an entry.
 #[derive(Drop)]
@@ -47,10 +45,6 @@ impl Watcher for EntryWatcher {
     fn see(&mut self, seen: &Seen) -> Go {
         self.tally.add(u64::from(seen.entry == self.entry))
     }
-
-    fn report_line(&self, alloc: Global) -> Result<Vec<u8>, NoMemory> {
-        line_of(alloc, self.kind(), self.count())
-    }
 }
 
 /// Counts the blocks that are refused.
@@ -88,10 +82,6 @@ impl Watcher for RefusedWatcher {
     fn see(&mut self, seen: &Seen) -> Go {
         self.tally.add(u64::from(!seen.ok))
     }
-
-    fn report_line(&self, alloc: Global) -> Result<Vec<u8>, NoMemory> {
-        line_of(alloc, self.kind(), self.count())
-    }
 }
 
 /// Counts the bits of all blocks.
@@ -128,9 +118,5 @@ impl Watcher for BitsWatcher {
 
     fn see(&mut self, seen: &Seen) -> Go {
         self.tally.add(u64::from(seen.bits))
-    }
-
-    fn report_line(&self, alloc: Global) -> Result<Vec<u8>, NoMemory> {
-        line_of(alloc, self.kind(), self.count())
     }
 }

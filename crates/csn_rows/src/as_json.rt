@@ -1,6 +1,6 @@
 //! What `json` and `unjson` answer by a rule of the file F.
 
-use crate::shown::expect_row;
+use crate::shown::expect_rows;
 use std::test::Fail;
 
 /// The text of a description, a command, the name of a rule, a reading, a line, what is written, and the status.
@@ -27,11 +27,5 @@ const ROWS: &str = "\
 
 #[test]
 fn rows_of_json_hold(rt: HostRuntime) -> Result<(), Fail> {
-    for row in ROWS.split('\n') {
-        let Some((text, row)) = row.split_once(" @ ") else {
-            return Err("no row".into());
-        };
-        expect_row(&rt, rt.alloc(), text.as_bytes(), row)?;
-    }
-    Ok(())
+    expect_rows(&rt, rt.alloc(), ROWS)
 }

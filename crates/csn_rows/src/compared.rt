@@ -2,6 +2,7 @@
 
 use super::*;
 use crate::tests::{expect, file, words_of};
+use std::process::Abort;
 use std::test::Fail;
 
 /// A message, and later ones that take its blocks.
@@ -47,39 +48,46 @@ fn compared(alloc: Global, old: &[u8], new: &[u8]) -> Result<Ran, AllocError> {
     run_in_memory(alloc, &words, files, Vec::from_slice(alloc, b"A5\n")?)
 }
 
+/// Each row has an old description, a new one, what is written, and the status.
+fn expect_compared(
+    rt: &impl Abort,
+    alloc: Global,
+    rows: &[(&[u8], &[u8], &str, u8)],
+) -> Result<(), AllocError> {
+    for (old, new, text, status) in rows {
+        let ran = compared(alloc, old, new)?;
+        expect(rt, &ran, text.as_bytes(), *status, text);
+    }
+    Ok(())
+}
+
 #[test]
 fn descriptions_are_compared(rt: HostRuntime) -> Result<(), Fail> {
-    let rows = [
-        (MESSAGE, LATER, b"ok compat\n".as_slice(), 0),
-        (LATER, MESSAGE, b"no compat\n", 1),
-        (MESSAGE, MESSAGE, b"ok compat\n", 0),
-        (COUNTED, RENAMED, b"ok compat\n", 0),
-        (COUNTED, LONGER, b"no compat\n", 1),
-        (PARTED, CHOOSING, b"no compat\n", 1),
+    let rows: &[(&[u8], &[u8], &str, u8)] = &[
+        (MESSAGE, LATER, "ok compat\n", 0),
+        (LATER, MESSAGE, "no compat\n", 1),
+        (MESSAGE, MESSAGE, "ok compat\n", 0),
+        (COUNTED, RENAMED, "ok compat\n", 0),
+        (COUNTED, LONGER, "no compat\n", 1),
+        (PARTED, CHOOSING, "no compat\n", 1),
     ];
-    for (old, new, text, status) in rows {
-        let ran = compared(rt.alloc(), old, new)?;
-        expect(&rt, &ran, text, status, "two descriptions");
-    }
+    expect_compared(&rt, rt.alloc(), rows)?;
     Ok(())
 }
 
 /// The old description is refused before the new one.
 #[test]
 fn descriptions_are_refused_in_order(rt: HostRuntime) -> Result<(), Fail> {
-    let rows = [
-        (UNENDED, MESSAGE, b"syntax 12\n".as_slice(), 3),
-        (MESSAGE, UNENDED, b"syntax 12\n", 3),
-        (NAMELESS, UNENDED, b"description 1 0\n", 3),
-        (UNENDED, NAMELESS, b"syntax 12\n", 3),
-        (CLASHING, NAMELESS, b"conflict 1 0 0 1\n", 4),
-        (NAMELESS, CLASHING, b"description 1 0\n", 3),
-        (MESSAGE, CLASHING, b"conflict 1 0 0 1\n", 4),
+    let rows: &[(&[u8], &[u8], &str, u8)] = &[
+        (UNENDED, MESSAGE, "syntax 12\n", 3),
+        (MESSAGE, UNENDED, "syntax 12\n", 3),
+        (NAMELESS, UNENDED, "description 1 0\n", 3),
+        (UNENDED, NAMELESS, "syntax 12\n", 3),
+        (CLASHING, NAMELESS, "conflict 1 0 0 1\n", 4),
+        (NAMELESS, CLASHING, "description 1 0\n", 3),
+        (MESSAGE, CLASHING, "conflict 1 0 0 1\n", 4),
     ];
-    for (old, new, text, status) in rows {
-        let ran = compared(rt.alloc(), old, new)?;
-        expect(&rt, &ran, text, status, "a refused description");
-    }
+    expect_compared(&rt, rt.alloc(), rows)?;
     Ok(())
 }
 

@@ -1,13 +1,12 @@
 //! Each call of the outside fails once: what stands written is then a front of the whole text.
 
+ghost use Rattle.std.specs.Prelude.{◌≤◌};
+
 use super::*;
-use crate::tests::{file, words_of};
+use crate::tests::{FIELDS, file, words_of};
 use csn_replay::BitsWatcher;
 use std::process::Abort;
 use std::test::Fail;
-
-/// The description of the rows.
-const FIELDS: &[u8] = b"<M> ::= <A : bit (3)> 0 <B : bit (4)> ;";
 
 /// Words, and the input that they are run over.
 const ROWS: &[(&[&str], &[u8])] = &[
@@ -40,14 +39,14 @@ const ROWS: &[(&[&str], &[u8])] = &[
 
 /// The calls of the outside that fail.
 #[derive(Drop)]
-struct Failing {
+pub(crate) struct Failing {
     fetches: Vec<u32>,
     takes: Vec<u32>,
     puts: Vec<u32>,
 }
 
 impl Failing {
-    fn none(alloc: Global) -> Failing {
+    pub(crate) fn none(alloc: Global) -> Failing {
         Failing {
             fetches: Vec::new(alloc),
             takes: Vec::new(alloc),
@@ -56,27 +55,41 @@ impl Failing {
     }
 }
 
-/// A run over an outside that moves at most 48 bytes in a call, and of which some calls fail, with a watcher of bits.
+/// A run over a file of fields and an outside that moves so many bytes in a call, and of which some calls fail.
+pub(crate) fn ran_in_pieces(
+    alloc: Global,
+    words: &[&str],
+    input: &[u8],
+    most: u32,
+    failing: Failing,
+    watchers: Vec<Box<dyn Watcher>>,
+) -> Result<Ran, AllocError>
+    requires { 1 ≤ most }
+{
+    let words = words_of(alloc, words)?;
+    let mut shelf = MemShelf::new(file(alloc, FIELDS)?, failing.fetches);
+    let mut source = MemSource::new(Vec::from_slice(alloc, input)?, most, failing.takes);
+    let mut sink = MemSink::new(alloc, most, failing.puts);
+    let ended = run(alloc, &words, &mut shelf, &mut source, &mut sink, watchers);
+    let text = Vec::from_slice(alloc, sink.taken())?;
+    Ok(Ran { ended, text })
+}
+
+/// The same by at most 48 bytes, with a watcher of bits.
 fn ran_failing(
     alloc: Global,
     words: &[&str],
     input: &[u8],
     failing: Failing,
 ) -> Result<Ran, AllocError> {
-    let words = words_of(alloc, words)?;
-    let mut shelf = MemShelf::new(file(alloc, FIELDS)?, failing.fetches);
-    let mut source = MemSource::new(Vec::from_slice(alloc, input)?, 48, failing.takes);
-    let mut sink = MemSink::new(alloc, 48, failing.puts);
     let mut watchers: Vec<Box<dyn Watcher>> = Vec::new(alloc);
     watchers.push(Box::new(alloc, BitsWatcher::new(u64::MAX))?)?;
-    let ended = run(alloc, &words, &mut shelf, &mut source, &mut sink, watchers);
-    let text = Vec::from_slice(alloc, sink.taken())?;
-    Ok(Ran { ended, text })
+    ran_in_pieces(alloc, words, input, 48, failing, watchers)
 }
 
 /// Which kind of call fails.
 #[derive(Clone, Copy)]
-enum Call {
+pub(crate) enum Call {
     Fetch,
     Take,
     /// A put, or the flush behind the last one.
@@ -85,7 +98,7 @@ enum Call {
 
 impl Call {
     /// An outside of which the call with this number fails.
-    fn failing(self, alloc: Global, number: u32) -> Result<Failing, AllocError> {
+    pub(crate) fn failing(self, alloc: Global, number: u32) -> Result<Failing, AllocError> {
         let mut failing = Failing::none(alloc);
         match self {
             Call::Fetch => failing.fetches.push(number)?,
@@ -96,7 +109,7 @@ impl Call {
     }
 
     /// The status of a run of which such a call failed.
-    fn status(self) -> u8 {
+    pub(crate) fn status(self) -> u8 {
         match self {
             Call::Fetch | Call::Take => 5,
             Call::Put => 6,

@@ -135,12 +135,7 @@ fn line_of(alloc: Global, text: &str) -> Result<Vec<u8>, AllocError> {
 }
 
 /// A row holds of a description.
-pub(crate) fn expect_row(
-    rt: &impl Abort,
-    alloc: Global,
-    text: &[u8],
-    row: &str,
-) -> Result<(), Fail> {
+fn expect_row(rt: &impl Abort, alloc: Global, text: &[u8], row: &str) -> Result<(), Fail> {
     let cells = row.split(" @ ").collect::<Vec<&str>>(alloc)?;
     let [command, name, reading, block, line, status] = cells.as_slice() else {
         return Err("no row".into());
@@ -158,15 +153,20 @@ pub(crate) fn expect_row(
     Ok(())
 }
 
-#[test]
-fn rows_hold(rt: HostRuntime) -> Result<(), Fail> {
-    for row in ROWS.split('\n') {
+/// Rows hold, each of the description that stands before it.
+pub(crate) fn expect_rows(rt: &impl Abort, alloc: Global, rows: &str) -> Result<(), Fail> {
+    for row in rows.split('\n') {
         let Some((text, row)) = row.split_once(" @ ") else {
             return Err("no row".into());
         };
-        expect_row(&rt, rt.alloc(), text.as_bytes(), row)?;
+        expect_row(rt, alloc, text.as_bytes(), row)?;
     }
     Ok(())
+}
+
+#[test]
+fn rows_hold(rt: HostRuntime) -> Result<(), Fail> {
+    expect_rows(&rt, rt.alloc(), ROWS)
 }
 
 #[test]

@@ -1,11 +1,12 @@
 ghost use Rattle.std.specs.Prelude.{◌≤◌};
 
 use super::*;
+use crate::failing::{Call, Failing, ran_in_pieces};
 use std::process::Abort;
 use std::test::Fail;
 
 /// The description of most examples.
-const FIELDS: &[u8] = b"<M> ::= <A : bit (3)> 0 <B : bit (4)> ;";
+pub(crate) const FIELDS: &[u8] = b"<M> ::= <A : bit (3)> 0 <B : bit (4)> ;";
 
 /// The words of most examples.
 const SHOW: &[&str] = &["show", "F", "M", "received"];
@@ -44,31 +45,23 @@ fn migrated(alloc: Global, input: &[u8]) -> Result<Ran, AllocError> {
     run_in_memory(alloc, &words, BTreeMap::new(alloc), input)
 }
 
-/// A run over a source and a sink that move so many bytes in a call, and of which some calls fail.
-fn ran_in_pieces(
+/// A run of which a call fails, by its kind and its number, ends with that fault, and has written this text.
+fn expect_fault(
+    rt: &impl Abort,
     alloc: Global,
     words: &[&str],
     input: &[u8],
     most: u32,
-    failing_takes: Vec<u32>,
-    failing_puts: Vec<u32>,
-) -> Result<Ran, AllocError>
+    failing: (Call, u32),
+    text: &[u8],
+) -> Result<(), AllocError>
     requires { 1 ≤ most }
 {
-    let words = words_of(alloc, words)?;
-    let mut shelf = MemShelf::new(file(alloc, FIELDS)?, Vec::new(alloc));
-    let mut source = MemSource::new(Vec::from_slice(alloc, input)?, most, failing_takes);
-    let mut sink = MemSink::new(alloc, most, failing_puts);
-    let ended = run(
-        alloc,
-        &words,
-        &mut shelf,
-        &mut source,
-        &mut sink,
-        Vec::new(alloc),
-    );
-    let text = Vec::from_slice(alloc, sink.taken())?;
-    Ok(Ran { ended, text })
+    let (call, number) = failing;
+    let failing = call.failing(alloc, number)?;
+    let ran = ran_in_pieces(alloc, words, input, most, failing, Vec::new(alloc))?;
+    expect(rt, &ran, text, call.status(), "a call that fails");
+    Ok(())
 }
 
 pub(crate) fn expect(rt: &impl Abort, ran: &Ran, text: &[u8], status: u8, what: &str) {
@@ -305,15 +298,17 @@ fn pieces_do_not_matter(rt: HostRuntime) -> Result<(), Fail> {
     let blocks = b"ok A5\nno / WrongCount 3 2\nbad 1\n";
     let old = b"b\n<A>=3'9\n[3'5 .]";
     let new = b"ok b\nbad 6\nok [3'5 .]\n";
+    let rows: &[(&[&str], &[u8], &[u8])] = &[
+        (SHOW, input, text),
+        (&["write", "F", "M", "received"], trees, blocks),
+        (&["migrate"], old, new),
+    ];
     for most in [1, 2, 7, 4096] {
-        let ran = ran_in_pieces(alloc, SHOW, input, most, Vec::new(alloc), Vec::new(alloc))?;
-        expect(&rt, &ran, text, 1, "pieces of blocks");
-        let words = &["write", "F", "M", "received"];
-        let ran = ran_in_pieces(alloc, words, trees, most, Vec::new(alloc), Vec::new(alloc))?;
-        expect(&rt, &ran, blocks, 1, "pieces of trees");
-        let words = &["migrate"];
-        let ran = ran_in_pieces(alloc, words, old, most, Vec::new(alloc), Vec::new(alloc))?;
-        expect(&rt, &ran, new, 1, "pieces of old texts");
+        for (words, input, text) in rows {
+            let failing = Failing::none(alloc);
+            let ran = ran_in_pieces(alloc, words, input, most, failing, Vec::new(alloc))?;
+            expect(&rt, &ran, text, 1, "pieces of an input");
+        }
     }
     Ok(())
 }
@@ -324,15 +319,10 @@ fn faults_keep_what_was_answered(rt: HostRuntime) -> Result<(), Fail> {
     let input = b"B5\nA0/6\nA500\n";
     // Seven bytes in a call: the third call comes after 14 bytes, so after all three lines but the
     // second call's answers, which end in the middle of the second line.
-    let second = vec![in alloc; 1]?;
-    let ran = ran_in_pieces(alloc, SHOW, input, 7, second, Vec::new(alloc))?;
-    expect(&rt, &ran, b"no 3 bit\n", 5, "the second take fails");
-    let first = vec![in alloc; 0]?;
-    let ran = ran_in_pieces(alloc, SHOW, input, 4096, Vec::new(alloc), first)?;
-    expect(&rt, &ran, b"", 6, "the first put fails");
-    let first = vec![in alloc; 0]?;
-    let ran = ran_in_pieces(alloc, SHOW, b"", 4096, Vec::new(alloc), first)?;
-    expect(&rt, &ran, b"", 6, "the flush fails");
+    expect_fault(&rt, alloc, SHOW, input, 7, (Call::Take, 1), b"no 3 bit\n")?;
+    expect_fault(&rt, alloc, SHOW, input, 4096, (Call::Put, 0), b"")?;
+    // The first call of the sink is the flush.
+    expect_fault(&rt, alloc, SHOW, b"", 4096, (Call::Put, 0), b"")?;
     let words = words_of(alloc, SHOW)?;
     let ran = run_in_memory(
         alloc,
@@ -350,16 +340,10 @@ fn faults_keep_what_was_migrated(rt: HostRuntime) -> Result<(), Fail> {
     let words = &["migrate"];
     let input = b"b\n<A>=3'9\n.\n";
     // The first seven bytes end in the second line, the next seven after the third.
-    let second = vec![in alloc; 1]?;
-    let ran = ran_in_pieces(alloc, words, input, 7, second, Vec::new(alloc))?;
-    expect(&rt, &ran, b"ok b\n", 5, "the second take fails");
+    expect_fault(&rt, alloc, words, input, 7, (Call::Take, 1), b"ok b\n")?;
     // The first put takes the first line's answer, the second one is refused.
-    let second = vec![in alloc; 1]?;
-    let ran = ran_in_pieces(alloc, words, input, 7, Vec::new(alloc), second)?;
-    expect(&rt, &ran, b"ok b\n", 6, "the second put fails");
-    let first = vec![in alloc; 0]?;
-    let ran = ran_in_pieces(alloc, words, b"", 4096, Vec::new(alloc), first)?;
-    expect(&rt, &ran, b"", 6, "the flush fails");
+    expect_fault(&rt, alloc, words, input, 7, (Call::Put, 1), b"ok b\n")?;
+    expect_fault(&rt, alloc, words, b"", 4096, (Call::Put, 0), b"")?;
     Ok(())
 }
 
@@ -386,7 +370,7 @@ fn input_is_left_alone_before_its_lines(rt: HostRuntime) -> Result<(), Fail> {
         (["write", "F", "N", "sent"], b"description 1 0\n", 3),
     ] {
         // The first take would fail.
-        let first = vec![in alloc; 0]?;
+        let first = Call::Take.failing(alloc, 0)?;
         let ran = ran_in_pieces(alloc, &words, b"A5\n", 7, first, Vec::new(alloc))?;
         expect(&rt, &ran, text, status, "no take");
     }
@@ -397,21 +381,8 @@ fn input_is_left_alone_before_its_lines(rt: HostRuntime) -> Result<(), Fail> {
 fn shelf_that_fails_ends_the_run(rt: HostRuntime) -> Result<(), Fail> {
     let alloc = rt.alloc();
     for command in ["check", "show", "write"] {
-        let words = words_of(alloc, &[command, "F", "M", "received"])?;
-        let first = vec![in alloc; 0]?;
-        let mut shelf = MemShelf::new(file(alloc, FIELDS)?, first);
-        let mut source = MemSource::new(Vec::from_slice(alloc, b"A5\n")?, 7, Vec::new(alloc));
-        let mut sink = MemSink::new(alloc, 7, Vec::new(alloc));
-        let ended = run(
-            alloc,
-            &words,
-            &mut shelf,
-            &mut source,
-            &mut sink,
-            Vec::new(alloc),
-        );
-        assert_eq!(rt; ended.status(), 5, "{command}");
-        assert_eq!(rt; sink.taken().len(), 0, "{command}");
+        let words = &[command, "F", "M", "received"];
+        expect_fault(&rt, alloc, words, b"A5\n", 7, (Call::Fetch, 0), b"")?;
     }
     Ok(())
 }

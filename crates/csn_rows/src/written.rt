@@ -3,7 +3,7 @@
 ghost use Rattle.std.specs.Prelude.{◌≤◌, length};
 
 use crate::run_in_memory;
-use crate::shown::expect_row;
+use crate::shown::expect_rows;
 use crate::tests::{expect, file, words_of};
 use csn_bits::Bits;
 use csn_catalogue::{entries, root_of, sample_of, text};
@@ -39,13 +39,7 @@ const ROWS: &str = "\
 
 #[test]
 fn rows_of_write_hold(rt: HostRuntime) -> Result<(), Fail> {
-    for row in ROWS.split('\n') {
-        let Some((text, row)) = row.split_once(" @ ") else {
-            return Err("no row".into());
-        };
-        expect_row(&rt, rt.alloc(), text.as_bytes(), row)?;
-    }
-    Ok(())
+    expect_rows(&rt, rt.alloc(), ROWS)
 }
 
 /// A block is shown, and the tree that is shown is written as this block.

@@ -3,10 +3,10 @@ use Rattle.std.proofs.Common.{◌≡◌, ◌≢◌, ℕ, zero, suc, ◌+◌, ◌
 use Rattle.std.specs.Option.{option_map}
 use Rattle.std.proofs.Math.Seq.{take-suc}
 use Rattle.std.proofs.lemmas.Bool.{cases_Bool}
-use Rattle.std.proofs.lemmas.List.{length-drop, map-append}
+use Rattle.std.proofs.lemmas.List.{length-drop, length-set, map-append}
 use Rattle.std.proofs.lemmas.Option.{slice_get_read}
 use Rattle.csn_catalogue.specs.declared.entry.Entry.{Entry}
-use Rattle.csn_catalogue.specs.Entries.{all_entries, entry_root, entry_word}
+use Rattle.csn_catalogue.specs.Entries.{all_entries, entry_place, entry_root, entry_word}
 use Rattle.csn_catalogue.specs.Text.{catalogue_text}
 use Rattle.csn_desc.specs.Nodes.{DescV}
 use Rattle.csn_movetext.specs.declared.form.TreeForm.TheVariants.{Text}
@@ -22,7 +22,7 @@ use Rattle.csn_grammar.specs.RulesV.{RulesV}
 use Rattle.csn_run.specs.Compiled.{AreCompiled, IsCompiled}
 use Rattle.csn_run.specs.declared.lines.Answered.{Answered}
 use Rattle.csn_run.specs.Lines.{is_refusal, is_refused}
-use Rattle.csn_run.specs.OutLine.{CaptureLineBy, ShowsAs, captures_block, captures_fault, no_capture, entry_place}
+use Rattle.csn_run.specs.OutLine.{CaptureLineBy, ShowsAs, captures_block, captures_fault, no_capture}
 use Rattle.csn_run.specs.Replaying.{AreFresh, AreTexts, ReadsCapture, desc_of, taken_at}
 use Rattle.csn_run.proofs.ReplayedLines.{compiled_at, stands_at}
 
@@ -135,6 +135,16 @@ taken_few Missing line place = omega arith
 -- a writer that was read out
 pub writer_at : (writers : List LineV) (place : ℕ) (writer : LineV) → place < length writers → writer ≡ get_or writers place writer → slice_get writers place ≡ Some writer
 writer_at writers place writer within is = slice_get_read writers (length writers) place writer refl within is
+
+-- where one of the seven writers was read out and writes on in the same form, they are seven, and write texts
+pub seven_texts : (writers : List LineV) (place : ℕ) (old new : LineV) → length writers ≡ 7 → place < 7 → old ≡ get_or writers place old → new.form ≡ old.form → AreTexts writers → (length (set writers place new) ≡ 7) × AreTexts (set writers place new)
+seven_texts writers place old new seven within is same are =
+    (length-set writers place new ∙ seven, texts_set writers place new are (same ∙ are place old (writer_at writers place old (omega (arith, within, seven)) is)))
+
+-- where it writes on by the same description, the descriptions are those that they had
+pub same_descs : (writers : List LineV) (place : ℕ) (old new : LineV) → length writers ≡ 7 → place < 7 → old ≡ get_or writers place old → new.desc ≡ old.desc → map desc_of (set writers place new) ≡ map desc_of writers
+same_descs writers place old new seven within is same =
+    descs_set writers place old new (writer_at writers place old (omega (arith, within, seven)) is) same
 
 -- a line begins with one entry
 module _ (tells : HeadsTellCaptures) (line more : List ℕ) (entry : Entry) (head : HeadOf (Block entry) (line ++ more)) where

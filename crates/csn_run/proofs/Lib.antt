@@ -35,3 +35,4 @@ pub mod OldBlocks
 pub mod SoakedBlocks
 mod CertificateTexts
 pub mod VerifyLemmas
+pub mod AlikeTexts

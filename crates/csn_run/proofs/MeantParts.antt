@@ -1,8 +1,6 @@
 -- The trees of a rule, by the rules of a text, have labels that are labels and leaves that are bits.
-use Rattle.std.proofs.Common.{◌≡◌, ℕ, zero, suc, ◌≤◌, Bool, true, false, List, [], ◌∷◌, ◌++◌, length, Option, Some, None, slice_get, refl, subst, ap, arith, length-append}
-use Rattle.std.specs.Prelude.{if◌then◌else◌}
+use Rattle.std.proofs.Common.{◌≡◌, ℕ, zero, suc, ◌≤◌, List, [], ◌∷◌, ◌++◌, length, Option, Some, None, slice_get, refl, subst, ap, arith, length-append}
 use Rattle.std.specs.Option.{option_map, option_or}
-use Rattle.std.specs.List.{find}
 use Rattle.csn_bits.specs.Octets.{most_bits}
 use Rattle.csn_desc.specs.declared.reading.Reading.{Reading}
 use Rattle.csn_desc.specs.TreeParts.{HasTreeParts, AllHaveTreeParts}
@@ -10,7 +8,7 @@ use Rattle.csn_desc.specs.TreeV.{TreeV, Trees, none, more}
 use Rattle.csn_grammar.specs.declared.rules.Rule.{Rule}
 use Rattle.csn_grammar.specs.ExprV.{ExprV, expr, seq, ExprsV, no_item, item, BranchesV}
 use Rattle.csn_grammar.specs.RulesV.{RulesV}
-use Rattle.csn_grammar.specs.Names.{is_built_in, same_name, rule_of}
+use Rattle.csn_grammar.specs.Names.{rule_of}
 use Rattle.csn_grammar.specs.Environment.{Frame, Env}
 use Rattle.csn_grammar.specs.Forms.{WidthV, WindowV, width_of, window_of}
 use Rattle.csn_grammar.specs.TailForm.{EndV, TailV, end_of, last_item, front_items, tail_of_body}
@@ -19,6 +17,7 @@ use Rattle.csn_grammar.specs.Labelled.{IsLabelled, ItemsLabelled, BranchesLabell
 use Rattle.csn_grammar.specs.Laws.{MeaningsAreBits}
 use Rattle.csn_grammar.specs.Strings.{Strings}
 use Rattle.csn_grammar.specs.Meaning.{Means, ItemsMean, TimesMean, ManyMean, LeadMean, RuleMeans, TailMeans, with_turns, means_lits, means_null, means_bit, means_octet, means_field, means_rest, means_spare_bit, means_spare_low, means_padding, means_seq, means_choice, means_only, means_times, means_many, means_cut_all, means_cut, means_window, means_labelled, means_name, means_group, means_received, means_sent, items_end, items_next, times_end, times_next, many_end, many_next, lead_last, lead_next, rule_plain, rule_tail, tail_stop, tail_again}
+use Rattle.csn_grammar.proofs.VoidFacts.{rule_has}
 
 -- ---- the labels of parts
 
@@ -53,26 +52,8 @@ tail_labelled n (expr s e (seq (item x (item y ys)))) tail l p = found (end_of n
         subst P same (l.0, front_labelled y ys l.1.0 l.1.1)
 tail_labelled n x tail l p = absurd (cc)
 
-found_labelled :
-    (rules : RulesV) (n : List ℕ) (rule : Rule)
-    → AreLabelled rules → find (λ r. same_name r.name n) rules ≡ Some rule → IsLabelled rule.body
-found_labelled [] n rule l at = absurd (cc)
-found_labelled (first ∷ rules) n rule l at = here (same_name first.name n) at (found_labelled rules n rule l.1)
-  where
-    here :
-        (b : Bool)
-        → (if b then Some first else find (λ r. same_name r.name n) rules) ≡ Some rule
-        → (find (λ r. same_name r.name n) rules ≡ Some rule → IsLabelled rule.body) → IsLabelled rule.body
-    here true is later =
-        let same : first ≡ rule = cc in let P : Rule → Type 0 = λ z. IsLabelled z.body in subst P same l.0
-    here false is later = later is
-
 rule_labelled : (rules : RulesV) (n : List ℕ) (rule : Rule) → AreLabelled rules → rule_of rules n ≡ Some rule → IsLabelled rule.body
-rule_labelled rules n rule l at = by_name (is_built_in n) at
-  where
-    by_name : (b : Bool) → (if b then None else find (λ r. same_name r.name n) rules) ≡ Some rule → IsLabelled rule.body
-    by_name true is = absurd (cc)
-    by_name false is = found_labelled rules n rule l is
+rule_labelled = rule_has (λ rule. IsLabelled rule.body) AreLabelled (λ first rest l. l)
 
 -- ---- the parts of trees
 

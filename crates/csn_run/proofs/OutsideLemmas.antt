@@ -1,13 +1,14 @@
 -- What a sink took and what a source gave, over several calls.
 use Rattle.std.proofs.Common.{◌≡◌, ℕ, ◌+◌, ◌-◌, ◌<◌, ◌≤◌, inl, subst, List, [], ◌∷◌, ◌++◌, length, take, drop, refl, sym, ◌∙◌, ap, arith, length-drop, Option, Some, None}
 use Rattle.std.proofs.lemmas.List.{append-nil, length-take}
+use Rattle.csn_io.specs.Faults.{Keeps}
 use Rattle.csn_io.specs.Put.{Appended}
 use Rattle.csn_io.specs.Got.{Gave}
 use Rattle.std.specs.Prelude.{Result, Vec}
 use Rattle.std.specs.declared.alloc.Global.{Global}
 use Rattle.csn_io.specs.declared.shelf.ShelfFault.{ShelfFault}
 use Rattle.csn_replay.proofs.Puts.{slice_from, take_more_of}
-use Rattle.csn_run.specs.Outside.{Keeps, LeftByFetch, LeftByFetches}
+use Rattle.csn_run.specs.Outside.{LeftByFetch, LeftByFetches}
 
 -- nothing was taken
 pub Appended-nil : (a : Option (List ℕ)) → Appended a a []

@@ -7,7 +7,7 @@ use Rattle.csn_bits.specs.Fault.{IsLineFault, fault_for}
 use Rattle.csn_bits.specs.declared.fault.BitsFault.{BitsFault}
 use Rattle.csn_bits.specs.declared.fault.LineWhy.{LineWhy}
 use Rattle.csn_catalogue.specs.declared.entry.Entry.{Entry}
-use Rattle.csn_catalogue.specs.Entries.{all_entries, entry_root}
+use Rattle.csn_catalogue.specs.Entries.{all_entries, entry_place, entry_root}
 use Rattle.csn_catalogue.specs.Text.{catalogue_text}
 use Rattle.csn_desc.specs.declared.reading.Reading.{Reading}
 use Rattle.csn_desc.specs.Nodes.{DescV}
@@ -23,7 +23,7 @@ use Rattle.csn_movetext.specs.declared.form.TreeForm.TheVariants.{Text}
 use Rattle.csn_run.specs.Known.{Known}
 use Rattle.csn_run.specs.Compiled.{AreCompiled, IsCompiled}
 use Rattle.csn_run.specs.LineState.{LineState}
-use Rattle.csn_run.specs.OutLine.{ShowsBlock, CaptureLine, captures_block, captures_fault, no_capture, Replays, entry_place, fault_text, seen_of, left_behind, done_behind}
+use Rattle.csn_run.specs.OutLine.{ShowsBlock, CaptureLine, captures_block, captures_fault, no_capture, Replays, fault_text, seen_of, left_behind, done_behind}
 use Rattle.csn_run.proofs.Captures.{capture_or_none, one_capture}
 use Rattle.csn_run.proofs.JoinedLines.{same_state}
 use Rattle.csn_run.proofs.ShownLines.{each_block, one_block, no_block, one_fault}

@@ -372,29 +372,30 @@ not_usage end ends is = no_fault by.0 by.2
     no_fault Memory e = cc
     no_fault TooLong e = cc
 
-pub read_stopped : {words : List (List ℕ)} {files : Option (List ℕ → Option (List ℕ))} {watchers : List Watched} {left left' taken taken' : Option (List ℕ)} {waits : List ℕ} (end : Result Ended Fault) → JobEnds words files watchers left left' taken taken' waits end → end_with end ≡ ReadFault → end ≡ Err Read
-read_stopped end ends is = by.1 ∙ ap Err (is_read by.0 by.2)
-  where
-    by : (fault : Fault) × (end ≡ Err fault) × (end_by fault ≡ ReadFault)
-    by = by_fault end ReadFault ends is ((λ h. cc), (λ h. cc), (λ h. cc), (λ h. cc), (λ h. cc))
+-- the fault that ends a run so
+abbrev fault_of : Ended → Fault
+fault_of ReadFault = Read
+fault_of WriteFault = Write
+fault_of Long = TooLong
+fault_of ended = Memory
 
-    is_read : (fault : Fault) → end_by fault ≡ ReadFault → fault ≡ Read
-    is_read Read e = refl
-    is_read Write e = cc
-    is_read Memory e = cc
-    is_read TooLong e = cc
+fault_back : (fault : Fault) → fault_of (end_by fault) ≡ fault
+fault_back Read = refl
+fault_back Write = refl
+fault_back Memory = refl
+fault_back TooLong = refl
+
+-- a job that ends as a fault ends it met this fault
+stopped_by : {words : List (List ℕ)} {files : Option (List ℕ → Option (List ℕ))} {watchers : List Watched} {left left' taken taken' : Option (List ℕ)} {waits : List ℕ} (end : Result Ended Fault) (fault : Fault) → JobEnds words files watchers left left' taken taken' waits end → end_with end ≡ end_by fault → OnlyBy (end_by fault) → end ≡ Err fault
+stopped_by end fault ends is only =
+    let by : (other : Fault) × (end ≡ Err other) × (end_by other ≡ end_by fault) = by_fault end (end_by fault) ends is only in
+    by.1 ∙ ap Err (sym (fault_back by.0) ∙ ap fault_of by.2 ∙ fault_back fault)
+
+pub read_stopped : {words : List (List ℕ)} {files : Option (List ℕ → Option (List ℕ))} {watchers : List Watched} {left left' taken taken' : Option (List ℕ)} {waits : List ℕ} (end : Result Ended Fault) → JobEnds words files watchers left left' taken taken' waits end → end_with end ≡ ReadFault → end ≡ Err Read
+read_stopped end ends is = stopped_by end Read ends is ((λ h. cc), (λ h. cc), (λ h. cc), (λ h. cc), (λ h. cc))
 
 pub write_stopped : {words : List (List ℕ)} {files : Option (List ℕ → Option (List ℕ))} {watchers : List Watched} {left left' taken taken' : Option (List ℕ)} {waits : List ℕ} (end : Result Ended Fault) → JobEnds words files watchers left left' taken taken' waits end → end_with end ≡ WriteFault → end ≡ Err Write
-write_stopped end ends is = by.1 ∙ ap Err (is_write by.0 by.2)
-  where
-    by : (fault : Fault) × (end ≡ Err fault) × (end_by fault ≡ WriteFault)
-    by = by_fault end WriteFault ends is ((λ h. cc), (λ h. cc), (λ h. cc), (λ h. cc), (λ h. cc))
-
-    is_write : (fault : Fault) → end_by fault ≡ WriteFault → fault ≡ Write
-    is_write Read e = cc
-    is_write Write e = refl
-    is_write Memory e = cc
-    is_write TooLong e = cc
+write_stopped end ends is = stopped_by end Write ends is ((λ h. cc), (λ h. cc), (λ h. cc), (λ h. cc), (λ h. cc))
 
 -- ---- every end is one of these
 

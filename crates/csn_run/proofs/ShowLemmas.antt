@@ -6,7 +6,8 @@ use Rattle.csn_bits.specs.declared.fault.LineWhy.{LineWhy}
 use Rattle.csn_bits.specs.declared.fault.LineWhy.TheVariants.{BadDigit, BadLength, BadFill, TooManyBits}
 use Rattle.csn_desc.specs.Nodes.{DescV}
 use Rattle.csn_movetext.specs.declared.form.TreeForm.{TreeForm}
-use Rattle.csn_movetext.specs.Blocks.{IsNoString, IsTextOfBlock}
+use Rattle.csn_judge.specs.Following.{IsNoString}
+use Rattle.csn_movetext.specs.Blocks.{IsTextOfBlock}
 use Rattle.csn_run.specs.declared.command.RuleCommand.TheVariants.{Show}
 use Rattle.csn_run.specs.Known.{Known}
 use Rattle.csn_run.specs.Lines.{is_refusal}

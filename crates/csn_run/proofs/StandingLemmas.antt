@@ -82,48 +82,45 @@ standing_fits st = omega (arith, st.room_is, st.some_room)
 standing_text : {St : Type 0} {Step : St → List ℕ → List ℕ → St → Type 0} {begin now : St} {left left' taken taken' : Option (List ℕ)} {line waits : List ℕ} {r : Bool} {room : ℕ} (st : Standing Step begin left left' taken taken' line waits now r room) → st.took ≡ st.took ++ waits
 standing_text st = sym (append-nil st.took) ∙ ap (λ l. st.took ++ l) (sym st.none_waits)
 
--- a job stops where a fault of the source gives it no more
-pub stops_read : {St : Type 0} {begin now : St} (Step : St → List ℕ → List ℕ → St → Type 0) (left left' left'' taken taken' : Option (List ℕ)) (line waits : List ℕ) (r : Bool) (room : ℕ) → Standing Step begin left left' taken taken' line waits now r room → left'' ≡ left' → Stops Step begin Read left left'' taken taken' waits
-stops_read {begin = begin} {now = now} Step left left' left'' taken taken' line waits r room st stays = record {
+-- a job stops where it stands, and what it took still stands
+stops_standing : {St : Type 0} {Step : St → List ℕ → List ℕ → St → Type 0} {begin now : St} {fault : Fault} {left left' left'' taken taken' : Option (List ℕ)} {line waits waits' : List ℕ} {r : Bool} {room : ℕ} (st : Standing Step begin left left' taken taken' line waits now r room) → left'' ≡ left' → StopsBy Step begin fault st.given (st.took ++ waits') → Stops Step begin fault left left'' taken taken' waits'
+stops_standing {left = left} st stays by = record {
   given = st.given;
   took = st.took;
   source = subst (λ (o : Option (List ℕ)). Gave left o st.given) (sym stays) st.source;
   few = omega (arith, standing_fits st);
   sink = st.sink;
   keeps_up = stands_keeping_up st;
-  by = (
-    standing_fits st,
-    record {
-      ended = st.advances.ended;
-      line = line;
-      after = now;
-      refused = r;
-      ends = st.advances.ends;
-      answers = subst (λ (t : List ℕ). Answers Step begin st.advances.ended t now r) (standing_text st) (answers_of Step _ _ _ st.advances.adds);
-    },
-  );
+  by = by;
 }
+
+-- a job stops where a fault of the source gives it no more
+pub stops_read : {St : Type 0} {begin now : St} (Step : St → List ℕ → List ℕ → St → Type 0) (left left' left'' taken taken' : Option (List ℕ)) (line waits : List ℕ) (r : Bool) (room : ℕ) → Standing Step begin left left' taken taken' line waits now r room → left'' ≡ left' → Stops Step begin Read left left'' taken taken' waits
+stops_read {begin = begin} {now = now} Step left left' left'' taken taken' line waits r room st stays = stops_standing st stays (
+  standing_fits st,
+  record {
+    ended = st.advances.ended;
+    line = line;
+    after = now;
+    refused = r;
+    ends = st.advances.ends;
+    answers = subst (λ (t : List ℕ). Answers Step begin st.advances.ended t now r) (standing_text st) (answers_of Step _ _ _ st.advances.adds);
+  },
+)
 
 -- a job stops where no memory answers its last line
 pub stops_last : {St : Type 0} {begin now : St} (Step : St → List ℕ → List ℕ → St → Type 0) (left left' left'' taken taken' : Option (List ℕ)) (line waits waits' : List ℕ) (r : Bool) (room : ℕ) → Standing Step begin left left' taken taken' line waits now r room → left'' ≡ left' → waits' ≡ waits → Stops Step begin Memory left left'' taken taken' waits'
-stops_last {begin = begin} {now = now} Step left left' left'' taken taken' line waits waits' r room st stays same = record {
-  given = st.given;
-  took = st.took;
-  source = subst (λ (o : Option (List ℕ)). Gave left o st.given) (sym stays) st.source;
-  few = omega (arith, standing_fits st);
-  sink = st.sink;
-  keeps_up = stands_keeping_up st;
-  by = subst (λ (l : List ℕ). StopsWithin Step begin l (st.took ++ waits')) (sym (take_all MOST_INPUT st.given (standing_fits st))) (record {
-    ended = st.advances.ended;
-    whole_text = st.took;
-    after = now;
-    rest = [];
-    refused = r;
-    begins = λ more. (between_feeds (line ++ more), st.advances.ends.whole more);
-    answers = answers_of Step _ _ _ st.advances.adds;
-    text_begins = sym (append-nil st.took) ∙ ap (λ l. st.took ++ l) (sym (same ∙ st.none_waits)) ∙ sym (append-nil (st.took ++ waits'));
-  });
-}
+stops_last {begin = begin} {now = now} Step left left' left'' taken taken' line waits waits' r room st stays same =
+    stops_standing st stays (subst (λ (l : List ℕ). StopsWithin Step begin l (st.took ++ waits')) (sym (take_all MOST_INPUT st.given (standing_fits st))) (record {
+      ended = st.advances.ended;
+      whole_text = st.took;
+      after = now;
+      rest = [];
+      refused = r;
+      begins = λ more. (between_feeds (line ++ more), st.advances.ends.whole more);
+      answers = answers_of Step _ _ _ st.advances.adds;
+      text_begins = sym (append-nil st.took) ∙ ap (λ l. st.took ++ l) (sym (same ∙ st.none_waits)) ∙ sym (append-nil (st.took ++ waits'));
+    }))
 
 -- the last line is answered too, and what closes the input stands behind it
 pub answers_last : {St : Type 0} {begin now : St} (Step : St → List ℕ → List ℕ → St → Type 0) (closing : St → List ℕ) (left left' left'' taken taken' : Option (List ℕ)) (line waits waits' : List ℕ) (r t : Bool) (room : ℕ) → Standing Step begin left left' taken taken' line waits now r room → NothingLeft left' → left'' ≡ left' → Closes Step closing now line waits waits' r t → AnswersAll Step closing begin left left'' taken taken' waits' t

@@ -8,7 +8,7 @@ use Rattle.csn_bits.specs.Fault.{IsLineFault}
 use Rattle.csn_bits.specs.declared.fault.BitsFault.{BitsFault}
 use Rattle.csn_bits.specs.declared.fault.BitsFault.TheVariants.{BadDigit, BadLength, BadFill, TooManyBits, NoMemory}
 use Rattle.csn_catalogue.specs.declared.entry.Entry.{Entry}
-use Rattle.csn_catalogue.specs.declared.entry.Entry.TheVariants.{Uplink, Downlink, Si1, Si3, Si4, Si13, Ia}
+use Rattle.csn_catalogue.specs.declared.entry.Entry.TheVariants.{Downlink}
 use Rattle.csn_catalogue.specs.Entries.{all_entries, entry_root}
 use Rattle.csn_desc.specs.declared.reading.Reading.{Reading}
 use Rattle.csn_desc.specs.Nodes.{DescV}
@@ -212,16 +212,6 @@ abbrev pub Joins : DescV → Kept → List ℕ → List ℕ → Kept → Type 0
 Joins d kept line text kept' =
     (answer : List ℕ) × JoinsLine d kept.bodies line answer kept'.bodies × (text ≡ answer ++ LINE_FEED ∷ [])
     × (kept'.watchers ≡ kept.watchers)
-
--- where an entry stands among all entries
-abbrev pub entry_place : Entry → ℕ
-entry_place Uplink = 0
-entry_place Downlink = 1
-entry_place Si1 = 2
-entry_place Si3 = 3
-entry_place Si4 = 4
-entry_place Si13 = 5
-entry_place Ia = 6
 
 -- a block of an entry as watchers are shown it: it is a string of the entry where its answer is no refusal
 abbrev pub seen_of : Entry → List ℕ → List ℕ → Seen

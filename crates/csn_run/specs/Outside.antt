@@ -1,16 +1,9 @@
 -- What the top call tells of the outside. (This project's own choice.)
-use Rattle.std.specs.Prelude.{◌≡◌, ◌≤◌, ◌⊎◌, ℕ, List, [], ◌∷◌, Option, Some, Result, Vec}
+use Rattle.std.specs.Prelude.{◌≡◌, ◌⊎◌, ℕ, List, [], ◌∷◌, Option, Some, Result, Vec}
 use Rattle.std.specs.declared.alloc.Global.{Global}
 use Rattle.csn_io.specs.Faults.{Rose}
 use Rattle.csn_io.specs.ShelfFault.{LacksFile}
 use Rattle.csn_io.specs.declared.shelf.ShelfFault.{ShelfFault}
-
--- what holds of an object of the outside over any calls, where `before` and `after` are its counts of faults: the count
--- does not fall; where no call fails any more that stays so, and the count stands still; and it stands still where the
--- object is not to blame
-abbrev pub Keeps : Type 0 → Type 0 → ℕ → ℕ → Type 0 → Type 0
-Keeps was_steady is_steady before after to_blame =
-    (before ≤ after) × (was_steady → is_steady × (after ≡ before)) × ((to_blame → ⊥) → after ≡ before)
 
 -- why a file cannot be read: the shelf met a fault, and has its name as that of the last one, or the
 -- shelf tells its files and does not hold it

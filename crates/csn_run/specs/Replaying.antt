@@ -2,12 +2,12 @@
 use Rattle.std.specs.Prelude.{◌≡◌, ℕ, ◌==◌, if◌then◌else◌, List, [], Some, slice_get}
 use Rattle.csn_desc.specs.Nodes.{DescV}
 use Rattle.csn_catalogue.specs.declared.entry.Entry.{Entry}
+use Rattle.csn_catalogue.specs.Entries.{entry_place}
 use Rattle.csn_movetext.specs.declared.form.TreeForm.TheVariants.{Text}
 use Rattle.csn_movetext.specs.Lines.{LineV, ReadsLine}
 use Rattle.csn_replay.specs.declared.head.CaptureHead.{CaptureHead}
 use Rattle.csn_replay.specs.declared.head.CaptureHead.TheVariants.{Word, Block, Missing}
 use Rattle.csn_replay.specs.Head.{HeadOf, block_so_far}
-use Rattle.csn_run.specs.OutLine.{entry_place}
 
 abbrev pub desc_of : LineV → DescV
 desc_of writer = writer.desc

@@ -2,9 +2,10 @@
 
 ghost use Rattle.std.specs.Prelude.{◌≡◌, ◌+◌, ◌<◌, ◌≤◌, ◌++◌, [], List, ℕ, length, map, not, IfOk, OnOk, OnErr};
 ghost use Rattle.std.specs.Option.{option_map};
+ghost use Rattle.csn_catalogue.specs.Entries.{entry_place};
 ghost use Rattle.csn_run.specs.declared.lines.TheConstants.{MOST_INPUT};
 ghost use Rattle.csn_run.specs.Lines.{is_refusal, is_refused};
-ghost use Rattle.csn_run.specs.OutLine.{CaptureLineBy, entry_place};
+ghost use Rattle.csn_run.specs.OutLine.{CaptureLineBy};
 ghost use Rattle.csn_run.specs.Replaying.{AreFresh, AreTexts, ReadsCapture, desc_of};
 
 use crate::lines::Answered;

@@ -1,6 +1,7 @@
 //! Whether a new description takes the blocks of an old one.
 
 ghost use Rattle.std.specs.Prelude.{◌≡◌, ◌≢◌, ◌⊎◌, ◌≤◌, ◌++◌, ◌∷◌, [], List, ℕ, Err, IfOk, IfErr, Option, length};
+ghost use Rattle.csn_io.specs.Faults.{Keeps};
 ghost use Rattle.csn_io.specs.ShelfFault.{LacksFile};
 ghost use Rattle.csn_replay.specs.Watched.{Watched};
 ghost use Rattle.csn_run.specs.declared.compile.TheConstants.{MOST_DESCRIPTION};
@@ -8,7 +9,7 @@ ghost use Rattle.csn_run.specs.declared.lines.TheConstants.{LINE_FEED};
 ghost use Rattle.csn_run.specs.Command.{IsRowOf};
 ghost use Rattle.csn_run.specs.Compiled.{Compares};
 ghost use Rattle.csn_run.specs.Job.{ComesTo, IsDescription, JobEnds};
-ghost use Rattle.csn_run.specs.Outside.{CannotRead, Keeps, LeftByFetches};
+ghost use Rattle.csn_run.specs.Outside.{CannotRead, LeftByFetches};
 ghost use Rattle.csn_run.specs.Planned.{ComparesTexts, IsLongPair};
 
 use crate::command::{Command, PairWords};

@@ -5,7 +5,7 @@ ghost use Rattle.csn_desc.specs.declared.reading.Reading.{Reading};
 ghost use Rattle.csn_grammar.specs.Place.{HasRules};
 ghost use Rattle.csn_grammar.specs.RulesV.{RulesV};
 ghost use Rattle.csn_resolve.specs.Resolved.{IsResolved};
-ghost use Rattle.csn_run.specs.Compiled.{IsCompiled, IsReason, Tells, certified_line, conflict_line, digits_of};
+ghost use Rattle.csn_run.specs.Compiled.{IsCompiled, IsCompiledBy, IsReason, IsReasonBy, Tells, certified_line, conflict_line, digits_of};
 
 use crate::answers::push_numbers;
 use crate::ended::Ended;
@@ -32,8 +32,11 @@ pub enum NoPlan {
     Plan(CertifyFault),
 }
 
+/// What is made of a text, or why its rule has no plan.
+pub type Compiled<T> = Result<T, NoPlan>;
+
 /// The rules of a text.
-pub fn rules_of(alloc: Global, text: &[u8]) -> Result<Rules, NoPlan>
+pub fn rules_of(alloc: Global, text: &[u8]) -> Compiled<Rules>
     requires fits { length text.now ≤ MOST_DESCRIPTION }
     ensures rules { IfOk result (HasRules text.now) }
     ensures none { IfErr result (λ reason. (name : List ℕ) (reading : Reading) → IsReason text.now name reading reason) }
@@ -46,11 +49,9 @@ pub fn rules_of(alloc: Global, text: &[u8]) -> Result<Rules, NoPlan>
 }
 
 /// The certified description of a named rule among these.
-fn certified(alloc: Global, rules: &Rules, name: &[u8], reading: Reading) -> Result<Plan, NoPlan>
-    ensures plan { IfOk result (λ plan. (text : List ℕ) → HasRules text rules.now
-        → IsCompiled text name.now reading rules.now plan) }
-    ensures none { IfErr result (λ reason. (text : List ℕ) → HasRules text rules.now
-        → IsReason text name.now reading reason) }
+fn certified(alloc: Global, rules: &Rules, name: &[u8], reading: Reading) -> Compiled<Plan>
+    ensures plan { IfOk result (IsCompiledBy rules.now name.now reading) }
+    ensures none { IfErr result (IsReasonBy rules.now name.now reading) }
 {
     let desc = match resolve(alloc, rules, name, reading) {
         Ok(desc) => desc,
@@ -63,21 +64,11 @@ fn certified(alloc: Global, rules: &Rules, name: &[u8], reading: Reading) -> Res
 }
 
 /// The plan of a named rule among these, with the openings of its nodes.
-pub fn plan_by(
-    alloc: Global,
-    rules: &Rules,
-    name: &[u8],
-    reading: Reading,
-) -> Result<TextPlan, NoPlan>
-    ensures plan { IfOk result (λ plan. (text : List ℕ) → HasRules text rules.now
-        → IsCompiled text name.now reading rules.now plan) }
-    ensures none { IfErr result (λ reason. (text : List ℕ) → HasRules text rules.now
-        → IsReason text name.now reading reason) }
+pub fn plan_by(alloc: Global, rules: &Rules, name: &[u8], reading: Reading) -> Compiled<TextPlan>
+    ensures plan { IfOk result (IsCompiledBy rules.now name.now reading) }
+    ensures none { IfErr result (IsReasonBy rules.now name.now reading) }
 {
-    let plan = match certified(alloc, rules, name, reading) {
-        Ok(plan) => plan,
-        Err(reason) => return Err(reason),
-    };
+    let plan = certified(alloc, rules, name, reading)?;
     match TextPlan::new(alloc, plan) {
         Ok(made) => Ok(made),
         Err(_) => Err(NoPlan::Plan(CertifyFault::NoMemory)),
@@ -85,38 +76,23 @@ pub fn plan_by(
 }
 
 /// The plan of a named rule of a text, with the openings of its nodes.
-pub fn compile(
-    alloc: Global,
-    text: &[u8],
-    name: &[u8],
-    reading: Reading,
-) -> Result<TextPlan, NoPlan>
+pub fn compile(alloc: Global, text: &[u8], name: &[u8], reading: Reading) -> Compiled<TextPlan>
     requires fits { length text.now ≤ MOST_DESCRIPTION }
     ensures plan { IfOk result (λ plan. (rules : RulesV) × IsCompiled text.now name.now reading rules plan) }
     ensures none { IfErr result (IsReason text.now name.now reading) }
 {
-    match rules_of(alloc, text) {
-        Ok(rules) => plan_by(alloc, &rules, name, reading),
-        Err(reason) => Err(reason),
-    }
+    let rules = rules_of(alloc, text)?;
+    plan_by(alloc, &rules, name, reading)
 }
 
 /// The description of a named rule of a text, which need not be certified.
-pub fn described_text(
-    alloc: Global,
-    text: &[u8],
-    name: &[u8],
-    reading: Reading,
-) -> Result<Desc, NoPlan>
+pub fn described_text(alloc: Global, text: &[u8], name: &[u8], reading: Reading) -> Compiled<Desc>
     requires fits { length text.now ≤ MOST_DESCRIPTION }
     ensures desc { IfOk result (λ desc. (rules : RulesV) × HasRules text.now rules × IsResolved rules name.now reading desc) }
     ensures none { IfErr result (IsReason text.now name.now reading) }
     ensures no_conflict { (fault : CertifyFault) → result ≢ Err (NoPlan.Plan fault) }
 {
-    let rules = match rules_of(alloc, text) {
-        Ok(rules) => rules,
-        Err(reason) => return Err(reason),
-    };
+    let rules = rules_of(alloc, text)?;
     match resolve(alloc, &rules, name, reading) {
         Ok(desc) => Ok(desc),
         Err(fault) => Err(NoPlan::Description(fault)),
@@ -124,25 +100,15 @@ pub fn described_text(
 }
 
 /// The certified description of a named rule of a text.
-pub fn certified_text(
-    alloc: Global,
-    text: &[u8],
-    name: &[u8],
-    reading: Reading,
-) -> Result<Desc, NoPlan>
+pub fn certified_text(alloc: Global, text: &[u8], name: &[u8], reading: Reading) -> Compiled<Desc>
     requires fits { length text.now ≤ MOST_DESCRIPTION }
     ensures desc { IfOk result (λ desc. (rules : RulesV) × IsCompiled text.now name.now reading rules desc) }
     ensures reading { IfOk result (λ desc. desc.reading ≡ reading) }
     ensures none { IfErr result (IsReason text.now name.now reading) }
 {
-    let rules = match rules_of(alloc, text) {
-        Ok(rules) => rules,
-        Err(reason) => return Err(reason),
-    };
-    match certified(alloc, &rules, name, reading) {
-        Ok(plan) => Ok(plan.into_desc()),
-        Err(reason) => Err(reason),
-    }
+    let rules = rules_of(alloc, text)?;
+    let plan = certified(alloc, &rules, name, reading)?;
+    Ok(plan.into_desc())
 }
 
 /// Writes a space, and the bits of a word as digits.

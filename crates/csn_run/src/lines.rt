@@ -1,12 +1,11 @@
 //! The lines of an input, each answered as soon as its line feed was taken.
 
 ghost use Rattle.std.specs.Prelude.{◌≡◌, ◌≤◌, ◌<◌, ◌+◌, ◌⊎◌, ◌||◌, [], ◌∷◌, ◌++◌, List, ℕ, Bool, length, take, false, OnOk, OnErr, IfOk, IfErr, IfNone, IfSome};
-ghost use Rattle.csn_io.specs.Faults.{Rose};
+ghost use Rattle.csn_io.specs.Faults.{Keeps, Rose};
 ghost use Rattle.csn_io.specs.Got.{IfBytes, OnEnd, OnFailed, UnlessBytes, Gave, NothingLeft};
 ghost use Rattle.csn_io.specs.Put.{Appended};
 ghost use Rattle.csn_run.specs.declared.lines.TheConstants.{LINE_FEED, MOST_INPUT, PIECE};
 ghost use Rattle.csn_run.specs.Lines.{HasNoFeed, without_return, is_refusal, is_refused};
-ghost use Rattle.csn_run.specs.Outside.{Keeps};
 ghost use Rattle.csn_run.specs.Reading.{AtLine, IsFresh, return_of};
 ghost use Rattle.csn_run.specs.Progress.{AddsAnswers, Advances, Closes, Halts, PassesOn, HaltsAt, AnswersAll, Stops};
 ghost use Rattle.csn_run.specs.LineState.{closing_of};
@@ -39,6 +38,9 @@ pub enum Answered {
     Refused,
 }
 
+/// What a line was given, where there was memory for it.
+pub type LineResult = Result<Answered, AllocError>;
+
 /// A command that takes each line of the input as it comes, and answers it at its line feed. The answer may depend on the
 /// lines before it.
 pub trait LineCommand {
@@ -62,7 +64,7 @@ pub trait LineCommand {
         ensures kept { kept self.new ≡ kept self.old };
 
     /// Writes what the line gives, with its line feed, and stands at the next line.
-    fn answer(&mut self, alloc: Global, out: &mut Vec<u8>) -> Result<Answered, AllocError>
+    fn answer(&mut self, alloc: Global, out: &mut Vec<u8>) -> LineResult
         requires { (line : List ℕ) × reads self.old line × (0 < length line) × (length line ≤ MOST_INPUT) }
         ensures ok { IfOk result (λ answered. (line : List ℕ) → reads self.old line → 0 < length line → (text : List ℕ)
             × (out.new.items ≡ out.old.items ++ text) × Works (work self.old) (kept self.old) line text (kept self.new)

@@ -1,9 +1,8 @@
 //! Text on its way to the sink.
 
 ghost use Rattle.std.specs.Prelude.{◌≡◌, ◌≢◌, ◌≤◌, ◌⊎◌, ◌++◌, List, ℕ, [], OnOk, IfErr};
-ghost use Rattle.csn_io.specs.Faults.{Rose};
+ghost use Rattle.csn_io.specs.Faults.{Keeps, Rose};
 ghost use Rattle.csn_io.specs.Put.{Appended, FlushedAll};
-ghost use Rattle.csn_run.specs.Outside.{Keeps};
 
 use crate::fault::Fault;
 use csn_io::{Put, Sink};

@@ -1,9 +1,11 @@
 //! From the words that name a rule to its plan, or to the line that says why there is none.
 
 ghost use Rattle.std.specs.Prelude.{◌≡◌, ◌≢◌, ◌⊎◌, ◌+◌, ◌<◌, ◌≤◌, ◌++◌, ◌∷◌, [], List, ℕ, Err, IfOk, IfErr, OnOk, length, map};
+ghost use Rattle.csn_io.specs.Faults.{Keeps};
 ghost use Rattle.csn_io.specs.ShelfFault.{BeginsFile, LacksFile};
 ghost use Rattle.csn_run.specs.declared.compile.TheConstants.{MOST_DESCRIPTION};
 ghost use Rattle.csn_run.specs.declared.lines.TheConstants.{LINE_FEED};
+ghost use Rattle.csn_run.specs.declared.planned.Unplanned.TheVariants.{File, Text};
 ghost use Rattle.std.specs.List.{AllByRecursion};
 ghost use Rattle.csn_catalogue.specs.declared.entry.Entry.{Entry};
 ghost use Rattle.csn_catalogue.specs.Entries.{all_entries, entry_root};
@@ -12,7 +14,7 @@ ghost use Rattle.csn_grammar.specs.Place.{HasRules};
 ghost use Rattle.csn_grammar.specs.RulesV.{RulesV};
 ghost use Rattle.csn_run.specs.Compiled.{AreCompiled, IsCompiled, IsReason, Tells, rule_of_entry};
 ghost use Rattle.csn_run.specs.Job.{IsDescription, IsLonger, IsWhole};
-ghost use Rattle.csn_run.specs.Outside.{CannotRead, Keeps, LeftByFetch};
+ghost use Rattle.csn_run.specs.Outside.{CannotRead, LeftByFetch};
 ghost use Rattle.csn_run.specs.Planned.{IsPlanned, IsWhy, Refuses};
 ghost use Rattle.csn_run.specs.Result.{HasJob};
 
@@ -36,6 +38,22 @@ pub enum Unplanned {
     File(Fault),
     /// Its text gives the rule none.
     Text(NoPlan),
+}
+
+impl From<Fault> for Unplanned {
+    ghost from_gives = { λ fault why. why ≡ File fault };
+
+    fn from(fault: Fault) -> Unplanned {
+        Unplanned::File(fault)
+    }
+}
+
+impl From<NoPlan> for Unplanned {
+    ghost from_gives = { λ reason why. why ≡ Text reason };
+
+    fn from(reason: NoPlan) -> Unplanned {
+        Unplanned::Text(reason)
+    }
 }
 
 /// Fetches a file that may have so many bytes.
@@ -96,14 +114,8 @@ pub fn plan_of<B: Shelf>(
     ensures fetched { LeftByFetch (B.fetch_gives shelf.old rule.entry.file.now) shelf.new }
     ensures shelf { Keeps (B.steady shelf.old) (B.steady shelf.new) (B.faults shelf.old) (B.faults shelf.new) (result ≡ Err (Unplanned.File Fault.Read)) }
 {
-    let text = match description(alloc, shelf, rule.file) {
-        Ok(text) => text,
-        Err(fault) => return Err(Unplanned::File(fault)),
-    };
-    match compile(alloc, &text, rule.name.as_bytes(), rule.reading) {
-        Ok(plan) => Ok(plan),
-        Err(reason) => Err(Unplanned::Text(reason)),
-    }
+    let text = description(alloc, shelf, rule.file)?;
+    Ok(compile(alloc, &text, rule.name.as_bytes(), rule.reading)?)
 }
 
 /// The plan of the rule of the catalogue that describes the blocks of an entry.

@@ -5,7 +5,7 @@ ghost use Rattle.csn_run.specs.OutLine.{replaying_by};
 ghost use Rattle.csn_run.specs.Replaying.{ReadsCapture, desc_of};
 
 use crate::capture_text::CaptureText;
-use crate::lines::{Answered, LINE_FEED, LineCommand};
+use crate::lines::{LINE_FEED, LineCommand, LineResult};
 use csn_io::MemSink;
 use csn_replay::{Told, Watcher, close, tell};
 use std::alloc::{AllocError, Global};
@@ -34,7 +34,7 @@ impl LineCommand for Replay<'_> {
         Ok(())
     }
 
-    fn answer(&mut self, alloc: Global, out: &mut Vec<u8>) -> Result<Answered, AllocError> {
+    fn answer(&mut self, alloc: Global, out: &mut Vec<u8>) -> LineResult {
         let (answered, seen) = self.text.answer(out)?;
         out.push(LINE_FEED)?;
         let Some(seen) = seen else {

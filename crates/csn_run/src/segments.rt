@@ -6,7 +6,7 @@ ghost use Rattle.csn_run.specs.Lines.{is_refusal, is_refused};
 ghost use Rattle.csn_run.specs.OutLine.{AnswersJoinedBy, JoinsLine, joining, segment_fault};
 
 use crate::answers::push_number;
-use crate::lines::Answered;
+use crate::lines::{Answered, LineResult};
 use crate::show::{answer_fault, show_block};
 use crate::text_plan::TextPlan;
 use crate::whole_lines::WholeLineCommand;
@@ -39,12 +39,7 @@ fn fault_number(why: SegmentWhy) -> u32
 }
 
 /// Answers a block by what the joiner gives for it.
-fn answer_joined(
-    alloc: Global,
-    plan: &TextPlan,
-    joined: &Joined,
-    out: &mut Vec<u8>,
-) -> Result<Answered, AllocError>
+fn answer_joined(alloc: Global, plan: &TextPlan, joined: &Joined, out: &mut Vec<u8>) -> LineResult
     ensures ok { IfOk result (λ answered. (answer : List ℕ) × (out.new.items ≡ out.old.items ++ answer)
         × AnswersJoinedBy plan.now joined.now answer × (is_refused answered ≡ is_refusal answer)) }
     ensures err { OnErr result ((tail : List ℕ) × (out.new.items ≡ out.old.items ++ tail)) }
@@ -77,7 +72,7 @@ fn segments_line(
     plan: &TextPlan,
     line: &[u8],
     out: &mut Vec<u8>,
-) -> Result<Answered, AllocError>
+) -> LineResult
     requires fits { length line.now ≤ MOST_INPUT }
     ensures ok { IfOk result (λ answered. (answer : List ℕ) × (out.new.items ≡ out.old.items ++ answer)
         × JoinsLine plan.now joiner.old line.now answer joiner.new × (is_refused answered ≡ is_refusal answer)) }
@@ -103,12 +98,7 @@ impl WholeLineCommand for Segments<'_> {
 
     ghost kept = { λ s. record { bodies = s.joiner; watchers = [] } };
 
-    fn answer(
-        &mut self,
-        alloc: Global,
-        line: &[u8],
-        out: &mut Vec<u8>,
-    ) -> Result<Answered, AllocError> {
+    fn answer(&mut self, alloc: Global, line: &[u8], out: &mut Vec<u8>) -> LineResult {
         segments_line(alloc, &mut self.joiner, self.plan, line, out)
     }
 

@@ -9,7 +9,7 @@ ghost use Rattle.csn_run.specs.OutLine.{ShowsAs, ShowsBlockBy, by_plan, fault_te
 
 use crate::answers::push_number;
 use crate::laws::known;
-use crate::lines::{Answered, LINE_FEED, LineCommand};
+use crate::lines::{Answered, LINE_FEED, LineCommand, LineResult};
 use crate::text_plan::TextPlan;
 use csn_bits::{Bits, BitsFault};
 use csn_movetext::{BlockFault, LineEnd, LineText, TreeForm};
@@ -61,12 +61,7 @@ pub(crate) fn answer_fault(fault: BitsFault, out: &mut Vec<u8>) -> Result<(), Al
 
 /// Answers a block by its tree in a form, which is written behind `ok ` as the block is judged, and cut back where the
 /// block is refused.
-pub fn show_block(
-    plan: &TextPlan,
-    form: TreeForm,
-    bits: &Bits,
-    out: &mut Vec<u8>,
-) -> Result<Answered, AllocError>
+pub fn show_block(plan: &TextPlan, form: TreeForm, bits: &Bits, out: &mut Vec<u8>) -> LineResult
     ensures ok { IfOk result (λ answered. (answer : List ℕ) × (out.new.items ≡ out.old.items ++ answer)
         × ShowsBlockBy form plan.now bits.now answer × (is_refused answered ≡ is_refusal answer)) }
     ensures err { OnErr result ((tail : List ℕ) × (out.new.items ≡ out.old.items ++ tail)) }
@@ -145,7 +140,7 @@ impl LineCommand for ShowLines<'_> {
         Ok(())
     }
 
-    fn answer(&mut self, _alloc: Global, out: &mut Vec<u8>) -> Result<Answered, AllocError> {
+    fn answer(&mut self, _alloc: Global, out: &mut Vec<u8>) -> LineResult {
         let (answered, _) = answer_line(&mut self.text, out)?;
         out.push(LINE_FEED)?;
         Ok(answered)

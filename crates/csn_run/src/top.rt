@@ -1,6 +1,6 @@
 ghost use Rattle.std.specs.Prelude.{◌≡◌, ◌≢◌, ◌↔◌, ◌⊎◌, ◌+◌, ◌<◌, ◌≤◌, ◌++◌, [], List, ℕ, Option, Some, false, length, map, vec_len, Err, Ok, IfOk, IfErr, OnOk, ◌∷◌};
 ghost use Rattle.std.specs.String.{string_bytes};
-ghost use Rattle.csn_io.specs.Faults.{Rose};
+ghost use Rattle.csn_io.specs.Faults.{Keeps, Rose};
 ghost use Rattle.csn_io.specs.Got.{NothingLeft};
 ghost use Rattle.csn_io.specs.Put.{Appended, FlushedAll};
 ghost use Rattle.csn_io.specs.ShelfFault.{LacksFile};
@@ -11,7 +11,7 @@ ghost use Rattle.csn_run.specs.Progress.{AnswersAll, Stops};
 ghost use Rattle.csn_run.specs.Reading.{IsFresh};
 ghost use Rattle.csn_run.specs.LineState.{closing_of, nothing_kept};
 ghost use Rattle.csn_run.specs.OutLine.{Works, by_plan};
-ghost use Rattle.csn_run.specs.Outside.{CannotRead, Keeps, LeftByFetch, LeftByFetches};
+ghost use Rattle.csn_run.specs.Outside.{CannotRead, LeftByFetch, LeftByFetches};
 ghost use Rattle.csn_run.specs.Job.{Asked, ComesTo, JobEnds, end_with};
 ghost use Rattle.csn_run.specs.Result.{AnswersPromptly, BeginsResult, EndsBefore, IsFinished, IsStopped, LineJob, OldBlocksStay, Result, RulesHaveOneTree, StopsReading, end_of};
 

@@ -3,6 +3,7 @@
 ghost use Rattle.std.specs.Prelude.{◌≡◌, ◌≢◌, ◌⊎◌, ◌≤◌, ◌++◌, ◌∷◌, [], List, ℕ, Err, IfOk, IfErr, Option, length};
 ghost use Rattle.csn_certify.specs.declared.certifying.CertifyFault.{CertifyFault};
 ghost use Rattle.csn_desc.specs.Nodes.{DescV};
+ghost use Rattle.csn_io.specs.Faults.{Keeps};
 ghost use Rattle.csn_io.specs.ShelfFault.{LacksFile};
 ghost use Rattle.csn_replay.specs.Watched.{Watched};
 ghost use Rattle.csn_run.specs.declared.compile.NoPlan.TheVariants.{Plan};
@@ -11,7 +12,7 @@ ghost use Rattle.csn_run.specs.declared.verifying.TheConstants.{MOST_CERTIFICATE
 ghost use Rattle.csn_run.specs.Command.{IsVerify};
 ghost use Rattle.csn_run.specs.Compiled.{Verifies};
 ghost use Rattle.csn_run.specs.Job.{ComesTo, JobEnds};
-ghost use Rattle.csn_run.specs.Outside.{CannotRead, Keeps, LeftByFetch, LeftByFetches};
+ghost use Rattle.csn_run.specs.Outside.{CannotRead, LeftByFetch, LeftByFetches};
 ghost use Rattle.csn_run.specs.Planned.{HasDescription, IsChecked, IsWhy, TellsChecked};
 
 use crate::answers::push_numbers;
@@ -44,14 +45,8 @@ fn described<B: Shelf>(alloc: Global, shelf: &mut B, rule: RuleWords<'_>) -> Res
     ensures files { B.files shelf.new ≡ B.files shelf.old }
     ensures shelf { Keeps (B.steady shelf.old) (B.steady shelf.new) (B.faults shelf.old) (B.faults shelf.new) (result ≡ Err (Unplanned.File Fault.Read)) }
 {
-    let text = match description(alloc, shelf, rule.file) {
-        Ok(text) => text,
-        Err(fault) => return Err(Unplanned::File(fault)),
-    };
-    match described_text(alloc, &text, rule.name.as_bytes(), rule.reading) {
-        Ok(desc) => Ok(desc),
-        Err(reason) => Err(Unplanned::Text(reason)),
-    }
+    let text = description(alloc, shelf, rule.file)?;
+    Ok(described_text(alloc, &text, rule.name.as_bytes(), rule.reading)?)
 }
 
 /// What the text of a certificate comes to.

@@ -6,7 +6,7 @@ ghost use Rattle.csn_run.specs.Lines.{is_refusal, is_refused};
 ghost use Rattle.csn_run.specs.LineState.{closing_of};
 ghost use Rattle.csn_run.specs.OutLine.{Works};
 
-use crate::lines::{Answered, LINE_FEED, LineCommand};
+use crate::lines::{LINE_FEED, LineCommand, LineResult};
 use std::alloc::{AllocError, Global};
 
 /// A command that answers each line of the input as a whole. The answer may depend on the lines before it.
@@ -21,12 +21,7 @@ pub trait WholeLineCommand {
     ghost kept: { Self → Kept };
 
     /// Writes what a line gives, without its line feed.
-    fn answer(
-        &mut self,
-        alloc: Global,
-        line: &[u8],
-        out: &mut Vec<u8>,
-    ) -> Result<Answered, AllocError>
+    fn answer(&mut self, alloc: Global, line: &[u8], out: &mut Vec<u8>) -> LineResult
         requires some { 0 < length line.now }
         requires fits { length line.now ≤ MOST_INPUT }
         ensures ok { IfOk result (λ answered. (answer : List ℕ) × (out.new.items ≡ out.old.items ++ answer)
@@ -72,7 +67,7 @@ impl<C: WholeLineCommand> LineCommand for WholeLines<C> {
     }
 
     /// The line is forgotten, but its memory is kept for the next one.
-    fn answer(&mut self, alloc: Global, out: &mut Vec<u8>) -> Result<Answered, AllocError> {
+    fn answer(&mut self, alloc: Global, out: &mut Vec<u8>) -> LineResult {
         let answered = self.command.answer(alloc, &self.line, out)?;
         out.push(LINE_FEED)?;
         self.line.clear();

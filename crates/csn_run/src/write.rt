@@ -1,9 +1,13 @@
 //! Lines of `write` and `unjson`: a tree in, its block or its first misfit out.
 
-ghost use Rattle.std.specs.Prelude.{◌≡◌, ◌<◌, ◌≤◌, ◌++◌, ◌∷◌, [], List, ℕ, codes, length, IfOk, IfErr, OnOk, OnErr};
+ghost use Rattle.std.specs.Prelude.{◌≡◌, ◌<◌, ◌≤◌, ◌++◌, ◌∷◌, [], List, ℕ, codes, length, IfOk, IfErr, IfSome, OnOk, OnErr};
 ghost use Rattle.csn_bits.specs.Line.{written};
 ghost use Rattle.csn_encode.specs.declared.misfit.Misfit.{Misfit};
+ghost use Rattle.csn_desc.specs.TreeV.{TreeV};
 ghost use Rattle.csn_encode.specs.Encoding.{IsBlockOf, IsFaultOf};
+ghost use Rattle.csn_movetext.specs.declared.form.TreeForm.TheVariants.{Text};
+ghost use Rattle.csn_treetext.specs.declared.version.Version.TheVariants.{Second};
+ghost use Rattle.csn_treetext.specs.Text.{text_of};
 ghost use Rattle.csn_run.specs.declared.command.RuleCommand.{RuleCommand};
 ghost use Rattle.csn_run.specs.declared.lines.TheConstants.{MOST_INPUT};
 ghost use Rattle.csn_run.specs.Compiled.{line_of};
@@ -13,12 +17,12 @@ ghost use Rattle.csn_run.specs.OutLine.{AnswersBy, Reads, TellsJsonFault, by_pla
 
 use crate::answers::{answer_text_fault, push_number, push_numbers};
 use crate::laws::known;
-use crate::lines::Answered;
+use crate::lines::{Answered, LineResult};
 use crate::whole_lines::WholeLineCommand;
 use csn_bits::Bits;
 use csn_certify::{Plan, Steps};
 use csn_desc::Tree;
-use csn_encode::{EncodeFault, Misfit, MisfitWhy, Path, encode};
+use csn_encode::{EncodeFault, Misfit, MisfitWhy, Path, encode, encode_text};
 use csn_json::{JsonFault, read_json};
 use csn_movetext::TreeForm;
 use csn_treetext::read_tree;
@@ -121,6 +125,27 @@ fn block_of<L: Ledger>(
     encode(alloc, plan, tree, &mut steps)
 }
 
+/// The block that has the tree of a text, written along the text; with a counter of steps.
+fn block_along<L: Ledger>(alloc: Global, plan: &Plan, text: &[u8], blank: Blank) -> Option<Bits>
+    requires name { blank.name ≡ L.name }
+    requires parts { blank.parts ≡ L.parts }
+    requires some { 0 < blank.parts }
+    ensures { IfSome result (λ bits. (t : TreeV) × (text.now ≡ text_of Second t) × IsBlockOf plan.now t bits) }
+{
+    let mut steps = Steps::<L>::new(blank);
+    encode_text(alloc, plan, text, &mut steps)
+}
+
+/// The block that has the tree of a line, where the form is written without its tree.
+fn block_of_line(alloc: Global, plan: &Plan, form: TreeForm, line: &[u8]) -> Option<Bits>
+    ensures { IfSome result (λ bits. (form ≡ Text) × ((t : TreeV) × (line.now ≡ text_of Second t) × IsBlockOf plan.now t bits)) }
+{
+    match form {
+        TreeForm::Text => block_along::<Brand>(alloc, plan, line, Blank::new(1)),
+        TreeForm::Json => None,
+    }
+}
+
 /// Writes the answer to a line that is no tree in JSON.
 fn answer_json_fault(fault: JsonFault, out: &mut Vec<u8>) -> Result<(), AllocError>
     ensures ok { OnOk result ((answer : List ℕ) × TellsJsonFault fault answer × (out.new.items ≡ out.old.items ++ answer)) }
@@ -157,14 +182,14 @@ fn tree_of_line(
     Ok(None)
 }
 
-/// Answers a line by the block of its tree, which it is in a form.
-fn write_line(
+/// Answers a line by the block of its tree, which is made of it, or by what is wrong.
+fn write_by_tree(
     alloc: Global,
     plan: &Plan,
     form: TreeForm,
     line: &[u8],
     out: &mut Vec<u8>,
-) -> Result<Answered, AllocError>
+) -> LineResult
     requires fits { length line.now ≤ MOST_INPUT }
     ensures ok { IfOk result (λ answered. (answer : List ℕ) × (out.new.items ≡ out.old.items ++ answer)
         × AnswersBy (RuleCommand.Write form) plan.now line.now answer × (is_refused answered ≡ is_refusal answer)) }
@@ -186,6 +211,28 @@ fn write_line(
     }
 }
 
+/// Answers a line by the block of its tree, which it is in a form. What the quick way along the text leaves open, the tree
+/// tells.
+fn write_line(
+    alloc: Global,
+    plan: &Plan,
+    form: TreeForm,
+    line: &[u8],
+    out: &mut Vec<u8>,
+) -> Result<Answered, AllocError>
+    requires fits { length line.now ≤ MOST_INPUT }
+    ensures ok { IfOk result (λ answered. (answer : List ℕ) × (out.new.items ≡ out.old.items ++ answer)
+        × AnswersBy (RuleCommand.Write form) plan.now line.now answer × (is_refused answered ≡ is_refusal answer)) }
+    ensures err { OnErr result ((tail : List ℕ) × (out.new.items ≡ out.old.items ++ tail)) }
+{
+    known();
+    let Some(bits) = block_of_line(alloc, plan, form, line) else {
+        return write_by_tree(alloc, plan, form, line, out);
+    };
+    answer_block(alloc, &bits, out)?;
+    Ok(Answered::Given)
+}
+
 /// The commands `write` and `unjson`, by the plan of a rule.
 #[derive(Drop)]
 pub struct WriteLines<'a> {
@@ -199,12 +246,7 @@ impl WholeLineCommand for WriteLines<'_> {
 
     ghost kept = { λ _. nothing_kept };
 
-    fn answer(
-        &mut self,
-        alloc: Global,
-        line: &[u8],
-        out: &mut Vec<u8>,
-    ) -> Result<Answered, AllocError> {
+    fn answer(&mut self, alloc: Global, line: &[u8], out: &mut Vec<u8>) -> LineResult {
         write_line(alloc, self.plan, self.form, line, out)
     }
 

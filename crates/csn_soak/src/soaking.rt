@@ -1,7 +1,7 @@
 ghost use Rattle.std.specs.Prelude.{◌≡◌, ◌<◌, ◌≤◌, ◌+◌, ◌*◌, ◌++◌, ◌↔◌, IfOk, IsTrue, if◌then◌else◌, length, take, drop};
 ghost use Rattle.std.specs.Int.{to_be_bytes, w64};
-ghost use Rattle.csn_bits.specs.Octets.{bits_of_octets, most_bits};
-ghost use Rattle.csn_blocks.specs.Judging.{AreWithin, IsFresh, bits_in, bits_of};
+ghost use Rattle.csn_bits.specs.Octets.{bits_of_octets};
+ghost use Rattle.csn_blocks.specs.Judging.{AreOfBlock, IsFresh, bits_of};
 ghost use Rattle.csn_soak.specs.declared.soaking.TheConstants.{MOST_BLOCKS};
 ghost use Rattle.csn_soak.specs.Generator.{is_cut};
 ghost use Rattle.csn_soak.specs.Soaking.{IsSoaked, IsString};
@@ -66,8 +66,7 @@ fn behind_field(alloc: Global, sample: &Sample) -> Result<Bits, BitsFault>
 /// Whether the bits of some pieces are a string.
 fn is_string(judge: &mut Judge<'_>, pieces: &[Piece<'_>]) -> bool
     requires fresh { IsFresh judge.old }
-    requires within { AreWithin pieces.now }
-    requires few { bits_in pieces.now ≤ most_bits }
+    requires block { AreOfBlock pieces.now }
     ensures answer { IsTrue result ↔ IsString judge.old.desc (bits_of pieces.now) }
     ensures fresh { IsFresh judge.new }
     ensures desc { judge.new.desc ≡ judge.old.desc }

@@ -17,3 +17,4 @@ pub mod ReadingFacts
 mod Stacked
 pub mod StopFacts
 pub mod TextDecided
+pub mod UpperValues

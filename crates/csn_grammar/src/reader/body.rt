@@ -4,7 +4,6 @@ ghost use Rattle.std.specs.Prelude.{◌≡◌, ◌<◌, [], ◌∷◌, ◌++◌,
 
 use crate::expr::{Branches, Expr, Exprs};
 use crate::reader::progress::Progress;
-use crate::reader::words::Words;
 use csn_bits::NoMemory;
 use csn_desc::Label;
 use std::alloc::Global;
@@ -60,7 +59,7 @@ pub enum Mode {
     /// Behind `<`, at this place: a word has to come.
     Less(u32),
     /// Behind `<` and words.
-    Name { start: u32, words: Words },
+    Name { start: u32, words: Label },
     /// Behind a base, which may have an exponent.
     Base(Expr),
     /// Behind a side that has no exponent any more.

@@ -1,12 +1,14 @@
 //! The expressions that the reader makes of smaller ones.
 
 ghost use Rattle.std.specs.Prelude.{◌≡◌, IfOk};
+ghost use Rattle.csn_grammar.specs.ExprV.{expr, group, labelled};
 ghost use Rattle.csn_grammar.specs.Grammar.{components_of};
 ghost use Rattle.csn_grammar.specs.reader.Building.{both_of, sends_of, power_of, seq_with, cut_with, choice_with};
 
 use crate::exponent::Exponent;
 use crate::expr::{Branch, Branches, Expr, Exprs, Form, Span};
 use csn_bits::NoMemory;
+use csn_desc::Label;
 use std::alloc::Global;
 
 // From the start of a piece of the text to the end of a later one.
@@ -46,6 +48,22 @@ pub fn power_of(alloc: Global, x: Expr, end: u32, exponent: Exponent) -> Result<
         end,
     };
     let form = Form::Power(Box::new(alloc, x)?, exponent);
+    Ok(Expr { span, form })
+}
+
+/// `{ x }`
+pub fn group_of(alloc: Global, span: Span, x: Expr) -> Result<Expr, NoMemory>
+    ensures { IfOk result (λ whole. whole ≡ expr span.start span.end (group x)) }
+{
+    let form = Form::Group(Box::new(alloc, x)?);
+    Ok(Expr { span, form })
+}
+
+/// `<label : x>`
+pub fn labelled_of(alloc: Global, span: Span, label: Label, x: Expr) -> Result<Expr, NoMemory>
+    ensures { IfOk result (λ whole. whole ≡ expr span.start span.end (labelled label x)) }
+{
+    let form = Form::Labelled(label, Box::new(alloc, x)?);
     Ok(Expr { span, form })
 }
 

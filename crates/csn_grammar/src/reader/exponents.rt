@@ -10,7 +10,6 @@ use crate::reader::piece::Piece;
 use crate::reader::progress::{ExponentNext, Progress, Terms};
 use crate::reader::spellings::{is_val, number_of};
 use crate::reader::stop::Stop;
-use crate::reader::words::Words;
 use csn_desc::Label;
 use csn_lexer::TokenKind;
 use std::alloc::Global;
@@ -126,7 +125,7 @@ fn first_word_step(alloc: Global, terms: Terms, piece: Piece<'_>) -> Result<Expo
 {
     match piece.token.kind {
         TokenKind::Word => {
-            let words = Words::new(alloc, piece.text)?;
+            let words = Label::of_word(alloc, piece.text)?;
             Ok(ExponentNext::Goes(Progress::ValWords { terms, words }))
         }
         _ => Err(Stop::Refused),
@@ -144,12 +143,7 @@ fn linear(terms: Terms, label: Label) -> Exponent
     }
 }
 
-fn words_step(
-    alloc: Global,
-    terms: Terms,
-    words: Words,
-    piece: Piece<'_>,
-) -> Result<ExponentNext, Stop>
+fn words_step(terms: Terms, words: Label, piece: Piece<'_>) -> Result<ExponentNext, Stop>
     ensures { Gives result (words_step terms words piece.entry.token.kind piece.entry.text.now) }
 {
     match piece.token.kind {
@@ -158,7 +152,7 @@ fn words_step(
             Ok(ExponentNext::Goes(Progress::ValWords { terms, words }))
         }
         TokenKind::ParenRight => {
-            let label = words.label(alloc)?;
+            let label = words;
             if terms.bracket {
                 Ok(ExponentNext::Goes(Progress::Product { terms, label }))
             } else {
@@ -244,7 +238,7 @@ pub fn exponent_step(
             _ => Err(Stop::Refused),
         },
         Progress::ValBracket(terms) => first_word_step(alloc, terms, piece),
-        Progress::ValWords { terms, words } => words_step(alloc, terms, words, piece),
+        Progress::ValWords { terms, words } => words_step(terms, words, piece),
         Progress::Product { terms, label } => product_step(terms, label, piece.token.kind),
         Progress::FactorBehind { summand, label } => factor_behind_step(summand, label, piece),
         Progress::SummandBehind { factor, label } => summand_behind_step(factor, label, piece),

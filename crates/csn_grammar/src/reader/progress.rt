@@ -1,7 +1,6 @@
 //! How much of an exponent is read.
 
 use crate::exponent::Exponent;
-use crate::reader::words::Words;
 use csn_desc::Label;
 
 /// What stands round a `val`: a factor and a summand, and whether a bracket is open round it.
@@ -34,7 +33,7 @@ pub enum Progress {
     /// `val (`
     ValBracket(Terms),
     /// `val (` and words.
-    ValWords { terms: Terms, words: Words },
+    ValWords { terms: Terms, words: Label },
     /// `val ( name )`, in brackets.
     Product { terms: Terms, label: Label },
     /// `val ( name ) *`

@@ -10,7 +10,6 @@ use crate::reader::body::{Body, Mode, Next};
 use crate::reader::piece::Piece;
 use crate::reader::steps::{body_of, body_step};
 use crate::reader::stop::Stop;
-use crate::reader::words::Words;
 use crate::rules::{Rule, RulesRead};
 use csn_desc::Label;
 use csn_lexer::TokenKind;
@@ -24,7 +23,7 @@ pub enum State {
     /// Behind the `<` of a rule, at this place.
     Less(u32),
     /// Behind words of its name.
-    Name { start: u32, words: Words },
+    Name { start: u32, words: Label },
     /// Behind its `< name >`.
     Named { start: u32, name: Label },
     /// In its body.
@@ -50,13 +49,7 @@ impl Reader {
     }
 }
 
-fn name_step(
-    alloc: Global,
-    rules: RulesRead,
-    start: u32,
-    words: Words,
-    piece: Piece<'_>,
-) -> Result<Reader, Stop>
+fn name_step(rules: RulesRead, start: u32, words: Label, piece: Piece<'_>) -> Result<Reader, Stop>
     ensures { Gives result (name_step rules start words piece.entry.token.kind piece.entry.text.now) }
 {
     let state = match piece.token.kind {
@@ -64,10 +57,7 @@ fn name_step(
             start,
             words: words.and(piece.text)?,
         },
-        TokenKind::Greater => State::Named {
-            start,
-            name: words.label(alloc)?,
-        },
+        TokenKind::Greater => State::Named { start, name: words },
         _ => return Err(Stop::Refused),
     };
     Ok(Reader { rules, state })
@@ -114,10 +104,10 @@ pub fn reader_step(alloc: Global, reader: Reader, piece: Piece<'_>) -> Result<Re
         (State::Between, TokenKind::Less) => State::Less(piece.token.start),
         (State::Less(start), TokenKind::Word) => State::Name {
             start,
-            words: Words::new(alloc, piece.text)?,
+            words: Label::of_word(alloc, piece.text)?,
         },
         (State::Name { start, words }, _) => {
-            return name_step(alloc, rules, start, words, piece);
+            return name_step(rules, start, words, piece);
         }
         (State::Named { start, name }, TokenKind::Define) => State::Body {
             start,

@@ -2,7 +2,6 @@ ghost use Rattle.std.specs.Prelude.{◌≡◌};
 ghost use Rattle.csn_grammar.specs.declared.reader.stop.Stop.TheVariants.{NoMemory as no_memory};
 
 use csn_bits::NoMemory;
-use std::alloc::AllocFailed;
 
 /// Why the reader stops: a token that cannot follow, or want of memory.
 #[derive(Clone, Copy, Debug, Drop, PartialEq, Eq)]
@@ -15,14 +14,6 @@ impl From<NoMemory> for Stop {
     ghost from_gives = { λ _ e. e ≡ no_memory };
 
     fn from(_e: NoMemory) -> Stop {
-        Stop::NoMemory
-    }
-}
-
-impl<T: Drop> From<AllocFailed<T>> for Stop {
-    ghost from_gives = { λ _ e. e ≡ no_memory };
-
-    fn from(_e: AllocFailed<T>) -> Stop {
         Stop::NoMemory
     }
 }

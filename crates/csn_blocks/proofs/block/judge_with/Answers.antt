@@ -13,11 +13,11 @@ pub loop-piece-init : goal.loop-piece-init
 loop-piece-init g c = record { judges = ([], c.requires.fresh.0); desc = refl; seen = omega (arith, c.requires.fresh.1) }
 
 pub feed-verdict-requires-clause-within : goal.feed-verdict-requires-clause-within
-feed-verdict-requires-clause-within g c = within_at c.args.pieces.now c.loop-piece.piece-index _ c.requires.within c.loop-piece-test.true
+feed-verdict-requires-clause-within g c = within_at c.args.pieces.now c.loop-piece.piece-index _ c.requires.block.0 c.loop-piece-test.true
 
 pub feed-verdict-requires-clause-few : goal.feed-verdict-requires-clause-few
 feed-verdict-requires-clause-few g c =
-    omega (arith, few_with c.args.pieces.now c.loop-piece.piece-index no_piece c.loop-piece-test.true, c.loop-piece.invariant.seen, c.requires.few)
+    omega (arith, few_with c.args.pieces.now c.loop-piece.piece-index no_piece c.loop-piece-test.true, c.loop-piece.invariant.seen, c.requires.block.1)
 
 pub loop-piece-preserved : goal.loop-piece-preserved
 loop-piece-preserved g c =

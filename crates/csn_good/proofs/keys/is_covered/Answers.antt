@@ -1,21 +1,16 @@
-use Rattle.std.proofs.Common.{◌≡◌, IsTrue, refl, sym, ◌∙◌, inl, inr, ap, subst, arith, slice_get}
-use Rattle.std.specs.Prelude.{is_some}
+use Rattle.std.proofs.Common.{refl, sym, ◌∙◌, inl, inr, subst, arith}
 use Rattle.std.proofs.lemmas.Bool.Decides.{eqb_tells}
 use Rattle.csn_cert.specs.Growing.{claimed}
 use Rattle.csn_good.specs.ClaimedSets.{patterns_at}
 use Rattle.csn_good.specs.Patterns.{Covers}
-use Rattle.csn_good.proofs.Conflicting.{pattern_reached, at_contained, contained_at}
+use Rattle.csn_good.proofs.Conflicting.{no_pattern, one_item, at_contained, contained_at}
 use Rattle.csn_good.proofs.Making.{claimed_pattern, claimed_count}
 use Rattle.csn_good.proofs.keys.is_covered.Goals as goal
 
 pub returns-then-not-has : goal.returns-then-not-has
 returns-then-not-has c = (
   (λ h. absurd (cc)),
-  (λ h.
-      let there : IsTrue (is_some (claimed c.args.c.now c.args.i c.args.octet)) = pattern_reached c.args.c.now c.args.i c.args.octet h.wide h.is_claimed in
-      let told = c.has.ensures in
-      let wrong = c.if-not-has.true in
-      absurd (cc)),
+  (λ h. absurd (no_pattern c.args.c.now c.args.i c.args.octet h.wide c.has.result c.has.ensures c.if-not-has.true h.is_claimed)),
 )
 
 pub returns-then-covers : goal.returns-then-covers
@@ -33,8 +28,7 @@ loop-k-preserved c = λ n p less at_n covers.
       | inl same ↦
           let there = sym c.has.ensures ∙ c.if-not-has.false in
           let at = claimed_pattern (claimed c.args.c.now c.args.i c.args.octet) c.loop-k.k c.pattern_at.result there c.pattern_at.ensures in
-          let here = ap (λ m. slice_get (patterns_at c.args.c.now c.args.i c.args.octet) m) same.1 in
-          let is : p ≡ c.pattern_at.result = cc in
+          let is = one_item (patterns_at c.args.c.now c.args.i c.args.octet) same.1 at_n at in
           let right = c.covers.ensures.1 (subst (λ q. Covers q c.args.pattern) is covers) in
           let wrong = c.if-covers.false in
           absurd (cc)

@@ -1,7 +1,8 @@
-use Rattle.std.proofs.Common.{◌≡◌, ◌⊎◌, refl, sym, inl, inr, ap, subst, arith, slice_get}
+use Rattle.std.proofs.Common.{◌≡◌, ◌⊎◌, refl, sym, inl, inr, subst, arith}
 use Rattle.std.proofs.lemmas.Bool.Decides.{eqb_tells}
 use Rattle.std.proofs.lemmas.Option.{slice_get_within}
 use Rattle.csn_cert.specs.declared.pattern.Mark.TheVariants.{Any}
+use Rattle.csn_good.proofs.Conflicting.{one_item}
 use Rattle.csn_good.proofs.Covered.{cover_from, cover_at}
 use Rattle.csn_good.proofs.keys.marks_cover.Goals as goal
 
@@ -18,12 +19,8 @@ pub loop-at-preserved : goal.loop-at-preserved
 loop-at-preserved c = λ k a b less at_a at_b.
     elim (eqb_tells k c.loop-at.at) [
       | inl same ↦
-          let here_a = ap (λ n. slice_get c.args.wide.marks n) same.1 in
-          let here_b = ap (λ n. slice_get c.args.pattern.marks n) same.1 in
-          let got_a = c.get-own.ensures in
-          let got_b = c.get-other.ensures in
-          let is_a : a ≡ c.get-own.result = cc in
-          let is_b : b ≡ c.get-other.result = cc in
+          let is_a = one_item c.args.wide.marks same.1 at_a c.get-own.ensures in
+          let is_b = one_item c.args.pattern.marks same.1 at_b c.get-other.ensures in
           subst (λ x. (x ≡ Any) ⊎ (x ≡ b)) (sym is_a) (subst (λ y. (c.get-own.result ≡ Any) ⊎ (c.get-own.result ≡ y)) (sym is_b) (c.mark_covers.ensures.0 c.if-not-mark_covers.false))
       | inr apart ↦ (let differ = apart.1 in c.loop-at.invariant k a b (omega arith) at_a at_b)
     ]

@@ -1,20 +1,15 @@
-use Rattle.std.proofs.Common.{◌≡◌, IsTrue, refl, sym, ◌∙◌, inl, inr, ap, subst, arith, slice_get}
-use Rattle.std.specs.Prelude.{is_some}
+use Rattle.std.proofs.Common.{refl, sym, ◌∙◌, inl, inr, subst, arith}
 use Rattle.std.proofs.lemmas.Bool.Decides.{eqb_tells}
 use Rattle.csn_cert.specs.Growing.{claimed}
 use Rattle.csn_good.specs.ClaimedSets.{patterns_at}
 use Rattle.csn_good.specs.Patterns.{IsCovered}
-use Rattle.csn_good.proofs.Conflicting.{pattern_reached, at_contained, contained_at}
+use Rattle.csn_good.proofs.Conflicting.{no_pattern, one_item, at_contained, contained_at}
 use Rattle.csn_good.proofs.Making.{claimed_pattern, claimed_count}
 use Rattle.csn_good.proofs.keys.part_is_covered_at.Goals as goal
 
 pub returns-then-not-has : goal.returns-then-not-has
 returns-then-not-has c = (
-  (λ h p at.
-      let there : IsTrue (is_some (claimed c.args.c.now c.args.part c.args.octet)) = pattern_reached c.args.c.now c.args.part c.args.octet p at in
-      let told = c.has.ensures in
-      let wrong = c.if-not-has.true in
-      absurd (cc)),
+  (λ h p at. absurd (no_pattern c.args.c.now c.args.part c.args.octet p c.has.result c.has.ensures c.if-not-has.true at)),
   (λ h. refl),
 )
 
@@ -35,8 +30,7 @@ loop-k-preserved c = λ n p less at_n.
       | inl same ↦
           let there = sym c.has.ensures ∙ c.if-not-has.false in
           let at = claimed_pattern (claimed c.args.c.now c.args.part c.args.octet) c.loop-k.k c.pattern_at.result there c.pattern_at.ensures in
-          let here = ap (λ m. slice_get (patterns_at c.args.c.now c.args.part c.args.octet) m) same.1 in
-          let is : p ≡ c.pattern_at.result = cc in
+          let is = one_item (patterns_at c.args.c.now c.args.part c.args.octet) same.1 at_n at in
           subst (λ q. IsCovered c.args.c.now c.args.i c.args.octet q) (sym is) (c.is_covered.ensures.0 c.if-not-is_covered.false)
       | inr apart ↦ (let differ = apart.1 in c.loop-k.invariant n p (omega arith) at_n)
     ]

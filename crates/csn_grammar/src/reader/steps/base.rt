@@ -10,7 +10,7 @@ ghost use Rattle.csn_grammar.specs.reader.BodySteps.{after_slashes, after_base, 
 use crate::exponent::Exponent;
 use crate::expr::{Expr, Form, Span};
 use crate::reader::body::{Mode, Next, Within};
-use crate::reader::build::{components_of, power_of};
+use crate::reader::build::{components_of, group_of, power_of};
 use crate::reader::exponents::exponent_step;
 use crate::reader::piece::Piece;
 use crate::reader::progress::{ExponentNext, Progress};
@@ -32,14 +32,11 @@ fn after_slashes(alloc: Global, within: Within, base: Expr, piece: Piece<'_>) ->
     match base.form {
         Form::Group(inner) => {
             let cut = components_of(alloc, Box::into_inner(inner))?;
-            let group = Expr {
-                span: Span {
-                    start: span.start,
-                    end: piece.token.end,
-                },
-                form: Form::Group(Box::new(alloc, cut)?),
+            let whole = Span {
+                start: span.start,
+                end: piece.token.end,
             };
-            Ok(goes(within, Mode::Done(group)))
+            Ok(goes(within, Mode::Done(group_of(alloc, whole, cut)?)))
         }
         form => after_side(alloc, within, Expr { span, form }, piece),
     }

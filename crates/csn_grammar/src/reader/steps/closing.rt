@@ -3,8 +3,9 @@
 ghost use Rattle.csn_grammar.specs.reader.Gives.{Gives};
 ghost use Rattle.csn_grammar.specs.reader.BodySteps.{close};
 
-use crate::expr::{Expr, Form, Span};
+use crate::expr::{Expr, Span};
 use crate::reader::body::{Frames, Mode, Next, Opening, Within};
+use crate::reader::build::{group_of, labelled_of};
 use crate::reader::steps::level::goes;
 use crate::reader::stop::Stop;
 use csn_lexer::{Token, TokenKind};
@@ -21,20 +22,18 @@ pub fn close(alloc: Global, mut frames: Frames, body: Expr, token: Token) -> Res
             _ => Err(Stop::Refused),
         };
     };
-    let form = match (frame.opening, token.kind) {
-        (Opening::Brace, TokenKind::BraceRight) => Form::Group(Box::new(alloc, body)?),
-        (Opening::Label(label), TokenKind::Greater) => {
-            Form::Labelled(label, Box::new(alloc, body)?)
-        }
-        _ => return Err(Stop::Refused),
-    };
     let span = Span {
         start: frame.start,
         end: token.end,
+    };
+    let base = match (frame.opening, token.kind) {
+        (Opening::Brace, TokenKind::BraceRight) => group_of(alloc, span, body)?,
+        (Opening::Label(label), TokenKind::Greater) => labelled_of(alloc, span, label, body)?,
+        _ => return Err(Stop::Refused),
     };
     let within = Within {
         frames,
         level: frame.level,
     };
-    Ok(goes(within, Mode::Base(Expr { span, form })))
+    Ok(goes(within, Mode::Base(base)))
 }

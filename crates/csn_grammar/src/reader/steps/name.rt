@@ -9,7 +9,7 @@ use crate::reader::piece::Piece;
 use crate::reader::steps::level::goes;
 use crate::reader::steps::side::open_frame;
 use crate::reader::stop::Stop;
-use crate::reader::words::Words;
+use csn_desc::Label;
 use csn_lexer::TokenKind;
 use std::alloc::Global;
 
@@ -20,7 +20,7 @@ pub fn first_word(alloc: Global, within: Within, start: u32, piece: Piece<'_>) -
 {
     match piece.token.kind {
         TokenKind::Word => {
-            let words = Words::new(alloc, piece.text)?;
+            let words = Label::of_word(alloc, piece.text)?;
             Ok(goes(within, Mode::Name { start, words }))
         }
         _ => Err(Stop::Refused),
@@ -33,7 +33,7 @@ pub fn after_words(
     alloc: Global,
     within: Within,
     start: u32,
-    words: Words,
+    words: Label,
     piece: Piece<'_>,
 ) -> Result<Next, Stop>
     ensures { Gives result (after_words within.frames within.level start words piece.entry.token.kind piece.entry.token.end piece.entry.text.now) }
@@ -49,14 +49,11 @@ pub fn after_words(
                     start,
                     end: piece.token.end,
                 },
-                form: Form::Name(words.label(alloc)?),
+                form: Form::Name(words),
             };
             Ok(goes(within, Mode::Base(name)))
         }
-        TokenKind::Colon => {
-            let label = words.label(alloc)?;
-            open_frame(alloc, within, start, Opening::Label(label))
-        }
+        TokenKind::Colon => open_frame(alloc, within, start, Opening::Label(words)),
         _ => Err(Stop::Refused),
     }
 }

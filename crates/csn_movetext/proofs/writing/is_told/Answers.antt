@@ -1,9 +1,9 @@
 use Rattle.std.proofs.Common.{◌≡◌, ℕ, ◌*◌, nat_le, ◌&&◌, Bool, true, false, Some, None, is_some, refl, ap, ◌∙◌}
 use Rattle.std.specs.Prelude.{if◌then◌else◌}
 use Rattle.std.proofs.lemmas.Bool.{leb-true}
-use Rattle.csn_desc.specs.declared.node.Count.TheVariants.{Fixed, Counted}
+use Rattle.csn_desc.specs.declared.node.Count.TheVariants.{Fixed}
 use Rattle.csn_desc.specs.declared.node.Node.{Node}
-use Rattle.csn_desc.specs.declared.node.Node.TheVariants.{Lits, Spare, Pad, Null, Field, Rest, Seq, Choice, Times, Many, Trunc, Window, Named}
+use Rattle.csn_desc.specs.declared.node.Node.TheVariants.{Spare, Field}
 use Rattle.csn_treetext.specs.declared.bounds.TheConstants.{MOST_SHORT}
 use Rattle.csn_movetext.specs.Openings.{leaf_width}
 use Rattle.csn_movetext.specs.Told.{IsTold}
@@ -19,18 +19,7 @@ by_tests width false false told least most is = is
 told_is : (node : Node) (told : Bool) → told ≡ is_some (leaf_width node) → IsTold (leaf_width node) told
 told_is (Spare symbol) told is = by_tests 1 true true told refl refl is
 told_is (Field unit (Fixed n)) told is = by_tests (unit * n) _ _ told refl refl is
-told_is (Field unit (Counted m field c)) told is = is
-told_is (Lits run) told is = is
-told_is Pad told is = is
-told_is Null told is = is
-told_is Rest told is = is
-told_is (Seq parts) told is = is
-told_is (Choice parts) told is = is
-told_is (Times count part) told is = is
-told_is (Many part) told is = is
-told_is (Trunc parts) told is = is
-told_is (Window unit count part) told is = is
-told_is (Named label part) told is = is
+told_is _ told is = is
 
 pub returns : goal.returns
 returns c = told_is c.args.node.now c.is_some.result (c.is_some.ensures ∙ ap is_some c.leaf_width.ensures)

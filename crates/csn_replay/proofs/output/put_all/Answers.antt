@@ -12,8 +12,8 @@ loop-passed-preserved g c =
     record {
       within = within;
       took = subst (Appended (g.K.Sink.taken c.args.out.now) (g.K.Sink.taken c.put.new.self)) (sym more) (appended_more _ _ _ _ _ c.loop-passed.invariant.took c.in-Took.ensures.appended);
-      no_fault = c.in-Took.ensures.no_fault ∙ c.loop-passed.invariant.no_fault;
-      steady = λ was. c.in-Took.ensures.steady_stays (c.loop-passed.invariant.steady was);
+      no_fault = c.in-Took.ensures.outside.2 (λ is. cc) ∙ c.loop-passed.invariant.no_fault;
+      steady = λ was. (c.in-Took.ensures.outside.1 (c.loop-passed.invariant.steady was)).0;
     }
 
 pub returns-in-Failed-clause-wrote : goal.returns-in-Failed-clause-wrote

@@ -21,8 +21,8 @@ loop-watcher-preserved g c =
       can_next = search rules;
       is_finite = search rules;
       len = omega (arith, ap length c.in-Some.ensures.steps.0, c.in-Some.ensures.steps.1, c.loop-watcher.invariant.len);
-      no_fault = c.in-Ok.ensures.no_fault (λ is. cc) ∙ c.loop-watcher.invariant.no_fault;
-      steady = λ was. c.in-Ok.ensures.steady_stays (c.loop-watcher.invariant.steady was);
+      no_fault = c.in-Ok.ensures.outside.2 (λ is. cc) ∙ c.loop-watcher.invariant.no_fault;
+      steady = λ was. (c.in-Ok.ensures.outside.1 (c.loop-watcher.invariant.steady was)).0;
       reporting = one_reported_of _ _ _ _ _ _ _ _ c.in-Some.ensures.steps.0 c.loop-watcher.invariant.reporting c.in-Ok.ensures.wrote;
     }
 

@@ -26,9 +26,9 @@ loop-at-preserved g c =
           let fine = c.loop-at.invariant.no_fault (λ is. cc) in
           rw (w.out-is, w.told-is) (record {
             write_fault = λ is. subst (λ n. Rose n (g.K.Sink.faults w.report-told.new.out)) fine (w.report-told.ensures.write_fault is);
-            no_fault = λ is. w.report-told.ensures.no_fault is ∙ fine;
-            never_falls = omega (arith, fine, w.report-told.ensures.never_falls);
-            steady = λ was. w.report-told.ensures.steady_stays (c.loop-at.invariant.steady was);
+            no_fault = λ is. w.report-told.ensures.outside.2 is ∙ fine;
+            never_falls = omega (arith, fine, w.report-told.ensures.outside.0);
+            steady = λ was. (w.report-told.ensures.outside.1 (c.loop-at.invariant.steady was)).0;
             steady_no_fault = λ was. w.report-told.ensures.steady_no_fault (c.loop-at.invariant.steady was);
             telling = ended _ _ _ _ _ _ _ _ _ _ _ w.in-Ok.is c.loop-at.invariant.telling c.in-Some.ensures.showed w.report-told.ensures.wrote;
           })

@@ -3,7 +3,7 @@ use Rattle.csn_desc.specs.Nodes.{DescV}
 use Rattle.csn_run.specs.Compiled.{IsCompiled}
 use Rattle.csn_run.proofs.compile.plan_by.Goals as goal
 
-pub returns-in-Ok-new-clause-plan : goal.returns-in-Ok-new-clause-plan
-returns-in-Ok-new-clause-plan c = λ text has.
+pub returns-in-Ok-clause-plan : goal.returns-in-Ok-clause-plan
+returns-in-Ok-clause-plan c = λ text has.
     let P : DescV → Type 0 = λ d. IsCompiled text c.args.name.now c.args.reading c.args.rules.now d in
-    subst P (sym c.in-Ok-new.ensures) (c.in-Ok.ensures.plan text has)
+    subst P (sym c.in-Ok.ensures) (c.in_ok-plan.ensures.plan text has)

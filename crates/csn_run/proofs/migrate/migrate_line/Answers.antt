@@ -5,9 +5,9 @@ use Rattle.csn_treetext.specs.Place.{IsFaultOf}
 use Rattle.csn_run.specs.OutLine.{migrates_tree, migrates_place}
 use Rattle.csn_run.proofs.migrate.migrate_line.Goals as goal
 
-pub returns-in_ok-answer_tree-in-Ok-clause-ok : goal.returns-in_ok-answer_tree-in-Ok-clause-ok
-returns-in_ok-answer_tree-in-Ok-clause-ok c =
-    let text = c.in_ok-answer_tree-in-Ok.ensures.ok in
+pub returns-in_ok-answer_old-in-Ok-clause-ok : goal.returns-in_ok-answer_old-in-Ok-clause-ok
+returns-in_ok-answer_old-in-Ok-clause-ok c =
+    let text = c.in_ok-answer_old-in-Ok.ensures.ok in
     (codes "ok " ++ text.0, text.2, migrates_tree c.in-Ok.tree text.0 c.in-Ok.ensures.ok text.1 refl, refl)
 
 pub returns-in_ok-answer_text_fault-in-Err-clause-ok : goal.returns-in_ok-answer_text_fault-in-Err-clause-ok

@@ -1,20 +1,15 @@
-use Rattle.std.proofs.Common.{IsTrue, sym, ◌∙◌, arith}
-use Rattle.std.specs.Prelude.{is_some}
+use Rattle.std.proofs.Common.{sym, ◌∙◌, arith}
 use Rattle.csn_cert.specs.Growing.{claimed}
 use Rattle.csn_good.specs.ClaimedSets.{patterns_at}
 use Rattle.csn_good.specs.Made.{MadeAt}
-use Rattle.csn_good.proofs.Conflicting.{pattern_reached}
+use Rattle.csn_good.proofs.Conflicting.{no_pattern}
 use Rattle.csn_good.proofs.Making.{in_none, in_turn, next_makes, some_none, some_on, some_done, claimed_pattern, claimed_count}
 use Rattle.csn_good.proofs.made.Made.behind_at.Goals as goal
 
 pub returns-then-not-has : goal.returns-then-not-has
 returns-then-not-has c = λ p. (
   (λ h. absurd (in_none c.new-patterns.ensures h)),
-  (λ h.
-      let there : IsTrue (is_some (claimed c.args.c.now c.args.i c.args.octet)) = pattern_reached c.args.c.now c.args.i c.args.octet h.first h.is_first in
-      let told = c.has.ensures in
-      let wrong = c.if-not-has.true in
-      absurd (cc)),
+  (λ h. absurd (no_pattern c.args.c.now c.args.i c.args.octet h.first c.has.result c.has.ensures c.if-not-has.true h.is_first)),
 )
 
 pub loop-k-init : goal.loop-k-init

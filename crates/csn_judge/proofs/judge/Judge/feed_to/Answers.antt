@@ -37,8 +37,11 @@ returns-then-bits-eq0-clause-judges g c =
 come : (j : Inside) (more : List ℕ) (coming : Coming) → coming ≡ record { bits = (judge_of j).state.coming.bits ++ more; held = j.held.count; place = j.place; limit = j.limit; ended = false } → IsFed (judge_of j) more coming
 come j more coming is = record { bits = ap (λ c. c.bits) is; place = ap (λ c. c.place) is; limit = ap (λ c. c.limit) is; going = ap (λ c. c.ended) is }
 
-pub go-verdict-requires : goal.go-verdict-requires
-go-verdict-requires g c =
+pub go-verdict-requires-clause-fits : goal.go-verdict-requires-clause-fits
+go-verdict-requires-clause-fits g c = subst (λ (j : JudgeV). g.T.Track.fits c.args.track.now j.desc) (sym c.self.view_is) c.requires.fits
+
+pub go-verdict-requires-clause-stands : goal.go-verdict-requires-clause-stands
+go-verdict-requires-clause-stands g c =
     let d : DescV = c.self.inside.machine.plan.now in
     let more : List ℕ = take c.args.bits (bits_of_octets c.args.piece.now) in
     let there = c.self.invariant.stands c.in_default.is in

@@ -3,11 +3,13 @@ use Rattle.csn_bits.specs.Octets.{bits_of_octets}
 use Rattle.csn_desc.specs.Nodes.{DescV}
 use Rattle.csn_desc.specs.Formed.{IsDescription}
 use Rattle.csn_certify.specs.Plans.{HasOneTree}
-use Rattle.csn_movetext.specs.declared.fault.Fed.{Fed}
-use Rattle.csn_movetext.specs.declared.fault.Fed.TheVariants.{Going}
+use Rattle.csn_judge.specs.declared.fed.Fed.{Fed}
+use Rattle.csn_judge.specs.declared.fed.Fed.TheVariants.{Going}
+use Rattle.csn_judge.specs.Following.{IsAnswer}
+use Rattle.csn_judge.proofs.FollowingFacts.{feeds_still, answer_is, going_no_more}
 use Rattle.csn_movetext.specs.Openings.{OpeningsV, HasOpenings}
-use Rattle.csn_movetext.specs.Blocks.{BlockV, stands, IsAnswer, JudgesSome, Continues}
-use Rattle.csn_movetext.proofs.BlockFacts.{Begun, begun, Stays, feed_stays, feed_judges, same_front, longer, feeds, feeds_still, answer_is, going_no_more}
+use Rattle.csn_movetext.specs.Blocks.{BlockV, stands, IsTold, JudgesSome, Continues}
+use Rattle.csn_movetext.proofs.BlockFacts.{Begun, begun, Stays, feed_stays, feed_judges, same_front, longer, feeds}
 use Rattle.csn_movetext.proofs.block.BlockText.feed.Given.{Over}
 use Rattle.csn_movetext.proofs.block.BlockText.feed.Goals.{After-is_refused}
 use Rattle.csn_movetext.proofs.block.BlockText.feed.Goals as goal
@@ -30,7 +32,8 @@ module _ (g : Over) (c : After-is_refused g) where
 
 pub returns-then-not-is_going-clause-writes : goal.returns-then-not-is_going-clause-writes
 returns-then-not-is_going-clause-writes g c =
-    feeds_still c.prefixes_are_followed.ensures c.args.self.now (take c.args.bits (bits_of_octets c.args.piece.now)) c.self.inside.answer
+    let w : BlockV = c.args.self.now in
+    feeds_still w.desc w.answer w.judge (IsTold w) c.prefixes_are_followed.ensures (take c.args.bits (bits_of_octets c.args.piece.now)) c.self.inside.answer
     (sym (ap (λ (b : BlockV). b.answer) c.self.view_is)) (going_no_more c.self.inside.answer c.is_going.result c.is_going.ensures c.if-not-is_going.true)
 
 pub invariant_of-self : goal.invariant_of-self

@@ -3,7 +3,7 @@ use Rattle.std.proofs.Math.Seq.{take-length}
 use Rattle.csn_desc.specs.Nodes.{DescV}
 use Rattle.csn_desc.specs.Formed.{IsDescription}
 use Rattle.csn_certify.specs.Plans.{HasOneTree}
-use Rattle.csn_movetext.specs.declared.fault.Fed.TheVariants.{Going}
+use Rattle.csn_judge.specs.declared.fed.Fed.TheVariants.{Going}
 use Rattle.csn_movetext.specs.Openings.{HasOpenings}
 use Rattle.csn_movetext.specs.Track.{TrackV}
 use Rattle.csn_movetext.specs.Blocks.{stands, nothing, WritesFor}

@@ -1,8 +1,8 @@
 use Rattle.std.proofs.Common.{◌≡◌, List, ℕ, [], take, ap, sym, subst, arith, ◌∙◌}
 use Rattle.std.proofs.lemmas.List.{take-take}
 use Rattle.csn_judge.specs.Judging.{JudgeV, JudgesFor, opened}
-use Rattle.csn_movetext.specs.declared.fault.Fed.{Fed}
-use Rattle.csn_movetext.specs.declared.fault.Fed.TheVariants.{Going}
+use Rattle.csn_judge.specs.declared.fed.Fed.{Fed}
+use Rattle.csn_judge.specs.declared.fed.Fed.TheVariants.{Going}
 use Rattle.csn_movetext.specs.Openings.{OpeningsV}
 use Rattle.csn_movetext.specs.Track.{TrackV}
 use Rattle.csn_movetext.specs.Blocks.{BlockV, stands, nothing, WritesFor}

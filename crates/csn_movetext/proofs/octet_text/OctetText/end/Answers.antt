@@ -2,9 +2,10 @@ use Rattle.std.proofs.Common.{◌≡◌, ℕ, List, ◌++◌, take, Ok, Err, ap,
 use Rattle.csn_bits.specs.Octets.{bits_of_octet}
 use Rattle.csn_desc.specs.Nodes.{DescV}
 use Rattle.csn_movetext.specs.declared.form.TreeForm.{TreeForm}
-use Rattle.csn_movetext.specs.declared.fault.Fed.TheVariants.{NoMemory}
+use Rattle.csn_judge.specs.declared.fed.Fed.TheVariants.{NoMemory}
 use Rattle.csn_movetext.specs.declared.fault.BlockFault.TheVariants as fault
-use Rattle.csn_movetext.specs.Blocks.{BlockV, WritesFor, AddsText, Ends, IsNoString}
+use Rattle.csn_judge.specs.Following.{IsNoString}
+use Rattle.csn_movetext.specs.Blocks.{BlockV, WritesFor, AddsText, Ends}
 use Rattle.csn_movetext.proofs.LineFacts.{goes_on_within, bits_with}
 use Rattle.csn_movetext.proofs.octet_text.OctetText.end.Goals as goal
 

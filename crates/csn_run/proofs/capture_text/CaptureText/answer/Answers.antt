@@ -1,16 +1,16 @@
 use Rattle.std.proofs.Common.{◌≡◌, ℕ, List, [], Some, codes, length, set, slice_get, refl, sym, ◌∙◌, ap, subst, arith}
 use Rattle.std.specs.Option.{option_map}
-use Rattle.std.proofs.lemmas.List.{length-set}
 use Rattle.csn_catalogue.specs.declared.entry.Entry.{Entry}
+use Rattle.csn_catalogue.specs.Entries.{entry_place}
 use Rattle.csn_movetext.specs.declared.form.TreeForm.{TreeForm}
 use Rattle.csn_movetext.specs.declared.form.TreeForm.TheVariants.{Text}
 use Rattle.csn_movetext.specs.Lines.{LineV, ReadsLine}
 use Rattle.csn_replay.specs.Head.{HeadOf, block_so_far}
 use Rattle.csn_replay.specs.declared.head.CaptureHead.{CaptureHead}
 use Rattle.csn_replay.specs.declared.head.CaptureHead.TheVariants.{Block}
-use Rattle.csn_run.specs.OutLine.{CaptureLineBy, ShowsAs, entry_place}
+use Rattle.csn_run.specs.OutLine.{CaptureLineBy, ShowsAs}
 use Rattle.csn_run.specs.Replaying.{ReadsCapture, desc_of, taken_at}
-use Rattle.csn_run.proofs.CaptureLemmas.{answers_block, answers_none, begins_after, begins_behind, descs_set, taken_by, texts_set, writer_at}
+use Rattle.csn_run.proofs.CaptureLemmas.{answers_block, answers_none, begins_after, begins_behind, same_descs, seven_texts, taken_by, writer_at}
 use Rattle.csn_run.proofs.ProgressLemmas.{OnErr-from}
 use Rattle.csn_run.proofs.capture_text.CaptureText.answer.Goals as goal
 
@@ -28,18 +28,10 @@ returns-in_default c =
 
 pub invariant_of-self-2 : goal.invariant_of-self-2
 invariant_of-self-2 c =
-    let writers = c.args.self.now.writers.items in
-    let here = writer_at writers c.place_of.result c.index_mut.result.now (omega (arith, c.place_of.ensures.within, c.args.self.now.all)) c.index_mut.ensures.value in
-    record {
-      all = omega (arith, length-set writers c.place_of.result c.answer_line.new.text, c.args.self.now.all);
-      texts = texts_set writers c.place_of.result c.answer_line.new.text c.args.self.now.texts (c.answer_line.ensures.form ∙ c.args.self.now.texts c.place_of.result c.index_mut.result.now here);
-    }
+    let kept = seven_texts c.args.self.now.writers.items c.place_of.result c.index_mut.result.now c.answer_line.new.text c.args.self.now.all c.place_of.ensures.within c.index_mut.ensures.value c.answer_line.ensures.form c.args.self.now.texts in record { all = kept.0; texts = kept.1 }
 
 pub returns-in_err-answered-clause-descs : goal.returns-in_err-answered-clause-descs
-returns-in_err-answered-clause-descs c =
-    let writers = c.args.self.now.writers.items in
-    let here = writer_at writers c.place_of.result c.index_mut.result.now (omega (arith, c.place_of.ensures.within, c.args.self.now.all)) c.index_mut.ensures.value in
-    descs_set writers c.place_of.result c.index_mut.result.now c.answer_line.new.text here c.answer_line.ensures.desc
+returns-in_err-answered-clause-descs c = same_descs c.args.self.now.writers.items c.place_of.result c.index_mut.result.now c.answer_line.new.text c.args.self.now.all c.place_of.ensures.within c.index_mut.ensures.value c.answer_line.ensures.desc
 
 pub returns-in_err-answered-clause-err : goal.returns-in_err-answered-clause-err
 returns-in_err-answered-clause-err c = OnErr-from c.from_residual-in_err-answered.result (λ line reads.
@@ -81,7 +73,4 @@ returns-clause-anew c = λ line reads.
     (begins_behind writers entry line c.replace-head.new.dest c.answer_line.new.text reads_block next c.in_ok-answered.ensures.anew)
 
 pub returns-clause-descs : goal.returns-clause-descs
-returns-clause-descs c =
-    let writers = c.args.self.now.writers.items in
-    let here = writer_at writers c.place_of.result c.index_mut.result.now (omega (arith, c.place_of.ensures.within, c.args.self.now.all)) c.index_mut.ensures.value in
-    descs_set writers c.place_of.result c.index_mut.result.now c.answer_line.new.text here c.answer_line.ensures.desc
+returns-clause-descs c = same_descs c.args.self.now.writers.items c.place_of.result c.index_mut.result.now c.answer_line.new.text c.args.self.now.all c.place_of.ensures.within c.index_mut.ensures.value c.answer_line.ensures.desc

@@ -1,12 +1,12 @@
-use Rattle.std.proofs.Common.{◌≡◌, ℕ, List, Some, ◌++◌, drop, length, set, slice_get, refl, sym, ◌∙◌, ap, subst, arith}
-use Rattle.std.proofs.lemmas.List.{length-drop, length-set}
+use Rattle.std.proofs.Common.{◌≡◌, ℕ, List, Some, ◌++◌, drop, length, set, slice_get, refl, sym, ap, subst, arith}
+use Rattle.std.proofs.lemmas.List.{length-drop}
+use Rattle.csn_catalogue.specs.Entries.{entry_place}
 use Rattle.csn_movetext.specs.Lines.{LineV, ReadsLine}
 use Rattle.csn_replay.specs.Head.{HeadOf, block_so_far}
 use Rattle.csn_replay.specs.declared.head.CaptureHead.{CaptureHead}
 use Rattle.csn_replay.specs.declared.head.CaptureHead.TheVariants.{Block}
-use Rattle.csn_run.specs.OutLine.{entry_place}
 use Rattle.csn_run.specs.Replaying.{ReadsCapture, taken_at}
-use Rattle.csn_run.proofs.CaptureLemmas.{block_goes_on, descs_set, head_goes_on, taken_few, texts_set, writer_at}
+use Rattle.csn_run.proofs.CaptureLemmas.{block_goes_on, head_goes_on, same_descs, seven_texts, taken_few, writer_at}
 use Rattle.csn_replay.proofs.Puts.{slice_from}
 use Rattle.csn_run.proofs.capture_text.CaptureText.take.Goals as goal
 
@@ -20,12 +20,7 @@ take-requires c =
 
 pub invariant_of-self : goal.invariant_of-self
 invariant_of-self c =
-    let writers = c.args.self.now.writers.items in
-    let here = writer_at writers c.place_of.result c.index_mut.result.now (omega (arith, c.place_of.ensures.within, c.args.self.now.all)) c.index_mut.ensures.value in
-    record {
-      all = omega (arith, length-set writers c.place_of.result c.take.new.self, c.args.self.now.all);
-      texts = texts_set writers c.place_of.result c.take.new.self c.args.self.now.texts (c.take.ensures.form ∙ c.args.self.now.texts c.place_of.result c.index_mut.result.now here);
-    }
+    let kept = seven_texts c.args.self.now.writers.items c.place_of.result c.index_mut.result.now c.take.new.self c.args.self.now.all c.place_of.ensures.within c.index_mut.ensures.value c.take.ensures.form c.args.self.now.texts in record { all = kept.0; texts = kept.1 }
 
 pub returns-in-Block-clause-reads : goal.returns-in-Block-clause-reads
 returns-in-Block-clause-reads c = λ line reads.
@@ -51,10 +46,7 @@ returns-in-Block-clause-reads c = λ line reads.
     (subst (λ (h : CaptureHead). ReadsCapture (set writers (entry_place entry) new) h (line ++ bytes)) (sym is) now)
 
 pub returns-in-Block-clause-descs : goal.returns-in-Block-clause-descs
-returns-in-Block-clause-descs c =
-    let writers = c.args.self.now.writers.items in
-    let here = writer_at writers c.place_of.result c.index_mut.result.now (omega (arith, c.place_of.ensures.within, c.args.self.now.all)) c.index_mut.ensures.value in
-    descs_set writers c.place_of.result c.index_mut.result.now c.take.new.self here c.take.ensures.desc
+returns-in-Block-clause-descs c = same_descs c.args.self.now.writers.items c.place_of.result c.index_mut.result.now c.take.new.self c.args.self.now.all c.place_of.ensures.within c.index_mut.ensures.value c.take.ensures.desc
 
 pub returns-in_default : goal.returns-in_default
 returns-in_default c = record {

@@ -1,7 +1,7 @@
 use Rattle.std.proofs.Common.{◌≡◌, List, ℕ}
 use Rattle.csn_run.specs.OutLine.{Works}
 use Rattle.csn_run.proofs.ProgressLemmas.{Standing}
-use Rattle.csn_run.specs.Outside.{Keeps}
+use Rattle.csn_io.specs.Faults.{Keeps}
 use Rattle.csn_run.specs.Reading.{AtLine}
 use Rattle.csn_run.proofs.lines.Lines.answer_all.Given as goal
 

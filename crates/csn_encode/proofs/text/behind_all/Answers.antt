@@ -1,0 +1,8 @@
+use Rattle.std.proofs.lemmas.Bool.Decides.{Decides-eqb}
+use Rattle.std.proofs.lemmas.Slice.Eq.{strip_prefix_is}
+use Rattle.csn_encode.proofs.Texts.{stripped}
+use Rattle.csn_encode.proofs.text.behind_all.Goals as goal
+
+pub returns : goal.returns
+returns c =
+    stripped c.args.text.now c.args.bytes.now c.strip_prefix.result (strip_prefix_is Decides-eqb c.args.text.now c.args.bytes.now c.strip_prefix.result c.strip_prefix.ensures.cases)

@@ -1,8 +1,0 @@
-use Rattle.std.proofs.Common.{append_assoc}
-use Rattle.csn_grammar.proofs.Labels.{label_more}
-use Rattle.csn_grammar.proofs.reader.words.Words.and.Goals as goal
-
-pub invariant_of-self : goal.invariant_of-self
-invariant_of-self c =
-    rw (c.in_ok-extend_from_slice.ensures.items, c.in_ok-push.ensures.items, append_assoc)
-    (label_more c.self.inside.bytes.items c.args.word.now c.self.invariant c.requires)

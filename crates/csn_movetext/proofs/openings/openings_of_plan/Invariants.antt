@@ -1,7 +1,0 @@
-use Rattle.std.proofs.Common.{◌≡◌}
-use Rattle.csn_movetext.proofs.PoolFacts.{AreBegun}
-use Rattle.csn_movetext.proofs.openings.openings_of_plan.Given as goal
-
--- the first nodes have their openings in the form
-abbrev pub invariant-loop-i : goal.invariant-loop-i
-invariant-loop-i g l = (l.openings.form ≡ l.form) × AreBegun l.form l.plan l.numbers.items l.i l.openings.texts

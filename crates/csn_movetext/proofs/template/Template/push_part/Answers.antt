@@ -1,0 +1,13 @@
+use Rattle.std.proofs.Common.{ℕ, List}
+use Rattle.csn_movetext.specs.declared.template.Piece.{Piece}
+use Rattle.csn_movetext.proofs.TemplateFacts.{piece_added, read_piece}
+use Rattle.csn_movetext.proofs.template.Template.push_part.Goals as goal
+
+pub loop-piece-preserved : goal.loop-piece-preserved
+loop-piece-preserved c =
+    let pieces : List Piece = c.args.part.now.pieces.items in
+    let k : ℕ = c.loop-piece.piece-index in
+    let there = read_piece c.deref-piece-items.result.now pieces k c.piece-item.result c.deref-piece-items.ensures.value c.loop-piece-test.true c.piece-item.is in
+    λ number.
+    piece_added c.args.self.now c.loop-piece.self c.push_text.new.self c.push_field.new.self pieces k c.piece-item.result c.as_slice.result.now c.args.behind number
+    there c.as_slice.ensures.value (c.in_ok-push_text.ensures number) (c.in_ok-push_field.ensures number) (c.loop-piece.invariant number)
