@@ -37,19 +37,10 @@ are_digits [] all = tt
 are_digits (byte ∷ rest) all =
     (All-head (λ b. is_hex_digit b ≡ true) byte rest all, are_digits rest (All-tail (λ b. is_hex_digit b ≡ true) byte rest all))
 
-none_waits : (line : List ℕ) → length line % 2 ≡ 0 → waiting_value line ≡ None
+pub none_waits : (line : List ℕ) → length line % 2 ≡ 0 → waiting_value line ≡ None
 none_waits [] even = refl
 none_waits (a ∷ []) even = absurd (omega arith)
 none_waits (a ∷ b ∷ rest) even = none_waits rest (omega arith)
-
--- a call answered what a text decodes to
-decoded_as : (decoded : Result (List ℕ) FromHexError) (octets : List ℕ) (result : Result (Unit {0}) FromHexError)
-    → MatchResult decoded (λ bytes. (result ≡ Ok tt) × (octets ≡ bytes)) (λ e. result ≡ Err e) → result ≡ Ok tt → decoded ≡ Ok octets
-decoded_as (Ok bytes) octets result same is = ap (λ (l : List ℕ). Ok l) (sym same.1)
-decoded_as (Err e) octets result same is = absurd (cc)
-
-decode_sized-fits : (line : List ℕ) (count : ℕ) → length line ≡ 2 * count → decode_sized line count ≡ decode_of line
-decode_sized-fits line count twice = grind (arith)
 
 -- what the crate decodes of pairs of digits are their octets
 decoded_pairs : (line octets : List ℕ) → decode_of line ≡ Ok octets → AreDigits line × (waiting_value line ≡ None) × (octets ≡ octets_of_digits line)
@@ -62,17 +53,6 @@ decoded_pairs line octets decoded =
 -- what it decodes is half as long
 pub halved : (line octets : List ℕ) → decode_of line ≡ Ok octets → length line ≡ 2 * length octets
 halved line octets decoded = let (even, all, twice, bytes) = decode_of-ok line octets decoded in twice
-
--- the same into room for so many
-pub decoded_front : (line octets : List ℕ) (count room : ℕ) (result : Result (Unit {0}) FromHexError) → length line ≡ 2 * count → room ≡ count
-    → MatchResult (decode_sized line room) (λ bytes. (result ≡ Ok tt) × (octets ≡ bytes)) (λ e. result ≡ Err e) → result ≡ Ok tt
-    → AreDigits line × (length octets ≡ count) × (octets ≡ octets_of_digits line)
-decoded_front line octets count room result twice fits sized is =
-    let same_room : decode_sized line room ≡ decode_of line =
-    ap (decode_sized line) fits ∙ decode_sized-fits line count twice in
-    let decoded = sym same_room ∙ decoded_as (decode_sized line room) octets result sized is in
-    let (digits, waits, same) = decoded_pairs line octets decoded in
-    (digits, omega (arith, halved line octets decoded, twice), same)
 
 -- so many pairs of digits that were decoded among the first bytes
 pub pairs_taken : (bytes decoded : List ℕ) (count most : ℕ) → AreDigits (take (2 * count) (take most bytes))

@@ -14,20 +14,6 @@ high_fails byte high =
     let c : nat_le byte 57 ≡ false = lt-leb byte 57 (omega arith) in
     rw (and_right (nat_le 65 byte) _ a, and_right (nat_le 97 byte) _ b, and_right (nat_le 48 byte) _ c) refl
 
--- what the crate reads of a digit after a 0 is the digit's value, and what it refuses has none
-abbrev pub ReadsDigit : ℕ → Type 0
-ReadsDigit byte =
-    MatchResult (decode_sized (48 ∷ byte ∷ []) 1) (λ octets. Some (get_or octets 0 0) ≡ hex_digit_value byte)
-    (λ e. None ≡ hex_digit_value byte)
-
-reads_value : (byte : ℕ) (value : Option ℕ) → hex_digit_value byte ≡ value → ReadsDigit byte
-unfolding hex_on_literals
-reads_value byte (Some value) p = rw p (ap (λ (n : ℕ). Some n) (omega arith))
-reads_value byte None p = rw p refl
-
-pub reads_digit : (byte : ℕ) → ReadsDigit byte
-reads_digit byte = reads_value byte (hex_digit_value byte) refl
-
 -- whether a digit's value is below 16
 abbrev is_small : Option ℕ → Bool
 is_small (Some value) = nat_lt value 16

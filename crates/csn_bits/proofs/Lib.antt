@@ -5,6 +5,7 @@ pub mod PackedFacts
 pub mod OctetNumbers
 pub mod HexDigits
 pub mod Digits
+pub mod DigitValues
 pub mod Faults
 pub mod Feeding
 pub mod Written

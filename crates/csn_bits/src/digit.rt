@@ -1,11 +1,28 @@
 //! The digits of block lines.
-ghost use Rattle.std.specs.Prelude.{◌≡◌, ◌+◌, ◌*◌, ◌<◌, ◌≤◌, [], ◌∷◌, length, take, IfErr, OnOk, Some};
+ghost use Rattle.std.specs.Prelude.{◌≡◌, ◌+◌, ◌*◌, ◌<◌, ◌≤◌, [], ◌∷◌, length, take, IfSome, Some};
 ghost use Rattle.std.specs.Option.{ForSome};
 ghost use Rattle.hex.specs.Hex.{hex_digit_value};
 ghost use Rattle.csn_bits.specs.Feed.{AreDigits};
 ghost use Rattle.csn_bits.specs.Line.{bits_of_tail, octets_of_digits};
 
-use hex::{FromHex, FromHexError};
+/// The value of each byte that is a digit in either case, and 255 of any other. One digit is as likely as another, so that the
+/// processor could not foresee a branch on them.
+static DIGIT_VALUES: [u8; 256] = [
+    255, 255, 255, 255, 255, 255, 255, 255, 255, 255, 255, 255, 255, 255, 255, 255, 255, 255, 255,
+    255, 255, 255, 255, 255, 255, 255, 255, 255, 255, 255, 255, 255, 255, 255, 255, 255, 255, 255,
+    255, 255, 255, 255, 255, 255, 255, 255, 255, 255, 0, 1, 2, 3, 4, 5, 6, 7, 8, 9, 255, 255, 255,
+    255, 255, 255, 255, 10, 11, 12, 13, 14, 15, 255, 255, 255, 255, 255, 255, 255, 255, 255, 255,
+    255, 255, 255, 255, 255, 255, 255, 255, 255, 255, 255, 255, 255, 255, 255, 255, 10, 11, 12, 13,
+    14, 15, 255, 255, 255, 255, 255, 255, 255, 255, 255, 255, 255, 255, 255, 255, 255, 255, 255,
+    255, 255, 255, 255, 255, 255, 255, 255, 255, 255, 255, 255, 255, 255, 255, 255, 255, 255, 255,
+    255, 255, 255, 255, 255, 255, 255, 255, 255, 255, 255, 255, 255, 255, 255, 255, 255, 255, 255,
+    255, 255, 255, 255, 255, 255, 255, 255, 255, 255, 255, 255, 255, 255, 255, 255, 255, 255, 255,
+    255, 255, 255, 255, 255, 255, 255, 255, 255, 255, 255, 255, 255, 255, 255, 255, 255, 255, 255,
+    255, 255, 255, 255, 255, 255, 255, 255, 255, 255, 255, 255, 255, 255, 255, 255, 255, 255, 255,
+    255, 255, 255, 255, 255, 255, 255, 255, 255, 255, 255, 255, 255, 255, 255, 255, 255, 255, 255,
+    255, 255, 255, 255, 255, 255, 255, 255, 255, 255, 255, 255, 255, 255, 255, 255, 255, 255, 255,
+    255, 255, 255,
+];
 
 /// The value of a digit in either case, below 16; None where the byte is no digit.
 #[inline]
@@ -13,28 +30,19 @@ pub fn digit_value(byte: u8) -> Option<u8>
     ensures value { result ≡ hex_digit_value byte }
     ensures small { ForSome result (λ v. v < 16) }
 {
-    // hex reads digits by pairs, so a 0 stands before this one
-    match <[u8; 1]>::from_hex([b'0', byte]) {
-        Ok(octets) => Some(octets[0]),
-        Err(_) => None,
-    }
+    let value = DIGIT_VALUES[usize::from(byte)];
+    if value < 16 { Some(value) } else { None }
 }
 
-/// Writes the octets of so many pairs of digits, which the bytes begin with, into the front of the room. Where they are not
-/// all digits, it answers how many pairs are.
-fn decode_front(bytes: &[u8], count: usize, room: &mut [u8]) -> Result<(), usize>
-    requires bytes { 2 * count ≤ length bytes.now }
-    requires room { count ≤ length room.old }
-    ensures digits { OnOk result (AreDigits (take (2 * count) bytes.now)) }
-    ensures octets { OnOk result (take count room.new ≡ octets_of_digits (take (2 * count) bytes.now)) }
-    ensures fewer { IfErr result (λ fewer. fewer ≤ count) }
-    ensures room { length room.new ≡ length room.old }
+/// The octet that two digits write.
+#[inline(always)]
+fn octet_of(high: u8, low: u8) -> Option<u8>
+    ensures { IfSome result (λ octet. AreDigits (high ∷ low ∷ []) × (octet ∷ [] ≡ octets_of_digits (high ∷ low ∷ []))) }
 {
-    match hex::decode_to_slice(&bytes[..2 * count], &mut room[..count]) {
-        Ok(()) => Ok(()),
-        Err(FromHexError::InvalidHexCharacter { index, .. }) => Err(count.min(index / 2)),
-        Err(_) => Err(0),
-    }
+    let (Some(first), Some(second)) = (digit_value(high), digit_value(low)) else {
+        return None;
+    };
+    Some(16 * first + second)
 }
 
 /// Writes the octets of the whole pairs of digits that some bytes begin with into the front of the room, and answers how
@@ -47,13 +55,13 @@ pub fn decode_pairs(bytes: &[u8], room: &mut [u8]) -> usize
     ensures room { length room.new ≡ length room.old }
 {
     let count = bytes.len() / 2;
-    let Err(fewer) = decode_front(bytes, count, room) else {
-        return count;
-    };
-    match decode_front(bytes, fewer, room) {
-        Ok(()) => fewer,
-        Err(_) => 0,
+    for at in 0..count {
+        let Some(octet) = octet_of(bytes[2 * at], bytes[2 * at + 1]) else {
+            return at;
+        };
+        room[at] = octet;
     }
+    count
 }
 
 /// How many bits of the last octet belong to a block, where its tail has this one byte.

@@ -10,6 +10,7 @@ mod packed;
 mod pattern;
 
 pub use bits::{Bits, MOST_BITS};
+pub use digit::digit_value;
 pub use fault::{BitsFault, LineWhy, NoMemory};
 pub use feed::{HexEnd, HexFeed, HexStep, MOST_LINE, Pairs};
 pub use packed::{MOST_ADDED, PackedBits};

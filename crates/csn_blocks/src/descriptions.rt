@@ -50,11 +50,11 @@ fn line_of_conflict(alloc: Global, conflict: &Conflict) -> Result<String, AllocE
             octet,
             i,
             j,
-            word_i,
-            word_j,
+            word_i: first,
+            word_j: second,
         } => {
-            let first = digits_of(alloc, word_i)?;
-            let second = digits_of(alloc, word_j)?;
+            let first = digits_of(alloc, first)?;
+            let second = digits_of(alloc, second)?;
             format!(in alloc; "conflict 3 {node} {octet} {i} {j} {first} {second}")
         }
         Conflict::EmptyClash { node, octet, bit } => {

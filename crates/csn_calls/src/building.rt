@@ -36,7 +36,7 @@ pub(crate) fn literal(alloc: Global, symbols: &[Symbol]) -> Result<Head, Fail> {
         if run.len() >= MOST_SYMBOLS {
             return Err("too many symbols".into());
         }
-        run.push(*symbol).map_err(|_| "out of memory")?;
+        run.add(*symbol).map_err(|_| "out of memory")?;
     }
     Ok(Head::Lits(run))
 }

@@ -5,7 +5,7 @@ use Rattle.std.specs.List.{AllByRecursion}
 use Rattle.csn_cert.specs.PatternV.{PatternV}
 use Rattle.csn_cert.specs.PatternText.{ComesBefore}
 use Rattle.csn_cert.specs.CertificateV.{NodeV, PositionV, Rises, IsPattern, IsPosition, IsNode, IsCertificate}
-use Rattle.csn_cert.specs.Growing.{last_of, at_last, node_with, position_with, node_with_pattern, with_position, with_pattern, last_position, last_position_of, last_pattern, last_pattern_of}
+use Rattle.csn_cert.specs.Growing.{last_of, at_last, node_with, position_with, node_with_pattern, with_position, with_pattern, last_position, last_pattern, last_in}
 
 -- ---- the last of a list
 
@@ -65,7 +65,7 @@ node_there [] some = absurd (cc)
 node_there (n ∷ rest) some = omega arith
 
 pub position_there : (c : List NodeV) (n : NodeV) → last_of c ≡ Some n → IsSome (last_position c) → 0 < length n.positions
-position_there c n is some = let P : Option NodeV → Type 0 = λ o. IsSome (last_position_of o) in some_last n.positions (subst P is some)
+position_there c n is some = let P : Option NodeV → Type 0 = λ o. IsSome (last_in (λ (n : NodeV). n.positions) o) in some_last n.positions (subst P is some)
 
 pub All-get : {A : Type 0} (P : A → Type 0) (xs : List A) (k : ℕ) (x : A) → AllByRecursion P xs → slice_get xs k ≡ Some x → P x
 All-get P [] k x each is = absurd (cc)
@@ -96,11 +96,11 @@ position_grown p k is new after =
     }
 
 -- the last position may take the pattern
-last_position_grown : (k : PatternV) (o : Option PositionV) → IsPattern k → IfSome (last_pattern_of o) (λ q. ComesBefore q k) → IfSome o (λ p. IsPosition p → IsPosition (position_with k p))
+last_position_grown : (k : PatternV) (o : Option PositionV) → IsPattern k → IfSome (last_in (λ (p : PositionV). p.patterns) o) (λ q. ComesBefore q k) → IfSome o (λ p. IsPosition p → IsPosition (position_with k p))
 last_position_grown k None new after = tt
 last_position_grown k (Some p) new after = λ is. position_grown p k is new after
 
-node_grown_by_pattern : (n : NodeV) (k : PatternV) → IsNode n → IsPattern k → IfSome (last_pattern_of (last_of n.positions)) (λ q. ComesBefore q k) → IsNode (node_with_pattern k n)
+node_grown_by_pattern : (n : NodeV) (k : PatternV) → IsNode n → IsPattern k → IfSome (last_in (λ (p : PositionV). p.patterns) (last_of n.positions)) (λ q. ComesBefore q k) → IsNode (node_with_pattern k n)
 node_grown_by_pattern n k is new after =
     record {
       follow = is.follow;
@@ -108,11 +108,11 @@ node_grown_by_pattern n k is new after =
       rising = Rises-at_last (λ x y. x.octet < y.octet) (position_with k) (λ x y low. low) n.positions is.rising;
     }
 
-last_node_grown : (p : PositionV) (o : Option NodeV) → IsPosition p → IfSome (last_position_of o) (λ q. q.octet < p.octet) → IfSome o (λ n. IsNode n → IsNode (node_with p n))
+last_node_grown : (p : PositionV) (o : Option NodeV) → IsPosition p → IfSome (last_in (λ (n : NodeV). n.positions) o) (λ q. q.octet < p.octet) → IfSome o (λ n. IsNode n → IsNode (node_with p n))
 last_node_grown p None new after = tt
 last_node_grown p (Some n) new after = λ is. node_grown n p is new after
 
-last_node_grown_by_pattern : (k : PatternV) (o : Option NodeV) → IsPattern k → IfSome (last_pattern_of (last_position_of o)) (λ q. ComesBefore q k) → IfSome o (λ n. IsNode n → IsNode (node_with_pattern k n))
+last_node_grown_by_pattern : (k : PatternV) (o : Option NodeV) → IsPattern k → IfSome (last_in (λ (p : PositionV). p.patterns) (last_in (λ (n : NodeV). n.positions) o)) (λ q. ComesBefore q k) → IfSome o (λ n. IsNode n → IsNode (node_with_pattern k n))
 last_node_grown_by_pattern k None new after = tt
 last_node_grown_by_pattern k (Some n) new after = λ is. node_grown_by_pattern n k is new after
 

@@ -35,23 +35,18 @@ with_position p = at_last (node_with p)
 abbrev pub with_pattern : PatternV → List NodeV → List NodeV
 with_pattern k = at_last (node_with_pattern k)
 
--- the last position of a node, if there is a node and it has one
-abbrev pub last_position_of : Option NodeV → Option PositionV
-last_position_of None = None
-last_position_of (Some n) = last_of n.positions
+-- the last of what a thing has, if there is a thing and it has some
+abbrev pub last_in : {A B : Type 0} → (A → List B) → Option A → Option B
+last_in has None = None
+last_in has (Some x) = last_of (has x)
 
 -- the last position of the last node
 abbrev pub last_position : List NodeV → Option PositionV
-last_position nodes = last_position_of (last_of nodes)
-
--- the last pattern of a position, if there is a position and it has one
-abbrev pub last_pattern_of : Option PositionV → Option PatternV
-last_pattern_of None = None
-last_pattern_of (Some p) = last_of p.patterns
+last_position nodes = last_in (λ (n : NodeV). n.positions) (last_of nodes)
 
 -- the last pattern of the last position
 abbrev pub last_pattern : List NodeV → Option PatternV
-last_pattern nodes = last_pattern_of (last_position nodes)
+last_pattern nodes = last_in (λ (p : PositionV). p.patterns) (last_position nodes)
 
 -- what is claimed of a node at an octet position, if it is
 abbrev pub claimed_of : Option NodeV → ℕ → Option PositionV

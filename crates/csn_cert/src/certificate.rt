@@ -20,13 +20,12 @@ pub(crate) struct Position {
 }
 
 impl Model for Position {
+    ghost use Rattle.std.specs.Prelude.{length, ◌≤◌};
     ghost use Rattle.csn_cert.specs.CertificateV.{PositionV};
 
     ghost Value = { PositionV };
 
     ghost view = { λ p. record { octet = p.octet; ends = p.ends; start = p.start; patterns = p.patterns.items } };
-
-    ghost use Rattle.std.specs.Prelude.{length, ◌≤◌};
 
     ghost invariant = { λ p. length p.patterns.items ≤ 4294967295 };
 }
@@ -83,9 +82,7 @@ impl Certificate {
     pub fn new(alloc: Global) -> Certificate
         ensures { result ≡ [] }
     {
-        Certificate {
-            nodes: Vec::new(alloc),
-        }
+        Certificate::of(Vec::new(alloc))
     }
 
     // The certificate with these claims.

@@ -82,32 +82,35 @@ fn a_text_is_read(rt: HostRuntime) -> Result<(), Fail> {
     Ok(())
 }
 
+// Texts of no certificate.
+const OTHERS: [&str; 22] = [
+    "",
+    "csn-cert 0",
+    "csn-cert 00\n",
+    "csn-cert 1\n",
+    "csn-cert 0\n\n",
+    "csn-cert  0\n",
+    "csn-cert 01\nnode 0 0 000000000000000000000000\n",
+    "csn-cert 1\nnode 1 0 000000000000000000000000\n",
+    "csn-cert 1\nnode 00 0 000000000000000000000000\n",
+    "csn-cert 1\nnode 0 2 000000000000000000000000\n",
+    "csn-cert 1\nnode 0 0 00000000000000000000000\n",
+    "csn-cert 1\nnode 0 0 000000000000000000000000",
+    "csn-cert 2\nnode 0 0 000000000000000000000000\n",
+    "csn-cert 0\nat 0 00000000 00 -\n",
+    "csn-cert 1\nnode 0 0 000000000000000000000000\nat 0 00000000 00 -\nat 0 00000000 00 -\n",
+    "csn-cert 1\nnode 0 0 000000000000000000000000\nat 8 00000000 00 -\n",
+    "csn-cert 1\nnode 0 0 000000000000000000000000\nat 0 00000000 00 \n",
+    "csn-cert 1\nnode 0 0 000000000000000000000000\nat 0 00000000 00 1!,0!\n",
+    "csn-cert 1\nnode 0 0 000000000000000000000000\nat 0 00000000 00 0!,0!\n",
+    "csn-cert 1\nnode 0 0 000000000000000000000000\nat 0 00000000 00 e0!\n",
+    "csn-cert 1\nnode 0 0 000000000000000000000000\nat 0 00000000 00 0!,\n",
+    "csn-cert 1\nnode 0 0 000000000000000000000000\nat 0 00000000 00 xxxxxxxxxxxxx!\n",
+];
+
 #[test]
 fn other_bytes_are_refused(rt: HostRuntime) -> Result<(), Fail> {
-    for text in [
-        "",
-        "csn-cert 0",
-        "csn-cert 00\n",
-        "csn-cert 1\n",
-        "csn-cert 0\n\n",
-        "csn-cert  0\n",
-        "csn-cert 01\nnode 0 0 000000000000000000000000\n",
-        "csn-cert 1\nnode 1 0 000000000000000000000000\n",
-        "csn-cert 1\nnode 00 0 000000000000000000000000\n",
-        "csn-cert 1\nnode 0 2 000000000000000000000000\n",
-        "csn-cert 1\nnode 0 0 00000000000000000000000\n",
-        "csn-cert 1\nnode 0 0 000000000000000000000000",
-        "csn-cert 2\nnode 0 0 000000000000000000000000\n",
-        "csn-cert 0\nat 0 00000000 00 -\n",
-        "csn-cert 1\nnode 0 0 000000000000000000000000\nat 0 00000000 00 -\nat 0 00000000 00 -\n",
-        "csn-cert 1\nnode 0 0 000000000000000000000000\nat 8 00000000 00 -\n",
-        "csn-cert 1\nnode 0 0 000000000000000000000000\nat 0 00000000 00 \n",
-        "csn-cert 1\nnode 0 0 000000000000000000000000\nat 0 00000000 00 1!,0!\n",
-        "csn-cert 1\nnode 0 0 000000000000000000000000\nat 0 00000000 00 0!,0!\n",
-        "csn-cert 1\nnode 0 0 000000000000000000000000\nat 0 00000000 00 e0!\n",
-        "csn-cert 1\nnode 0 0 000000000000000000000000\nat 0 00000000 00 0!,\n",
-        "csn-cert 1\nnode 0 0 000000000000000000000000\nat 0 00000000 00 xxxxxxxxxxxxx!\n",
-    ] {
+    for text in OTHERS {
         let refused = read_certificate(rt.alloc(), text.as_bytes());
         assert!(rt; matches!(&refused, Err(CertFault::Text)), "{text}");
     }

@@ -106,6 +106,7 @@ fn push_number(out: &mut Vec<u8>, number: u16) -> Result<(), NoMemory>
     ensures { OnOk result (out.new.items ≡ out.old.items ++ decimal number) }
 {
     let mut buffer = Buffer::new();
-    out.extend_from_slice(buffer.format(number).as_bytes())?;
+    let digits = buffer.format(number).as_bytes();
+    out.extend_from_slice(digits)?;
     Ok(())
 }

@@ -1,6 +1,6 @@
 -- Blocks of entries that are kept once, and the tables that they make.
-use Rattle.std.proofs.Common.{◌≡◌, ℕ, zero, suc, ◌+◌, ◌*◌, ◌/◌, ◌%◌, ◌^◌, ◌<◌, ◌⊎◌, inl, inr, Bool, true, false, List, [], ◌∷◌, ◌++◌, map, length, take, sym, ◌∙◌, ap, subst, arith, length-append, append-nil, get_or, refl, rules, Option}
-use Rattle.std.specs.Prelude.{slice_get, slice_index, slice_index_or, if◌then◌else◌, ◌&&◌, Some}
+use Rattle.std.proofs.Common.{◌≡◌, ◌≢◌, ℕ, zero, suc, ◌+◌, ◌*◌, ◌/◌, ◌%◌, ◌^◌, ◌<◌, ◌≤◌, ◌⊎◌, inl, inr, Bool, true, false, List, [], ◌∷◌, ◌++◌, map, length, take, sym, ◌∙◌, ap, subst, arith, length-append, append-nil, get_or, refl, rules, Option}
+use Rattle.std.specs.Prelude.{slice_get, slice_set, slice_index, slice_index_or, replicate, if◌then◌else◌, ◌&&◌, Some}
 use Rattle.std.specs.Option.{option_map}
 use Rattle.std.specs.List.{IsDistinct}
 use Rattle.std.specs.Cmp.Lexicographic.{pointwise}
@@ -8,7 +8,9 @@ use Rattle.std.proofs.Math.Seq.{get_or-append_seam}
 use Rattle.csn_desc.specs.Nodes.{DescV}
 use Rattle.csn_look.specs.KeyMarks.{place_of}
 use Rattle.csn_look.proofs.Basics.Places.{word_take}
-use Rattle.std.proofs.lemmas.List.{length-take, get_or_append_left, get_or-map, map-append, length-map}
+use Rattle.std.proofs.Math.ListN.{length-set}
+use Rattle.std.proofs.lemmas.List.{get_or-set_same, get_or-set_other, get_or_past, length-take, get_or_append_left, get_or-map, map-append, length-map}
+use Rattle.std.proofs.lemmas.Nat.{pow_pos}
 use Rattle.std.proofs.lemmas.Map.Keys.{apart_from_distinct}
 use Rattle.std.proofs.lemmas.Option.{slice_get_within, get_or_from_slice_get, slice_get_read, slice_get-map}
 use Rattle.csn_certify.specs.declared.pick_table.Entry.{Entry}
@@ -18,6 +20,9 @@ use Rattle.csn_certify.specs.declared.pick_table.KeptTable.{KeptTable}
 use Rattle.csn_certify.specs.PickTables.{PickTableV, HasEntries, entry_of, entry_in, blocks_at, table_in, IsBlockOf, AreFirstBlocks, AreOnce, IsWithin, AreWithin, IsTableOf, Tells, IsPickTable, AreEntries}
 use Rattle.csn_certify.proofs.PickTables.{place_within}
 use Rattle.csn_certify.specs.SameEntries.{same_entry, block_told}
+
+either : (m n : ℕ) → m < n + 1 → (m < n) ⊎ (m ≡ n)
+either m n le = grind arith
 
 -- the same blocks are told to be equal
 entry_itself : (a : Entry) → same_entry a a ≡ true
@@ -92,11 +97,56 @@ block_more entries block count number index old new more grown inside there is f
       ];
     }
   where
-    either : (m n : ℕ) → m < n + 1 → (m < n) ⊎ (m ≡ n)
-    either m n le = grind arith
-
     last : (at : ℕ) → at ≡ count → slice_index (index ++ number ∷ []) at ≡ number
     last at same = ap (λ n. slice_index (index ++ number ∷ []) n) (same ∙ sym first.size) ∙ get_or-append_seam index number [] 0
+
+-- ---- the first entries
+
+-- these are the first of some entries
+abbrev pub AreFirstEntries : List Entry → List Entry → Type 0
+AreFirstEntries entries first = (place : ℕ) → place < 8 → slice_index_or first place Refuse ≡ slice_index_or entries place Refuse
+
+-- so many of them are, and refusals stand behind these
+pub record AreFilled (entries first : List Entry) (count : ℕ) : Type 0 where
+  pub size : length first ≡ 8
+  pub same : (place : ℕ) → place < count → slice_index_or first place Refuse ≡ slice_index_or entries place Refuse
+  pub refused : (place : ℕ) → count ≤ place → slice_index_or first place Refuse ≡ Refuse
+
+refusals : (n place : ℕ) → slice_index_or (replicate n Refuse) place Refuse ≡ Refuse
+refusals zero place = refl
+refusals (suc n) zero = refl
+refusals (suc n) (suc place) = refusals n place
+
+pub none_filled : (entries : List Entry) → AreFilled entries (replicate 8 Refuse) 0
+none_filled entries = record { size = refl; same = λ place less. absurd (omega arith); refused = λ place any. refusals 8 place }
+
+pub entry_filled : (entries first : List Entry) (count : ℕ) (entry : Entry) → count < 8 → slice_get entries count ≡ Some entry → AreFilled entries first count → AreFilled entries (slice_set first count entry) (count + 1)
+entry_filled entries first count entry room there are =
+    let size = are.size in
+    let other : (place : ℕ) → place ≢ count → slice_index_or (slice_set first count entry) place Refuse ≡ slice_index_or first place Refuse =
+    λ place apart. get_or-set_other first count place entry Refuse apart in
+    record {
+      size = length-set first count entry ∙ size;
+      same = λ place less. elim (either place count less) [
+        | inl low ↦ other place (omega (arith, low)) ∙ are.same place low
+        | inr is ↦
+            let put : slice_index_or (slice_set first count entry) count Refuse ≡ entry = get_or-set_same first count entry Refuse (omega (arith, room, size)) in
+            ap (λ n. slice_index_or (slice_set first count entry) n Refuse) is ∙ put ∙ sym (get_or_from_slice_get entries count entry Refuse there)
+            ∙ ap (λ n. slice_index_or entries n Refuse) (sym is)
+      ];
+      refused = λ place high. other place (omega (arith, high)) ∙ are.refused place (omega (arith, high));
+    }
+
+pub refusal_filled : (entries first : List Entry) (count : ℕ) → length entries ≤ count → AreFilled entries first count → AreFilled entries first (count + 1)
+refusal_filled entries first count none are =
+    record {
+      size = are.size;
+      same = λ place less. elim (either place count less) [
+        | inl low ↦ are.same place low
+        | inr is ↦ are.refused place (omega (arith, is)) ∙ sym (get_or_past entries place Refuse (omega (arith, none, is)))
+      ];
+      refused = λ place high. are.refused place (omega (arith, high));
+    }
 
 -- ---- what a table says
 
@@ -132,22 +182,32 @@ same_tables (t ∷ tables) old new more grown within =
 pub still_within : (old new more : List (List Entry)) (t : KeptTable) → new ≡ old ++ more → IsWithin old t → IsWithin new t
 still_within old new more t grown is =
     let longer = ap length grown ∙ length-append old more in
-    record { short = is.short; enough = is.enough; within = λ at less. let before = is.within at less in omega (arith, before, longer) }
+    let same = same_blocks t.index.items old new more grown is.within in
+    record {
+      short = is.short;
+      enough = is.enough;
+      within = λ at less. let before = is.within at less in omega (arith, before, longer);
+      first = λ place less. is.first place less ∙ ap (λ l. entry_in l place) (sym same);
+    }
 
 pub all_still_within : (old new more : List (List Entry)) (tables : List KeptTable) → new ≡ old ++ more → AreWithin old tables → AreWithin new tables
 all_still_within old new more tables grown all at t there = still_within old new more t grown (all at t there)
 
 -- a table of some entries, in blocks of all of them
-pub kept_within : (filled : Filled) (t : KeptTable) (blocks : List (List Entry)) → HasEntries filled.width filled.entries.items → t.width ≡ filled.width → AreFirstBlocks filled.entries.items ((length filled.entries.items + 63) / 64) t.index.items blocks → IsWithin blocks t
-kept_within filled t blocks has width first =
+pub kept_within : (filled : Filled) (t : KeptTable) (blocks : List (List Entry)) → HasEntries filled.width filled.entries.items → t.width ≡ filled.width → AreFirstEntries filled.entries.items t.first → AreFirstBlocks filled.entries.items ((length filled.entries.items + 63) / 64) t.index.items blocks → IsWithin blocks t
+kept_within filled t blocks has width front first =
     let short = has.short in
     let count = has.count in
     let size = first.size in
     let power : 2 ^ (t.width + 1) ≡ 2 ^ (filled.width + 1) = ap (λ n. 2 ^ (n + 1)) width in
+    let some : 1 ≤ (length filled.entries.items + 63) / 64 = let two : 0 < 2 ^ (filled.width + 1) = pow_pos (filled.width + 1) in omega (arith, count, two) in
     record {
       short = omega (arith, short, width);
       enough = omega (arith, power, count, size);
       within = λ at less. first.within at (omega (arith, less, size));
+      first = λ place less.
+          front place less
+          ∙ sym (blocks_read filled.entries.items t.index.items blocks ((length filled.entries.items + 63) / 64) place first (omega (arith, less, some)));
     }
 
 pub kept_table : (filled : Filled) (t : KeptTable) (blocks : List (List Entry)) → HasEntries filled.width filled.entries.items → t.none ≡ filled.none → t.width ≡ filled.width → AreFirstBlocks filled.entries.items ((length filled.entries.items + 63) / 64) t.index.items blocks → IsTableOf filled (table_in blocks t)

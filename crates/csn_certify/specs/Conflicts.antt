@@ -78,13 +78,14 @@ module _ (d : DescV) (most : ℕ) where
 abbrev pub text_of : List ℕ → List ℕ
 text_of word = map suc word ++ 0 ∷ []
 
--- the kinds of conflict at a node, in the order in which they are told; those that speak of an octet position are one
+-- the kinds of conflict at a node, in the order in which they are told
 abbrev pub rank_two_empty : ℕ
 rank_two_empty = 1
 
 abbrev pub rank_not_firm : ℕ
 rank_not_firm = 2
 
+-- those that speak of an octet position are one
 abbrev pub rank_octets : ℕ
 rank_octets = 3
 

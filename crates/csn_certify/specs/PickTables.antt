@@ -8,6 +8,7 @@ use Rattle.csn_desc.specs.Nodes.{DescV}
 use Rattle.csn_look.specs.Reached.{Reached}
 use Rattle.csn_look.specs.KeyMarks.{IsWord, place_of}
 use Rattle.csn_certify.specs.declared.pick_blocks.TheConstants.{BLOCK}
+use Rattle.csn_certify.specs.declared.pick_table.TheConstants.{FIRST}
 use Rattle.csn_certify.specs.declared.pick_table.Entry.{Entry}
 use Rattle.csn_certify.specs.declared.pick_table.Filled.{Filled}
 use Rattle.csn_certify.specs.declared.pick_table.KeptTable.{KeptTable}
@@ -91,11 +92,17 @@ pub record IsTableOf (filled : Filled) (t : PickTableV) : Type 0 where
   pub entries :
       (held : List ℕ) → IsWord held → entry_at t held ≡ entry_of filled.entries.items (take filled.width held)
 
--- each word of at most as many bits as the width has its place in a block that is there
+-- the first entries are those of the first block
+abbrev pub AreFirst : List Entry → List (List Entry) → Type 0
+AreFirst first blocks = (place : ℕ) → place < FIRST → slice_index_or first place Refuse ≡ entry_in blocks place
+
+-- each word of at most as many bits as the width has its place in a block that is there, and the first ones stand with the
+-- table too
 pub record IsWithin (blocks : List (List Entry)) (t : KeptTable) : Type 0 where
   pub short : t.width ≤ 12
   pub enough : 2 ^ (t.width + 1) ≤ BLOCK * length t.index.items
   pub within : (at : ℕ) → at < length t.index.items → slice_index t.index.items at < length blocks
+  pub first : AreFirst t.first (blocks_at t.index.items blocks)
 
 abbrev pub AreWithin : List (List Entry) → List KeptTable → Type 0
 AreWithin blocks tables = (at : ℕ) (t : KeptTable) → slice_get tables at ≡ Some t → IsWithin blocks t

@@ -134,7 +134,7 @@ fn literal(run: &Run) -> Option<Layout>
     }
     let mut number = 0;
     for at in 0..width {
-        number = 2 * number + same_bit(run.get(at))?;
+        number = 2 * number + same_bit(*run.get(at))?;
     }
     Some(Layout {
         width,

@@ -1,11 +1,11 @@
 //! What look-ahead answers, from the keys of alternatives and from what a repetition's part begins with.
 
 ghost use Rattle.std.specs.Prelude.{◌≡◌, ℕ, List, ◌<◌, ◌≤◌, ◌↔◌, ◌&&◌, not, if◌then◌else◌, length, slice_get, Some, IsTrue};
-ghost use Rattle.csn_look.specs.Signs.{bit_of_sign};
 ghost use Rattle.csn_look.specs.Starts.{InStart};
 ghost use Rattle.csn_look.specs.Reached.{Reached};
 ghost use Rattle.csn_certify.specs.Plans.{IsReady};
 ghost use Rattle.csn_certify.specs.Picks.{IsAsked, StandsBehind, Picks};
+ghost use Rattle.csn_look.specs.Signs.{bit_of_sign};
 ghost use Rattle.csn_certify.specs.Choosing.{AreWithoutKey};
 
 use crate::pick_table::Entry;

@@ -1,7 +1,8 @@
 //! What look-ahead tells at a choice, in one table for all held bits.
 
-ghost use Rattle.std.specs.Prelude.{◌≡◌, ◌+◌, ◌^◌, ◌<◌, ◌≤◌, length};
+ghost use Rattle.std.specs.Prelude.{◌≡◌, ℕ, ◌+◌, ◌^◌, ◌<◌, ◌≤◌, length, slice_index_or};
 ghost use Rattle.csn_look.specs.KeyMarks.{IsWord};
+ghost use Rattle.csn_certify.specs.declared.pick_table.Entry.TheVariants.{Refuse};
 ghost use Rattle.csn_certify.specs.PickTables.{entry_at, number_of, table_in, IsWithin};
 
 use crate::pick_blocks::{BLOCK, Blocks};
@@ -42,11 +43,16 @@ pub(crate) struct Filled {
     pub entries: Vec<Entry>,
 }
 
-/// The same, where the entries are kept in blocks: which block stands at each place.
+/// How many entries a table keeps by itself: those of words of at most two bits, which most choices need no more of.
+pub(crate) const FIRST: usize = 8;
+
+/// The same, where the entries are kept in blocks: which block stands at each place. The first entries stand here too, so
+/// that one look does for them.
 #[derive(Debug, Drop)]
 pub(crate) struct KeptTable {
     pub none: Option<u16>,
     pub width: u8,
+    pub first: [Entry; FIRST],
     pub index: Vec<u32>,
 }
 
@@ -91,7 +97,23 @@ impl<'a> PickTable<'a> {
     {
         let over = held.len().saturating_sub(self.table.width);
         let place = held.place() >> over;
+        if place < FIRST {
+            return self.table.first[place];
+        }
         let block = self.table.index[place / BLOCK];
         self.blocks.entry(block as usize, place % BLOCK)
     }
+}
+
+/// The first entries of a choice, with refusals where there are fewer.
+pub(crate) fn first_of(entries: &[Entry]) -> [Entry; FIRST]
+    ensures { (place : ℕ) → place < FIRST → slice_index_or result place Refuse ≡ slice_index_or entries.now place Refuse }
+{
+    let mut first = [Entry::Refuse; FIRST];
+    for place in 0..FIRST {
+        if let Some(entry) = entries.get(place) {
+            first[place] = *entry;
+        }
+    }
+    first
 }

@@ -2,20 +2,20 @@
 
 ghost use Rattle.std.specs.Prelude.{◌≡◌, ℕ, List, ◌+◌, ◌*◌, ◌<◌, ◌≤◌, ◌++◌, [], ◌∷◌, length, slice_get, slice_set, Some, IsTrue, IfOk, IfSome};
 ghost use Rattle.csn_desc.specs.declared.node.Node.TheVariants.{Choice};
+ghost use Rattle.csn_certify.specs.Filling.{HaveSameTables};
+ghost use Rattle.csn_look.specs.Steps.{HasPartsBelow};
 ghost use Rattle.csn_look.specs.NodeSets.{IsLookOf};
 ghost use Rattle.csn_look.specs.LookKeys.{IsKeysOf};
+ghost use Rattle.csn_certify.specs.PickTables.{PickTableV, table_of, HasEntries, IsTableOf, HasNumber, HaveTables, ArePickTables};
 ghost use Rattle.csn_look.specs.ReachV.{IsReachOf};
 ghost use Rattle.csn_look.specs.FollowV.{IsFollowOf};
 ghost use Rattle.csn_look.specs.Reached.{Reached};
 ghost use Rattle.csn_certify.specs.Conflicts.{Certified};
 ghost use Rattle.csn_certify.specs.Search.{IsSurveyed};
-ghost use Rattle.csn_look.specs.Steps.{HasPartsBelow};
-ghost use Rattle.csn_certify.specs.PickTables.{PickTableV, table_of, HasEntries, IsTableOf, HasNumber, HaveTables, ArePickTables};
-ghost use Rattle.csn_certify.specs.Filling.{HaveSameTables};
 
 use crate::chooser::Chooser;
 use crate::pick_blocks::Blocks;
-use crate::pick_table::{Filled, KeptTable, PickTable};
+use crate::pick_table::{Filled, KeptTable, PickTable, first_of};
 use crate::search::Search;
 use csn_bits::NoMemory;
 use csn_desc::{Desc, Node, Parts};
@@ -189,6 +189,7 @@ impl PickTables {
         self.tables.push(KeptTable {
             none: filled.none,
             width: filled.width,
+            first: first_of(filled.entries.as_slice()),
             index,
         })?;
         Ok(number as u32)

@@ -75,13 +75,13 @@ module _ (d : DescV) (c : List NodeV) (claims : ClaimsLookAhead d c) where
   parts_start {o = o} (starts_later {i = i} middle none h others) = start.starts_later middle (nullable_known d c claims i none) (ends_known d c claims i o middle h) (parts_start others)
 
   pub node_starts : {n : Node} {o bit : ℕ} → NodeStarts d (claims_of c) n o bit → start.NodeStarts d n o bit
+  node_starts (starts_seq h) = start.starts_seq (parts_start h)
+  node_starts (starts_trunc h) = start.starts_trunc (parts_start h)
   node_starts (starts_lits same) = start.starts_lits same
   node_starts (starts_spare h) = start.starts_spare h
   node_starts (starts_pad h) = start.starts_pad h
   node_starts (starts_field h) = start.starts_field h
   node_starts (starts_rest h) = start.starts_rest h
-  node_starts (starts_seq h) = start.starts_seq (parts_start h)
-  node_starts (starts_trunc h) = start.starts_trunc (parts_start h)
   node_starts {o = o} {bit = bit} (starts_choice {i = i} j at h) = start.starts_choice j at (starts_known d c claims i o bit h)
   node_starts {o = o} {bit = bit} (starts_times {i = i} h) = start.starts_times (starts_known d c claims i o bit h)
   node_starts {o = o} {bit = bit} (starts_many {i = i} h) = start.starts_many (starts_known d c claims i o bit h)

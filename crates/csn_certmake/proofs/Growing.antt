@@ -6,7 +6,7 @@ use Rattle.std.proofs.lemmas.Option.{slice_get-get_or}
 use Rattle.csn_cert.specs.PatternV.{PatternV}
 use Rattle.csn_cert.specs.PatternText.{ComesBefore}
 use Rattle.csn_cert.specs.CertificateV.{Rises, NodeV, PositionV}
-use Rattle.csn_cert.specs.Growing.{last_of, at_last, node_with, position_with, with_position, node_with_pattern, with_pattern, last_position, last_position_of, last_pattern, last_pattern_of}
+use Rattle.csn_cert.specs.Growing.{last_of, at_last, node_with, position_with, with_position, node_with_pattern, with_pattern, last_position, last_pattern, last_in}
 
 pub last_push : {A : Type 0} (xs : List A) (x : A) → last_of (xs ++ x ∷ []) ≡ Some x
 last_push [] x = refl
@@ -36,7 +36,7 @@ new_position_is_last p c some =
     let here = parted c some in
     ap (λ l. last_position (with_position p l)) here.is
     ∙ ap last_position (at_last_push (node_with p) here.front here.last)
-    ∙ ap last_position_of (last_push here.front (node_with p here.last))
+    ∙ ap (last_in (λ (n : NodeV). n.positions)) (last_push here.front (node_with p here.last))
     ∙ last_push here.last.positions p
 
 pub one_pattern_more : (k : PatternV) (p : PositionV) (c : List NodeV) → 0 < length c → with_pattern k (with_position p c) ≡ with_position (position_with k p) c
@@ -62,7 +62,7 @@ there_is_a_position c after p some is = (let last : last_position after ≡ Some
 
 pub next_is_in_order : (c after : List NodeV) (p : PositionV) (patterns : List PatternV) (at : ℕ) (next : PatternV) → 0 < length c → after ≡ with_position p c → p.patterns ≡ take at patterns → Rises ComesBefore patterns → slice_get patterns at ≡ Some next → IfSome (last_pattern after) (λ last. ComesBefore last next)
 next_is_in_order c after p patterns at next some is has rises there =
-    let last : last_pattern after ≡ last_of (take at patterns) = ap last_pattern_of (ap last_position is ∙ new_position_is_last p c some) ∙ ap last_of has in
+    let last : last_pattern after ≡ last_of (take at patterns) = ap (last_in (λ (p : PositionV). p.patterns)) (ap last_position is ∙ new_position_is_last p c some) ∙ ap last_of has in
     subst (λ (o : Option PatternV). IfSome o (λ last. ComesBefore last next)) (sym last) (next_comes_after patterns at next rises there)
 
 -- the pattern at a place, as a loop takes it

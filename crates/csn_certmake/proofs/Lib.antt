@@ -1,6 +1,5 @@
 mod Orders
 mod Shortening
-mod Spelling
 mod Rows
 mod Members
 mod Nodes

@@ -10,8 +10,8 @@ use Rattle.csn_desc.specs.Nodes.{parts_of}
 use Rattle.csn_cert.specs.PatternV.{PatternV}
 use Rattle.csn_cert.specs.CertificateV.{NodeV}
 use Rattle.csn_good.specs.ClaimedSets as claims
-use Rattle.csn_good.specs.Patterns.{unread, PartsPatterns, parts_none, parts_cut, parts_whole, TimesPatterns, times_none, times_cut, times_whole, NodePatterns, patterns_lits, patterns_field, patterns_spare, patterns_pad, patterns_null, patterns_rest, patterns_many, patterns_trunc, patterns_window, patterns_counted_field, patterns_counted_times, patterns_seq, patterns_times, patterns_choice, patterns_named}
-use Rattle.csn_certmake.specs.Patterns.{joined, before_all, sequence_of, times_of, choice_of, patterns_at, node_patterns, leaf_pattern}
+use Rattle.csn_good.specs.Patterns.{unread, leaf_pattern, PartsPatterns, parts_none, parts_cut, parts_whole, TimesPatterns, times_none, times_cut, times_whole, NodePatterns, patterns_lits, patterns_field, patterns_spare, patterns_pad, patterns_null, patterns_rest, patterns_many, patterns_trunc, patterns_window, patterns_counted_field, patterns_counted_times, patterns_seq, patterns_times, patterns_choice, patterns_named}
+use Rattle.csn_certmake.specs.Patterns.{joined, before_all, sequence_of, times_of, choice_of, patterns_at, node_patterns}
 use Rattle.csn_certmake.proofs.Members.{from_flat, to_flat, from_map, to_map}
 
 only : (p q : PatternV) → Contains (p ∷ []) q → q ≡ p

@@ -4,7 +4,8 @@ use Rattle.csn_desc.specs.declared.reading.Reading.{Reading}
 use Rattle.csn_desc.specs.declared.node.Node.{Node}
 use Rattle.csn_desc.specs.Nodes.{parts_of}
 use Rattle.csn_cert.specs.PatternV.{PatternV}
-use Rattle.csn_certmake.specs.Patterns.{IsRow, AreRows, leaf_pattern, node_patterns, patterns_in}
+use Rattle.csn_good.specs.Patterns.{leaf_pattern}
+use Rattle.csn_certmake.specs.Patterns.{IsRow, AreRows, node_patterns, patterns_in}
 use Rattle.csn_certmake.proofs.Rows.{row_read}
 
 -- the rows of the parts of a node that is known

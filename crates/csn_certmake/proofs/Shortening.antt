@@ -1,18 +1,17 @@
 -- Marks that are pushed one by one, and patterns that are cut to twelve of them.
-use Rattle.std.proofs.Common.{◌≡◌, ℕ, ◌+◌, ◌-◌, ◌<◌, ◌≤◌, min, Bool, true, false, ◌&&◌, List, ◌++◌, length, take, replicate, refl, sym, ap, ◌∙◌, arith}
+use Rattle.std.proofs.Common.{◌≡◌, ℕ, ◌+◌, ◌-◌, ◌<◌, ◌≤◌, min, Bool, true, false, ◌&&◌, List, ◌++◌, length, take, refl, sym, ap, ◌∙◌, arith}
 use Rattle.std.specs.Prelude.{nat_le}
 use Rattle.std.proofs.lemmas.Bool.Decides.{nat_tests}
-use Rattle.std.proofs.lemmas.List.{take_all, length-append, length-replicate, take-replicate}
+use Rattle.std.proofs.lemmas.List.{take_all, length-append}
 use Rattle.std.proofs.Math.Seq.{take-append-add}
 use Rattle.csn_cert.specs.declared.pattern.Mark.{Mark}
-use Rattle.csn_cert.specs.declared.pattern.Mark.TheVariants.{Any}
 use Rattle.csn_cert.specs.declared.pattern.TheConstants.{MOST_MARKS}
 use Rattle.csn_cert.specs.PatternV.{PatternV}
 use Rattle.csn_good.specs.Patterns.{shortened}
 use Rattle.csn_certmake.specs.Patterns.{joined}
 
 -- the first twelve of some marks, whole only where these are all, are the marks shortened
-pub shortened_by : (marks : List Mark) (whole told : Bool) (count : ℕ) (test : Bool) → nat_le (length marks) MOST_MARKS ≡ test → count ≡ min (length marks) MOST_MARKS → told ≡ (whole && test) → record { marks = take count marks; whole = told } ≡ shortened marks whole
+shortened_by : (marks : List Mark) (whole told : Bool) (count : ℕ) (test : Bool) → nat_le (length marks) MOST_MARKS ≡ test → count ≡ min (length marks) MOST_MARKS → told ≡ (whole && test) → record { marks = take count marks; whole = told } ≡ shortened marks whole
 shortened_by marks whole told count true low is same =
     let small : length marks ≤ 12 = grind (arith, nat_tests, low) in
     let all : take count marks ≡ marks = take_all count marks (omega (arith, is, small)) in
@@ -48,10 +47,3 @@ joined_is first rest room count whole few is_room is same =
     same_tests (length rest.marks) room (length all) 12 (nat_le (length rest.marks) room) (nat_le (length all) 12) refl refl (λ low. omega (arith, low, long, is_room, few)) (λ low. omega (arith, low, long, is_room, few)) in
     ap (λ (m : List Mark). record { marks = m; whole = whole }) (sym (take-append-add first.marks rest.marks count))
     ∙ shortened_by all rest.whole whole (length first.marks + count) (nat_le (length all) 12) refl (omega (arith, is, long, is_room, few)) (same ∙ ap (λ b. rest.whole && b) test)
-
--- so many marks that are the same
-pub any_is : (count k : ℕ) (whole : Bool) → k ≡ min count 12 → whole ≡ nat_le count 12 → record { marks = replicate k Any; whole = whole } ≡ shortened (replicate count Any) true
-any_is count k whole is same =
-    let long : length (replicate count Any) ≡ count = length-replicate count Any in
-    ap (λ (m : List Mark). record { marks = m; whole = whole }) (sym (take-replicate k count Any (omega arith)))
-    ∙ shortened_by (replicate count Any) true whole k (nat_le (length (replicate count Any)) 12) refl (omega (arith, is, long)) (same ∙ ap (λ n. nat_le n 12) (sym long))

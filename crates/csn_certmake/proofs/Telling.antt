@@ -11,7 +11,7 @@ use Rattle.std.specs.FinSet as set
 use Rattle.csn_desc.specs.Nodes.{DescV}
 use Rattle.csn_cert.specs.PatternV.{PatternV}
 use Rattle.csn_cert.specs.CertificateV.{NodeV, PositionV}
-use Rattle.csn_cert.specs.Growing.{last_of, node_with, with_position, last_position, last_position_of}
+use Rattle.csn_cert.specs.Growing.{last_of, node_with, with_position, last_position, last_in}
 use Rattle.csn_look.specs.LookV.{LookV}
 use Rattle.csn_look.specs.ReachV.{ReachV}
 use Rattle.csn_look.specs.Told.{OctetsAre}
@@ -89,7 +89,7 @@ node_there look reach row i octet old new so = (let long : length new ≡ length
 
 pub position_below : (look : LookV) (reach : ReachV) (row : List (List PatternV)) (i octet : ℕ) (old new : List NodeV) → NodeSo look reach row i octet old new → IfSome (last_position new) (λ p. p.octet < octet)
 position_below look reach row i octet old new so =
-    let last : last_position new ≡ last_of so.node.positions = ap last_position so.added ∙ ap last_position_of (last_push old so.node) in
+    let last : last_position new ≡ last_of so.node.positions = ap last_position so.added ∙ ap (last_in (λ (n : NodeV). n.positions)) (last_push old so.node) in
     subst (λ (o : Option PositionV). IfSome o (λ p. p.octet < octet)) (sym last) (below_last so.node.positions octet so.below)
 
 -- what holds of each octet position and of one more

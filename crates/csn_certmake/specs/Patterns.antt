@@ -1,17 +1,14 @@
 -- Patterns of single nodes, and of one part after another. (This project's own choice.)
-use Rattle.std.specs.Prelude.{◌≡◌, ℕ, zero, suc, ◌+◌, ◌*◌, ◌%◌, ◌<◌, ◌≤◌, if◌then◌else◌, replicate, flat_map, slice_get, Some, true, false, List, [], ◌∷◌, ◌++◌, length, map, Contains, slice_index_or, ◌↔◌}
+use Rattle.std.specs.Prelude.{◌≡◌, ℕ, zero, suc, ◌+◌, ◌%◌, ◌<◌, ◌≤◌, if◌then◌else◌, flat_map, slice_get, Some, true, List, [], ◌∷◌, ◌++◌, length, map, Contains, slice_index_or, ◌↔◌}
 use Rattle.csn_desc.specs.declared.reading.Reading.{Reading}
-use Rattle.csn_desc.specs.declared.symbol.Symbol.TheVariants.{Low}
 use Rattle.csn_desc.specs.declared.node.Count.TheVariants.{Fixed, Counted}
 use Rattle.csn_desc.specs.declared.node.Count.{Count}
 use Rattle.csn_desc.specs.declared.node.Node.{Node}
-use Rattle.csn_desc.specs.declared.node.Node.TheVariants.{Lits, Spare, Pad, Null, Field, Seq, Choice, Times, Named}
-use Rattle.csn_desc.specs.Spelled.{spelled}
-use Rattle.csn_cert.specs.declared.pattern.Mark.TheVariants.{Any}
+use Rattle.csn_desc.specs.declared.node.Node.TheVariants.{Seq, Choice, Times, Named}
 use Rattle.csn_cert.specs.PatternV.{PatternV}
 use Rattle.csn_cert.specs.PatternText.{ComesBefore}
 use Rattle.csn_cert.specs.CertificateV.{Rises}
-use Rattle.csn_good.specs.Patterns.{mark_of, shortened, unread, spare_mark}
+use Rattle.csn_good.specs.Patterns.{leaf_pattern, shortened, unread}
 
 -- two patterns one after the other
 abbrev pub joined : PatternV → PatternV → PatternV
@@ -33,15 +30,6 @@ abbrev pub HasSame : List PatternV → List PatternV → Type 0
 HasSame patterns others = (p : PatternV) → Contains patterns p ↔ Contains others p
 
 -- ---- the equations
-
--- the pattern of a node that goes without its parts
-abbrev pub leaf_pattern : Reading → Node → ℕ → PatternV
-leaf_pattern reading (Lits run) octet = shortened (map mark_of (spelled run octet)) true
-leaf_pattern reading (Spare symbol) octet = record { marks = spare_mark reading symbol octet ∷ []; whole = true }
-leaf_pattern reading Pad octet = record { marks = spare_mark reading Low octet ∷ []; whole = false }
-leaf_pattern reading Null octet = record { marks = []; whole = true }
-leaf_pattern reading (Field unit (Fixed n)) octet = shortened (replicate (unit * n) Any) true
-leaf_pattern reading _ octet = unread
 
 -- a pattern at an octet position before what has these patterns at each octet position
 abbrev pub before_all : (ℕ → List PatternV) → ℕ → PatternV → List PatternV

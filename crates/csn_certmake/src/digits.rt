@@ -6,8 +6,8 @@ ghost use Rattle.csn_look.specs.Sums.{Has};
 ghost use Rattle.csn_look.specs.NodeSets.{IsLookOf};
 ghost use Rattle.csn_look.specs.FollowV.{IsFollowOf};
 ghost use Rattle.csn_look.specs.Starts.{InStart};
-ghost use Rattle.csn_look.specs.Reached.{InFollow};
 ghost use Rattle.csn_certmake.specs.Digits.{with_digit, DigitsAre, SaysFollow};
+ghost use Rattle.csn_look.specs.Reached.{InFollow};
 
 use csn_look::{Look, OctetSet, Reach, Sign};
 

@@ -5,7 +5,6 @@ mod digits;
 mod joining;
 pub mod laws;
 mod make;
-mod marks;
 mod pattern_table;
 mod row;
 

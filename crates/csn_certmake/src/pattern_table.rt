@@ -6,14 +6,15 @@ ghost use Rattle.csn_desc.specs.Formed.{IsDescription};
 ghost use Rattle.csn_desc.specs.declared.desc.TheConstants.{MOST_NODES};
 ghost use Rattle.csn_look.specs.ReachV.{IsReachOf};
 ghost use Rattle.csn_certmake.specs.Rows.{kept_if, IsReachedPart, HaveRows};
-ghost use Rattle.csn_certmake.specs.Patterns.{continued, leaf_pattern, patterns_in, IsRow, AreRows, sequence_of, times_of, turns_of, choice_of, patterns_at, node_patterns};
+ghost use Rattle.csn_good.specs.Patterns.{leaf_pattern};
+ghost use Rattle.csn_certmake.specs.Patterns.{continued, patterns_in, IsRow, AreRows, sequence_of, times_of, turns_of, choice_of, patterns_at, node_patterns};
 
 use crate::joining::{after, in_order};
-use crate::marks::{any_bits, literal, spare, unread};
 use crate::row::Row;
 use csn_bits::NoMemory;
 use csn_cert::Pattern;
-use csn_desc::{Count, Desc, Node, Parts, Reading, Symbol};
+use csn_desc::{Count, Desc, Node, Parts, Reading};
+use csn_good::leaf_pattern;
 use csn_look::{OctetSet, Reach};
 use std::alloc::Global;
 
@@ -105,7 +106,7 @@ fn turns(alloc: Global, count: Count, part: &Row) -> Result<Row, NoMemory>
             m: _,
             field: _,
             c: _,
-        } => each(alloc, unread()),
+        } => each(alloc, Pattern::new(false)),
     }
 }
 
@@ -118,24 +119,6 @@ fn alone(alloc: Global, reading: Reading, node: &Node) -> Result<Row, NoMemory>
         row.push(vec![in alloc; leaf_pattern(reading, node, octet)]?)?;
     }
     Ok(row)
-}
-
-/// The pattern of a node that goes without its parts.
-fn leaf_pattern(reading: Reading, node: &Node, octet: u8) -> Pattern
-    requires { octet ≤ 7 }
-    ensures { result ≡ leaf_pattern reading node.now octet }
-{
-    match node {
-        Node::Lits(run) => literal(run, octet),
-        Node::Spare(symbol) => spare(reading, *symbol, octet, true),
-        Node::Pad => spare(reading, Symbol::Low, octet, false),
-        Node::Null => Pattern::new(true),
-        Node::Field {
-            unit,
-            count: Count::Fixed(n),
-        } => any_bits(*unit as u64 * *n as u64),
-        _ => unread(),
-    }
 }
 
 /// One pattern at each octet position.

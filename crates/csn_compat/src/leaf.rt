@@ -50,7 +50,7 @@ fn have_same_symbols(run: &Run, other: &Run) -> bool
         return false;
     }
     for at in 0..run.len() {
-        if run.get(at) != other.get(at) {
+        if *run.get(at) != *other.get(at) {
             return false;
         }
     }

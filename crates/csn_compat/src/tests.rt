@@ -21,7 +21,7 @@ fn leaf(builder: &mut DescBuilder, head: Head) -> bool {
 
 fn literal(alloc: Global, builder: &mut DescBuilder, symbol: Symbol) -> Result<bool, Fail> {
     let mut run = Run::new(alloc);
-    run.push(symbol).map_err(|_| "out of memory")?;
+    run.add(symbol).map_err(|_| "out of memory")?;
     Ok(leaf(builder, Head::Lits(run)))
 }
 

@@ -155,6 +155,12 @@ module _ (d : DescV) where
   no_more : (i : ℕ) (front : List TreeV) (v : BuiltV) → inside_with i (Row front) v.bits v ≡ inside_with i (Row (front ++ [])) v.bits v
   no_more i front v = ap (λ l. inside_with i (Row l) v.bits v) (sym (append-nil front))
 
+  row_ends : (i : ℕ) (front : List TreeV) (v : BuiltV) (rest : List Move) {moves : List Move} {around others : List ℕ} {old new : Option BuiltV}
+      → moves ≡ [] → IsAt (inside_with i (Row front) v.bits v) old → Tells d Makes (i ∷ around) (moves ++ rest) others old new
+      → After (inside_with i (Row (front ++ [])) v.bits v) (i ∷ around) rest others new
+  row_ends i front v rest are here tells =
+      moved_after (no_more i front v) (record { state = _; tells = tells_moved (ap (λ l. l ++ rest) are) tells; at = here })
+
   only_part : {i at end : ℕ} → PartsSpan d.nodes (i ∷ []) at end → (middle : ℕ) × Spans d.nodes i middle
   only_part (span_next middle e h others) = (middle, h)
 
@@ -200,7 +206,7 @@ module _ (d : DescV) where
     node_grows (Many part) i v rest clear at parts (walk_many {ts = ts} h) here tells =
         row_grows (Many part) i ts v refl (λ tree r. r) (repeats_grow i [] v rest clear (only_part parts).1 h here tells)
     node_grows (Trunc ps) i v rest clear at parts (walk_trunc {ts = ts} h) here tells =
-        row_grows (Trunc ps) i ts v refl (λ tree r. r) (lead_grows i [] v rest clear parts h here tells)
+        row_grows (Trunc ps) i ts v refl (λ tree r. r) (lead_grows i [] v rest clear h parts here tells)
     node_grows (Window unit count part) i {t = t} v rest clear at parts (walk_window h) here tells =
         part_grows (Window unit count part) i part t t v refl
         (λ tree r. let same : r.0 ≡ record { node = part; tree = t } = cc in r.2 ∙ ap (λ (x : Ended). x.tree) same)
@@ -214,8 +220,7 @@ module _ (d : DescV) where
         → v.bits ≡ [] → PartsSpan d.nodes parts at end → PartsWalk d parts o ts moves → IsAt (inside_with i (Row front) v.bits v) old
         → Tells d Makes (i ∷ around) (moves ++ rest) others old new
         → After (inside_with i (Row (front ++ list_of ts)) v.bits v) (i ∷ around) rest others new
-    parts_grow i front v rest clear span (parts_end are) here tells =
-        moved_after (no_more i front v) (record { state = _; tells = tells_moved (ap (λ l. l ++ rest) are) tells; at = here })
+    parts_grow i front v rest clear span (parts_end are) here tells = row_ends i front v rest are here tells
     parts_grow i front v rest clear (span_next middle e span others) (parts_next {t = t} {ts = ts} first later are h hs) here tells =
         let there = walk_grows (inside_with i (Row front) v.bits v) (later ++ rest) clear span h here (tells_moved (ap (λ l. l ++ rest) are ∙ append_assoc first later rest) tells) in
         moved_after (one_more i front t (list_of ts) v) (parts_grow i (front ++ t ∷ []) v rest clear others hs there.at there.tells)
@@ -224,21 +229,19 @@ module _ (d : DescV) where
         → v.bits ≡ [] → Spans d.nodes part end → RepeatsWalk d part o ts moves → IsAt (inside_with i (Row front) v.bits v) old
         → Tells d Makes (i ∷ around) (moves ++ rest) others old new
         → After (inside_with i (Row (front ++ list_of ts)) v.bits v) (i ∷ around) rest others new
-    repeats_grow i front v rest clear span (repeats_end are) here tells =
-        moved_after (no_more i front v) (record { state = _; tells = tells_moved (ap (λ l. l ++ rest) are) tells; at = here })
+    repeats_grow i front v rest clear span (repeats_end are) here tells = row_ends i front v rest are here tells
     repeats_grow i front v rest clear span (repeats_next {t = t} {ts = ts} first later are h hs) here tells =
         let there = walk_grows (inside_with i (Row front) v.bits v) (later ++ rest) clear span h here (tells_moved (ap (λ l. l ++ rest) are ∙ append_assoc first later rest) tells) in
         moved_after (one_more i front t (list_of ts) v) (repeats_grow i (front ++ t ∷ []) v rest clear span hs there.at there.tells)
 
     lead_grows : (i : ℕ) (front : List TreeV) {parts : List ℕ} {o at end : ℕ} {ts : Trees} {moves : List Move} (v : BuiltV) (rest : List Move) {around others : List ℕ} {old new : Option BuiltV}
-        → v.bits ≡ [] → PartsSpan d.nodes parts at end → LeadWalk d parts o ts moves → IsAt (inside_with i (Row front) v.bits v) old
+        → v.bits ≡ [] → LeadWalk d parts o ts moves → PartsSpan d.nodes parts at end → IsAt (inside_with i (Row front) v.bits v) old
         → Tells d Makes (i ∷ around) (moves ++ rest) others old new
         → After (inside_with i (Row (front ++ list_of ts)) v.bits v) (i ∷ around) rest others new
-    lead_grows i front v rest clear span (lead_end are) here tells =
-        moved_after (no_more i front v) (record { state = _; tells = tells_moved (ap (λ l. l ++ rest) are) tells; at = here })
-    lead_grows i front v rest clear (span_next middle e span others) (lead_next {t = t} {ts = ts} first later are h hs) here tells =
+    lead_grows i front v rest clear (lead_end are) span here tells = row_ends i front v rest are here tells
+    lead_grows i front v rest clear (lead_next {t = t} {ts = ts} first later are h hs) (span_next middle e span others) here tells =
         let there = walk_grows (inside_with i (Row front) v.bits v) (later ++ rest) clear span h here (tells_moved (ap (λ l. l ++ rest) are ∙ append_assoc first later rest) tells) in
-        moved_after (one_more i front t (list_of ts) v) (lead_grows i (front ++ t ∷ []) v rest clear others hs there.at there.tells)
+        moved_after (one_more i front t (list_of ts) v) (lead_grows i (front ++ t ∷ []) v rest clear hs others there.at there.tells)
 
   -- ---- the moves of a block
 

@@ -3,6 +3,7 @@ pub mod TreeV
 pub mod TreeParts
 pub mod TreeCode
 pub mod ShapeView
+pub mod TreeFalls
 pub mod Nodes
 pub mod Spelled
 pub mod Values
@@ -20,3 +21,4 @@ pub mod Standing
 pub mod Crowds
 pub mod Laws
 pub mod Examples
+pub mod formers

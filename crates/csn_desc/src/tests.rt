@@ -42,9 +42,9 @@ fn a_label_grows_by_words(rt: HostRuntime) -> Result<(), Fail> {
 #[test]
 fn a_run_holds_its_symbols(rt: HostRuntime) -> Result<(), Fail> {
     let mut run = Run::new(rt.alloc());
-    run.push(Symbol::High).map_err(|_| "out of memory")?;
+    run.add(Symbol::High).map_err(|_| "out of memory")?;
     assert_eq!(rt; run.len(), 1);
-    assert_eq!(rt; run.get(0), Symbol::High);
+    assert_eq!(rt; *run.get(0), Symbol::High);
     Ok(())
 }
 

@@ -1,8 +1,6 @@
-ghost use Rattle.std.specs.Prelude.{◌≡◌, ◌<◌, ◌≤◌, [], ◌∷◌, ◌++◌, length, slice_get, OnOk, OnErr, IfErr};
-
 use crate::label::Label;
+use crate::listed::Listed;
 use csn_bits::Bits;
-use std::alloc::Global;
 use std::marker::Model;
 
 /// The most trees that a row holds.
@@ -32,12 +30,8 @@ pub enum Shape {
     Named(Label, Box<Tree>),
 }
 
-/// The trees of a row, in the order of the parts. A contract sees the list of them.
-#[cycle(tree)]
-#[derive(Drop)]
-pub struct Rows {
-    trees: Vec<Tree>,
-}
+/// The trees of a row, in the order of the parts.
+pub type Rows = Listed<Tree, MOST_TREES>;
 
 impl Model for Tree {
     ghost use Rattle.csn_desc.specs.TreeV.{TreeV};
@@ -54,65 +48,7 @@ impl Model for Tree {
 
     ghost size = { tree_size };
 
-    ghost size_decreases = { λ a h. Prim.grind arith };
-}
+    ghost use Rattle.csn_desc.specs.TreeFalls.{deep_le-tree_size};
 
-impl Model for Rows {
-    ghost use Rattle.csn_desc.specs.declared.tree.TheConstants.{MOST_TREES};
-    ghost use Rattle.std.specs.Prelude.{List, ◌≤◌, length};
-    ghost use Rattle.csn_desc.specs.TreeV.{TreeV};
-    ghost use Rattle.csn_desc.specs.TreeCode.{rows_code, rows_size, most_le-rows_size};
-    ghost use Rattle.std.proofs.Common.{arith};
-
-    ghost Value = { List TreeV };
-
-    ghost coded = { rows_code };
-
-    ghost view = { λ r. r.trees.items };
-
-    ghost invariant = { λ r. length r.trees.items ≤ MOST_TREES };
-
-    ghost size = { rows_size };
-
-    ghost size_decreases = { λ a h. omega (arith, most_le-rows_size a.trees.items) };
-}
-
-impl Rows {
-    /// No trees. It takes no memory.
-    pub fn new(alloc: Global) -> Rows
-        ensures { result ≡ [] }
-    {
-        Rows {
-            trees: Vec::new(alloc),
-        }
-    }
-
-    /// Adds a tree at the end. For want of memory it hands the tree back.
-    pub fn push(&mut self, tree: Tree) -> Result<(), Tree>
-        requires { length self.old < MOST_TREES }
-        ensures ok { OnOk result (self.new ≡ self.old ++ tree ∷ []) }
-        ensures err { OnErr result (self.new ≡ self.old) }
-        ensures handed_back { IfErr result (λ given. given ≡ tree) }
-    {
-        match self.trees.push(tree) {
-            Ok(()) => Ok(()),
-            Err(failed) => Err(failed.value),
-        }
-    }
-
-    /// How many trees there are.
-    pub fn len(&self) -> u32
-        ensures len { result ≡ length self.now }
-        ensures bound { result ≤ MOST_TREES }
-    {
-        self.trees.len() as u32
-    }
-
-    /// The tree at the place `at`, counted from 0.
-    pub fn get(&self, at: u32) -> &Tree
-        requires { at < length self.now }
-        ensures { slice_get self.now at ≡ Some result.now }
-    {
-        &self.trees[at as usize]
-    }
+    ghost size_decreases = { λ a h. omega (arith, deep_le-tree_size a.shape) };
 }

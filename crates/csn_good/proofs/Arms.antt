@@ -11,13 +11,25 @@ use Rattle.csn_desc.specs.Formed.{value_width}
 use Rattle.csn_look.specs.Ends.{MayCount, may_fixed, may_counted}
 use Rattle.csn_claims.specs.Claims.{Claims}
 use Rattle.csn_claims.specs.Ends.{NodeEnds, PartsEnd, ManyEnd, LeadEnd, ends_lits, ends_spare, ends_null, ends_pad, ends_rest, ends_field, ends_window, ends_seq, ends_choice, ends_times, ends_counted, ends_many, ends_trunc, ends_named}
-use Rattle.csn_good.specs.Octets.{has_octet, OctetsAre, OfSome, SomeEnds, TurnsEnd, PartsWithin}
+use Rattle.csn_good.specs.Octets.{has_octet, OctetsAre, OfSome, SomeEnds, TurnsEnd, NodeWithin, PartsWithin}
 
 pub along : {n m : Node} (P : Node → Type 0) → n ≡ m → P m → P n
 along P is h = subst P (sym is) h
 
-pub parts_within : {n m : Node} {count : ℕ} → n ≡ m → PartsWithin (parts_of n) count → PartsWithin (parts_of m) count
-parts_within {count = count} is h = subst (λ n. PartsWithin (parts_of n) count) is h
+pub node_within : (n : Node) {count : ℕ} → PartsWithin (parts_of n) count → NodeWithin n count
+node_within (Lits run) within = tt
+node_within (Spare symbol) within = tt
+node_within Pad within = tt
+node_within Null within = tt
+node_within (Seq parts) within = within
+node_within (Choice parts) within = within
+node_within (Times turns part) within = within 0 part refl
+node_within (Many part) within = within 0 part refl
+node_within (Trunc parts) within = within
+node_within (Window unit turns part) within = within 0 part refl
+node_within (Named label part) within = within 0 part refl
+node_within (Field unit turns) within = tt
+node_within Rest within = tt
 
 -- ---- sets of octet positions
 

@@ -16,10 +16,10 @@ use Rattle.csn_cert.specs.declared.pattern.Mark.TheVariants.{Any}
 use Rattle.csn_cert.specs.PatternV.{PatternV}
 use Rattle.csn_cert.specs.CertificateV.{NodeV, PositionV, IsCertificate}
 use Rattle.csn_good.specs.ClaimedSets.{patterns_of, patterns_at, claims_of}
-use Rattle.csn_good.specs.Patterns.{mark_of, spare_mark, shortened, unread, CoverMarks, Covers, IsCovered, PartsPatterns, TimesPatterns, NodePatterns, patterns_lits, patterns_field, patterns_spare, patterns_pad, patterns_null, patterns_rest, patterns_many, patterns_trunc, patterns_window, patterns_counted_field, patterns_counted_times, patterns_seq, patterns_times, patterns_choice, patterns_named}
+use Rattle.csn_good.specs.Patterns.{mark_of, spare_mark, shortened, unread, CoverMarks, Covers, IsCovered, PartsPatterns, TimesPatterns, NodePatterns, patterns_lits, patterns_field, patterns_spare, patterns_pad, patterns_null, patterns_rest, patterns_many, patterns_trunc, patterns_window, patterns_counted_field, patterns_counted_times, patterns_seq, patterns_times, patterns_choice, patterns_named, leaf_pattern}
 use Rattle.csn_good.specs.Good.{KeepsKeys}
 use Rattle.csn_good.specs.Made.{MadeAt, AreMade}
-use Rattle.csn_good.specs.Covering.{field_pattern, leaf_pattern, IsLeaf, AreCovered, PartIsCovered, EachIsCovered, MadeIsCoveredAt, MadeIsCovered, LeafIsCovered}
+use Rattle.csn_good.specs.Covering.{IsLeaf, AreCovered, PartIsCovered, EachIsCovered, MadeIsCoveredAt, MadeIsCovered, LeafIsCovered}
 use Rattle.csn_good.proofs.SetArms.{reached_small}
 use Rattle.std.proofs.lemmas.Bool.{cases_order}
 use Rattle.csn_good.proofs.Making.{take_part, take_whole}

@@ -99,11 +99,11 @@ module _ (d : DescV) (claims : Claims) (one : (i o bit : ℕ) → IsTrue (claims
   parts_one (starts_later m nullable e h) = parts_one h
 
   pub node_starts_one : {n : Node} {o bit : ℕ} → NodeStarts d claims n o bit → bit ≤ 1
+  node_starts_one (starts_field h) = h
+  node_starts_one (starts_rest h) = h
   node_starts_one {o = o} (starts_lits {s = s} is) = let low = symbol_bit-le-one s o in omega arith
   node_starts_one {o = o} {bit = bit} (starts_spare {s = s} h) = spare_one d.reading s o bit h
   node_starts_one {o = o} {bit = bit} (starts_pad h) = spare_one d.reading Low o bit h
-  node_starts_one (starts_field h) = h
-  node_starts_one (starts_rest h) = h
   node_starts_one (starts_seq h) = parts_one h
   node_starts_one (starts_trunc h) = parts_one h
   node_starts_one {o = o} {bit = bit} (starts_choice {i = i} j at h) = one i o bit h

@@ -1,31 +1,14 @@
 -- What the private functions test for the rule of keys. No public contract cites these words.
-use Rattle.std.specs.Prelude.{◌≡◌, ℕ, ◌*◌, ◌≤◌, ⊤, true, false, List, [], ◌∷◌, map, replicate, slice_get, Some, IsTrue, Contains}
+use Rattle.std.specs.Prelude.{◌≡◌, ℕ, ◌≤◌, ⊤, List, slice_get, Some, IsTrue, Contains}
 use Rattle.csn_desc.specs.declared.reading.Reading.{Reading}
-use Rattle.csn_desc.specs.declared.symbol.Symbol.TheVariants.{Low}
-use Rattle.csn_desc.specs.declared.node.Count.{Count}
-use Rattle.csn_desc.specs.declared.node.Count.TheVariants.{Fixed, Counted}
+use Rattle.csn_desc.specs.declared.node.Count.TheVariants.{Fixed}
 use Rattle.csn_desc.specs.declared.node.Node.{Node}
-use Rattle.csn_desc.specs.declared.node.Node.TheVariants.{Lits, Spare, Pad, Null, Field, Rest, Seq, Choice, Times, Many, Trunc, Window, Named}
-use Rattle.csn_desc.specs.Spelled.{spelled}
-use Rattle.csn_cert.specs.declared.pattern.Mark.TheVariants.{Any}
+use Rattle.csn_desc.specs.declared.node.Node.TheVariants.{Seq, Choice, Times, Named}
 use Rattle.csn_cert.specs.PatternV.{PatternV}
 use Rattle.csn_cert.specs.CertificateV.{NodeV}
 use Rattle.csn_good.specs.ClaimedSets.{patterns_at, claims_of}
-use Rattle.csn_good.specs.Patterns.{mark_of, spare_mark, shortened, unread, IsCovered}
+use Rattle.csn_good.specs.Patterns.{leaf_pattern, IsCovered}
 use Rattle.csn_good.specs.Made.{MadeAt}
-
--- the one pattern of a node that makes one
-abbrev pub field_pattern : ℕ → Count → PatternV
-field_pattern unit (Fixed n) = shortened (replicate (unit * n) Any) true
-field_pattern unit (Counted m field c) = unread
-
-abbrev pub leaf_pattern : Reading → Node → ℕ → PatternV
-leaf_pattern reading (Lits run) octet = shortened (map mark_of (spelled run octet)) true
-leaf_pattern reading (Spare s) octet = record { marks = spare_mark reading s octet ∷ []; whole = true }
-leaf_pattern reading Pad octet = record { marks = spare_mark reading Low octet ∷ []; whole = false }
-leaf_pattern reading Null octet = record { marks = []; whole = true }
-leaf_pattern reading (Field unit count) octet = field_pattern unit count
-leaf_pattern reading _ octet = unread
 
 -- such a node: it has no parts, or is not looked into
 abbrev pub IsLeaf : Node → Type 0

@@ -1,8 +1,10 @@
 -- Sets of octet positions, as the private functions keep them: for each octet position whether it is in the set. No
 -- public contract cites these words.
-use Rattle.std.specs.Prelude.{◌≡◌, ℕ, ◌<◌, ◌≤◌, ◌↔◌, Bool, false, List, slice_get, Option, Some, None, IsTrue}
+use Rattle.std.specs.Prelude.{◌≡◌, ℕ, ⊤, ◌<◌, ◌≤◌, ◌↔◌, Bool, false, List, slice_get, Option, Some, None, IsTrue}
 use Rattle.csn_desc.specs.declared.node.Count.{Count}
 use Rattle.csn_desc.specs.declared.node.Count.TheVariants.{Fixed, Counted}
+use Rattle.csn_desc.specs.declared.node.Node.{Node}
+use Rattle.csn_desc.specs.declared.node.Node.TheVariants.{Lits, Spare, Pad, Null, Field, Rest, Seq, Choice, Times, Many, Trunc, Window, Named}
 use Rattle.csn_claims.specs.Claims.{Claims}
 use Rattle.csn_claims.specs.Ends.{TimesEnd, ManyEnd}
 
@@ -33,6 +35,22 @@ pub record EndsFewer (claims : Claims) (n i o p : ℕ) : Type 0 where
 -- each part is one of so many nodes
 abbrev pub PartsWithin : List ℕ → ℕ → Type 0
 PartsWithin parts count = (place part : ℕ) → slice_get parts place ≡ Some part → part < count
+
+-- each part of the node is one of so many nodes
+abbrev pub NodeWithin : Node → ℕ → Type 0
+NodeWithin (Lits run) count = ⊤
+NodeWithin (Spare symbol) count = ⊤
+NodeWithin Pad count = ⊤
+NodeWithin Null count = ⊤
+NodeWithin (Seq parts) count = PartsWithin parts count
+NodeWithin (Choice parts) count = PartsWithin parts count
+NodeWithin (Times turns part) count = part < count
+NodeWithin (Many part) count = part < count
+NodeWithin (Trunc parts) count = PartsWithin parts count
+NodeWithin (Window unit turns part) count = part < count
+NodeWithin (Named label part) count = part < count
+NodeWithin (Field unit turns) count = ⊤
+NodeWithin Rest count = ⊤
 
 -- some of the parts may end there
 pub record SomeEnds (claims : Claims) (parts : List ℕ) (o p : ℕ) : Type 0 where

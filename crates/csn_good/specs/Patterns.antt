@@ -39,6 +39,19 @@ abbrev pub spare_mark : Reading → Symbol → ℕ → Mark
 spare_mark Received symbol octet = Any
 spare_mark Sent symbol octet = mark_of (symbol_bit symbol octet)
 
+-- the pattern of a field, and of a node that goes without its parts
+abbrev pub field_pattern : ℕ → Count → PatternV
+field_pattern unit (Fixed n) = shortened (replicate (unit * n) Any) true
+field_pattern unit (Counted m field c) = unread
+
+abbrev pub leaf_pattern : Reading → Node → ℕ → PatternV
+leaf_pattern reading (Lits run) octet = shortened (map mark_of (spelled run octet)) true
+leaf_pattern reading (Spare s) octet = record { marks = spare_mark reading s octet ∷ []; whole = true }
+leaf_pattern reading Pad octet = record { marks = spare_mark reading Low octet ∷ []; whole = false }
+leaf_pattern reading Null octet = record { marks = []; whole = true }
+leaf_pattern reading (Field unit count) octet = field_pattern unit count
+leaf_pattern reading _ octet = unread
+
 -- one pattern covers another: it is whole or cut as that is, and at each place has the same mark or `Any`
 abbrev pub CoverMarks : List Mark → List Mark → Type 0
 CoverMarks [] [] = ⊤

@@ -1,12 +1,11 @@
 //! The rule of conflicts: a node has none.
 
 ghost use Rattle.std.specs.Prelude.{◌≡◌, ◌≢◌, ◌<◌, ◌≤◌, ◌↔◌, ℕ, true, false, length, slice_get, IsTrue, IsSome, Some};
-ghost use Rattle.csn_desc.specs.Nodes.{parts_of};
 ghost use Rattle.csn_cert.specs.CertificateV.{IsCertificate};
 ghost use Rattle.csn_claims.specs.Conflicts.{IsNull};
 ghost use Rattle.csn_good.specs.ClaimedSets.{claims_of};
 ghost use Rattle.csn_good.specs.Good.{KeepsApart};
-ghost use Rattle.csn_good.specs.Octets.{has_octet, PartsWithin};
+ghost use Rattle.csn_good.specs.Octets.{has_octet, PartsWithin, NodeWithin};
 ghost use Rattle.csn_good.specs.Apart.{MarksMeet, PatternsMeet, SomeMeets, PartsMeet, HasEmpty, IsFirmNode, Overlaps, ClashesAt, Clashes, TurnsClash, BitBehind, AreApart, IsApart, EachApart};
 
 use crate::claims::{followed_by, may_end, nullable, starts_with};
@@ -35,8 +34,8 @@ fn patterns_meet(left: Pattern, right: Pattern) -> bool
 
 /// Whether some claimed pattern of part `part` meets this one.
 fn some_meets(c: &Certificate, part: u16, octet: u8, pattern: Pattern) -> bool
-    requires part { part < length c.now }
     requires octet { octet ≤ 7 }
+    requires part { part < length c.now }
     ensures { IsTrue result ↔ SomeMeets c.now part octet pattern }
 {
     if !c.has(part, octet) {
@@ -52,9 +51,9 @@ fn some_meets(c: &Certificate, part: u16, octet: u8, pattern: Pattern) -> bool
 
 /// Whether some patterns of two parts meet.
 fn parts_meet(c: &Certificate, left: u16, right: u16, octet: u8) -> bool
+    requires octet { octet ≤ 7 }
     requires left { left < length c.now }
     requires right { right < length c.now }
-    requires octet { octet ≤ 7 }
     ensures { IsTrue result ↔ PartsMeet c.now left right octet }
 {
     if !c.has(left, octet) {
@@ -74,6 +73,21 @@ fn is_null(desc: &Desc, i: u16) -> bool
     ensures { IsTrue result ↔ IsNull desc.now i }
 {
     matches!(desc.node(i), Node::Null)
+}
+
+/// Whether a turn of free repetition `i` may begin with a bit that may follow it.
+fn turns_clash(c: &Certificate, i: u16, part: u16) -> bool
+    requires node { i < length c.now }
+    requires part { part < length c.now }
+    ensures { IsTrue result ↔ TurnsClash c.now i part }
+{
+    let turns = through_many(c, part, &begins_of(c, i));
+    for octet in 0..8 {
+        if turns.contains(octet) && clashes_at(c, i, part, octet) {
+            return true;
+        }
+    }
+    false
 }
 
 /// Whether node `i` has an empty pattern at the octet position.
@@ -102,6 +116,20 @@ fn clashes_at(c: &Certificate, i: u16, part: u16, octet: u8) -> bool
 {
     for bit in 0..2 {
         if starts_with(c, part, octet, bit) && followed_by(c, i, octet, bit) {
+            return true;
+        }
+    }
+    false
+}
+
+/// Whether a bit may follow node `i` where it ends at the octet position.
+fn bit_follows(c: &Certificate, i: u16, octet: u8) -> bool
+    requires node { i < length c.now }
+    requires octet { octet ≤ 7 }
+    ensures { IsTrue result ↔ ((bit : ℕ) × (bit ≤ 1) × IsTrue ((claims_of c.now).follow i octet (Some bit))) }
+{
+    for bit in 0..2 {
+        if followed_by(c, i, octet, bit) {
             return true;
         }
     }
@@ -147,35 +175,6 @@ fn clashes(c: &Certificate, i: u16, part: u16) -> bool
 {
     for octet in 0..8 {
         if c.has(i, octet) && clashes_at(c, i, part, octet) {
-            return true;
-        }
-    }
-    false
-}
-
-/// Whether a turn of free repetition `i` may begin with a bit that may follow it.
-fn turns_clash(c: &Certificate, i: u16, part: u16) -> bool
-    requires node { i < length c.now }
-    requires part { part < length c.now }
-    ensures { IsTrue result ↔ TurnsClash c.now i part }
-{
-    let turns = through_many(c, part, &begins_of(c, i));
-    for octet in 0..8 {
-        if turns.contains(octet) && clashes_at(c, i, part, octet) {
-            return true;
-        }
-    }
-    false
-}
-
-/// Whether a bit may follow node `i` where it ends at the octet position.
-fn bit_follows(c: &Certificate, i: u16, octet: u8) -> bool
-    requires node { i < length c.now }
-    requires octet { octet ≤ 7 }
-    ensures { IsTrue result ↔ ((bit : ℕ) × (bit ≤ 1) × IsTrue ((claims_of c.now).follow i octet (Some bit))) }
-{
-    for bit in 0..2 {
-        if followed_by(c, i, octet, bit) {
             return true;
         }
     }
@@ -253,7 +252,7 @@ pub(crate) fn keeps_apart(desc: &Desc, c: &Certificate, i: u16, node: &Node) -> 
     requires certificate { IsCertificate c.now }
     requires number { length c.now ≡ length desc.now.nodes }
     requires node { i < length c.now }
-    requires parts { PartsWithin (parts_of node.now) (length c.now) }
+    requires parts { NodeWithin node.now (length c.now) }
     ensures { IsTrue result ↔ KeepsApart desc.now c.now i node.now }
 {
     match node {

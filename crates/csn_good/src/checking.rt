@@ -2,11 +2,11 @@
 
 ghost use Rattle.std.specs.Prelude.{◌≡◌, ◌≤◌, ◌<◌, ◌↔◌, ℕ, List, [], length, slice_get, Some, IfOk, IfSome, IfNone};
 ghost use Rattle.csn_desc.specs.TreeV.{TreeV};
-ghost use Rattle.csn_desc.specs.Nodes.{DescV, parts_of};
+ghost use Rattle.csn_desc.specs.Nodes.{DescV};
+ghost use Rattle.csn_good.specs.Good.{Good, FirstFault, KeepsRules};
 ghost use Rattle.csn_desc.specs.Means.{NMeans};
 ghost use Rattle.csn_cert.specs.CertificateV.{IsCertificate};
-ghost use Rattle.csn_good.specs.Good.{Good, FirstFault, KeepsRules};
-ghost use Rattle.csn_good.specs.Octets.{PartsWithin};
+ghost use Rattle.csn_good.specs.Octets.{NodeWithin};
 ghost use Rattle.csn_good.specs.Faults.{FaultAt};
 
 use crate::apart::keeps_apart;
@@ -41,7 +41,7 @@ fn broken_rule(
     requires number { length c.now ≡ length desc.now.nodes }
     requires node { slice_get desc.now.nodes i ≡ Some node.now }
     requires within { i < length c.now }
-    requires parts { PartsWithin (parts_of node.now) (length c.now) }
+    requires parts { NodeWithin node.now (length c.now) }
     ensures some { IfOk result (λ broken. IfSome broken (FaultAt desc.now c.now i)) }
     ensures none { IfOk result (λ broken. IfNone broken (KeepsRules desc.now c.now i node.now)) }
 {

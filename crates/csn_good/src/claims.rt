@@ -19,9 +19,9 @@ pub(crate) fn ends_at(c: &Certificate, i: u16, octet: u8, end: u8) -> bool
 
 /// Whether node `i` is claimed to begin with the bit at the octet position `octet`.
 pub(crate) fn starts_with(c: &Certificate, i: u16, octet: u8, bit: u8) -> bool
-    requires node { i < length c.now }
     requires octet { octet ≤ 7 }
     requires bit { bit ≤ 1 }
+    requires node { i < length c.now }
     ensures { result ≡ (claims_of c.now).starts i octet bit }
 {
     c.has(i, octet) && (c.start(i, octet) >> (1 - bit)) % 2 == 1

@@ -1,12 +1,11 @@
 //! Where a node may end, by what is claimed of its parts.
 
 ghost use Rattle.std.specs.Prelude.{◌≡◌, ◌+◌, ◌*◌, ◌%◌, ◌^◌, ◌<◌, ◌≤◌, ℕ, length, slice_get};
-ghost use Rattle.csn_desc.specs.Nodes.{parts_of};
 ghost use Rattle.csn_desc.specs.Formed.{value_width, width_of};
 ghost use Rattle.csn_look.specs.Ends.{MayCount};
 ghost use Rattle.csn_claims.specs.Ends.{NodeEnds};
 ghost use Rattle.csn_good.specs.ClaimedSets.{claims_of};
-ghost use Rattle.csn_good.specs.Octets.{OctetsAre, OfSome, SomeEnds, TurnsEnd, PartsWithin};
+ghost use Rattle.csn_good.specs.Octets.{OctetsAre, OfSome, SomeEnds, TurnsEnd, PartsWithin, NodeWithin};
 
 use crate::octets::{Octets, through, through_lead, through_many, through_parts, through_times};
 use csn_cert::Certificate;
@@ -102,7 +101,7 @@ fn ends_of_some(c: &Certificate, parts: &Parts, from: &Octets) -> Octets
 /// Where a node may end that begins at an octet position.
 pub(crate) fn ends_of(desc: &Desc, c: &Certificate, node: &Node, octet: u8) -> Octets
     requires octet { octet ≤ 7 }
-    requires parts { PartsWithin (parts_of node.now) (length c.now) }
+    requires parts { NodeWithin node.now (length c.now) }
     ensures { OctetsAre result.has (NodeEnds desc.now (claims_of c.now) node.now octet) }
 {
     let here = Octets::only(octet);
@@ -134,10 +133,6 @@ fn ends_of_times(c: &Certificate, count: Count, part: u16, from: &Octets) -> Oct
 {
     match count {
         Count::Fixed(n) => through_times(c, part, n, from),
-        Count::Counted {
-            m: _,
-            field: _,
-            c: _,
-        } => through_many(c, part, from),
+        Count::Counted { .. } => through_many(c, part, from),
     }
 }

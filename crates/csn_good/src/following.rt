@@ -1,13 +1,13 @@
 //! The rule of what follows: each part has, where it may end, what may stand behind it.
 
 ghost use Rattle.std.specs.Prelude.{◌≡◌, ◌<◌, ◌≤◌, ◌↔◌, ℕ, length, IsTrue};
-ghost use Rattle.csn_desc.specs.Nodes.{DescV, parts_of};
+ghost use Rattle.csn_desc.specs.Nodes.{DescV};
 ghost use Rattle.csn_cert.specs.CertificateV.{IsCertificate};
+ghost use Rattle.csn_good.specs.Wanted.{TailStarts, PartStarts, Wants, HasWanted, PartsHave, ordered};
 ghost use Rattle.csn_good.specs.ClaimedSets.{claims_of};
 ghost use Rattle.csn_good.specs.Good.{KeepsFollow};
-ghost use Rattle.csn_good.specs.Octets.{PartsWithin};
+ghost use Rattle.csn_good.specs.Octets.{PartsWithin, NodeWithin};
 ghost use Rattle.csn_good.specs.Signs.{sign_of};
-ghost use Rattle.csn_good.specs.Wanted.{TailStarts, PartStarts, Wants, HasWanted, PartsHave, ordered};
 
 use crate::claims::{follows, may_end, starts_with};
 use crate::tail::Tail;
@@ -141,16 +141,10 @@ fn each_has(c: &Certificate, k: u16, parts: &Parts) -> bool
 fn parts_have(c: &Certificate, k: u16, node: &Node) -> bool
     requires certificate { IsCertificate c.now }
     requires node { k < length c.now }
-    requires parts { PartsWithin (parts_of node.now) (length c.now) }
+    requires parts { NodeWithin node.now (length c.now) }
     ensures { IsTrue result ↔ PartsHave (claims_of c.now) k node.now }
 {
     match node {
-        Node::Lits(_) => true,
-        Node::Spare(_) => true,
-        Node::Pad => true,
-        Node::Null => true,
-        Node::Field { unit: _, count: _ } => true,
-        Node::Rest => true,
         Node::Seq(parts) => in_order(c, k, parts, false),
         Node::Choice(parts) => each_has(c, k, parts),
         Node::Times { count: _, part } => has_wanted(c, k, *part, &Around::Again),
@@ -162,6 +156,7 @@ fn parts_have(c: &Certificate, k: u16, node: &Node) -> bool
             part,
         } => has_wanted(c, k, *part, &Around::Closed),
         Node::Named { label: _, part } => has_wanted(c, k, *part, &Around::Alone),
+        _ => true,
     }
 }
 
@@ -169,7 +164,7 @@ fn parts_have(c: &Certificate, k: u16, node: &Node) -> bool
 pub(crate) fn keeps_follow(c: &Certificate, k: u16, node: &Node) -> bool
     requires node { k < length c.now }
     requires certificate { IsCertificate c.now }
-    requires parts { PartsWithin (parts_of node.now) (length c.now) }
+    requires parts { NodeWithin node.now (length c.now) }
     ensures { (d : DescV) → IsTrue result ↔ KeepsFollow d c.now k node.now }
 {
     if k == 0 && !has_wanted(c, 0, 0, &Around::Closed) {

@@ -1,22 +1,20 @@
 //! The rule of keys: some claimed pattern covers each that the equation of a node makes.
 
-ghost use Rattle.std.specs.Prelude.{◌≡◌, ◌<◌, ◌≤◌, ◌*◌, ◌⊎◌, ◌↔◌, ◌∷◌, [], ℕ, true, length, map, replicate, slice_get, IsTrue, IfOk, Contains};
-ghost use Rattle.csn_desc.specs.Nodes.{parts_of};
-ghost use Rattle.csn_desc.specs.Spelled.{symbol_bit, spelled};
+ghost use Rattle.std.specs.Prelude.{◌≡◌, ◌<◌, ◌≤◌, ◌⊎◌, ◌↔◌, ℕ, length, slice_get, IsTrue, IfOk, Contains};
 ghost use Rattle.csn_cert.specs.PatternV.{PatternV};
 ghost use Rattle.csn_cert.specs.CertificateV.{IsCertificate};
+ghost use Rattle.csn_good.specs.Covering.{AreCovered, PartIsCovered, EachIsCovered, MadeIsCoveredAt, MadeIsCovered, LeafIsCovered};
 ghost use Rattle.csn_good.specs.ClaimedSets.{patterns_at, claims_of};
-ghost use Rattle.csn_good.specs.Patterns.{mark_of, spare_mark, shortened, CoverMarks, Covers, IsCovered};
+ghost use Rattle.csn_good.specs.Patterns.{CoverMarks, Covers, IsCovered};
 ghost use Rattle.csn_good.specs.Good.{KeepsKeys};
-ghost use Rattle.csn_good.specs.Octets.{PartsWithin};
+ghost use Rattle.csn_good.specs.Octets.{NodeWithin, PartsWithin};
 ghost use Rattle.csn_good.specs.Made.{MadeAt};
-ghost use Rattle.csn_good.specs.Covering.{AreCovered, PartIsCovered, EachIsCovered, MadeIsCoveredAt, MadeIsCovered, LeafIsCovered, leaf_pattern, field_pattern};
 
+use crate::leaf::leaf_pattern;
 use crate::made::{Made, PatternSet, made_of_parts, made_of_times};
-use crate::sets::bit_of_symbol;
 use csn_bits::NoMemory;
-use csn_cert::{Certificate, MOST_MARKS, Mark, Pattern};
-use csn_desc::{Count, Desc, Node, Parts, Reading, Run, Symbol};
+use csn_cert::{Certificate, Mark, Pattern};
+use csn_desc::{Count, Desc, Node, Parts};
 use std::alloc::Global;
 
 /// Whether one mark covers another.
@@ -52,6 +50,20 @@ fn covers(wide: Pattern, pattern: Pattern) -> bool
     wide.whole() == pattern.whole() && marks_cover(wide, pattern)
 }
 
+/// Whether the claimed patterns of part `part` are covered at each octet position that node `i` has.
+fn part_is_covered(c: &Certificate, i: u16, part: u16) -> bool
+    requires node { i < length c.now }
+    requires part { part < length c.now }
+    ensures { IsTrue result ↔ PartIsCovered c.now i part }
+{
+    for octet in 0..8 {
+        if c.has(i, octet) && !part_is_covered_at(c, i, part, octet) {
+            return false;
+        }
+    }
+    true
+}
+
 /// Whether some claimed pattern of node `i` at the octet position covers this one.
 fn is_covered(c: &Certificate, i: u16, octet: u8, pattern: Pattern) -> bool
     requires node { i < length c.now }
@@ -72,8 +84,8 @@ fn is_covered(c: &Certificate, i: u16, octet: u8, pattern: Pattern) -> bool
 /// Whether so is each claimed pattern of part `part` there.
 fn part_is_covered_at(c: &Certificate, i: u16, part: u16, octet: u8) -> bool
     requires node { i < length c.now }
-    requires part { part < length c.now }
     requires octet { octet ≤ 7 }
+    requires part { part < length c.now }
     ensures { IsTrue result ↔ AreCovered c.now i octet (patterns_at c.now part octet) }
 {
     if !c.has(part, octet) {
@@ -87,21 +99,7 @@ fn part_is_covered_at(c: &Certificate, i: u16, part: u16, octet: u8) -> bool
     true
 }
 
-/// Whether so are they at each octet position that node `i` has.
-fn part_is_covered(c: &Certificate, i: u16, part: u16) -> bool
-    requires node { i < length c.now }
-    requires part { part < length c.now }
-    ensures { IsTrue result ↔ PartIsCovered c.now i part }
-{
-    for octet in 0..8 {
-        if c.has(i, octet) && !part_is_covered_at(c, i, part, octet) {
-            return false;
-        }
-    }
-    true
-}
-
-/// Whether so are those of each part.
+/// Whether so are those of each part, at each octet position that the node has.
 fn each_is_covered(c: &Certificate, i: u16, parts: &Parts) -> bool
     requires node { i < length c.now }
     requires parts { PartsWithin parts.now (length c.now) }
@@ -156,110 +154,13 @@ fn made_is_covered(c: &Certificate, i: u16, made: &Made) -> bool
     true
 }
 
-/// The mark that stands for a symbol at an octet position.
-fn mark_of(symbol: Symbol, octet: u8) -> Mark
-    requires { octet ≤ 7 }
-    ensures { result ≡ mark_of (symbol_bit symbol octet) }
-{
-    if bit_of_symbol(symbol, octet) == 0 {
-        Mark::Zero
-    } else {
-        Mark::One
-    }
-}
-
-/// The pattern of a literal.
-fn literal(run: &Run, octet: u8) -> Pattern
-    requires { octet ≤ 7 }
-    ensures { result ≡ shortened (map mark_of (spelled run.now octet)) true }
-{
-    let size = run.len();
-    let mut pattern = Pattern::new(size <= MOST_MARKS as u32);
-    for at in 0..size.min(MOST_MARKS as u32) {
-        pattern.push(mark_of(run.get(at), (octet + at as u8) % 8));
-    }
-    pattern
-}
-
-/// The pattern of so many bits of any values.
-fn any_bits(size: u64) -> Pattern
-    ensures { result ≡ shortened (replicate size Mark.Any) true }
-{
-    let mut pattern = Pattern::new(size <= MOST_MARKS as u64);
-    for at in 0..size.min(MOST_MARKS as u64) {
-        pattern.push(Mark::Any);
-    }
-    pattern
-}
-
-/// The mark of a spare bit.
-fn spare_mark(reading: Reading, symbol: Symbol, octet: u8) -> Mark
-    requires { octet ≤ 7 }
-    ensures { result ≡ spare_mark reading symbol octet }
-{
-    match reading {
-        Reading::Received => Mark::Any,
-        Reading::Sent => mark_of(symbol, octet),
-    }
-}
-
-/// The pattern of a spare bit.
-fn spare(reading: Reading, symbol: Symbol, octet: u8, whole: bool) -> Pattern
-    requires { octet ≤ 7 }
-    ensures { result ≡ record { marks = spare_mark reading symbol octet ∷ []; whole = whole } }
-{
-    let mut pattern = Pattern::new(whole);
-    pattern.push(spare_mark(reading, symbol, octet));
-    pattern
-}
-
-/// The pattern of a node without parts, and of one that is not looked into.
-fn leaf(desc: &Desc, node: &Node, octet: u8) -> Pattern
-    requires { octet ≤ 7 }
-    ensures { result ≡ leaf_pattern desc.now.reading node.now octet }
-{
-    match node {
-        Node::Lits(run) => literal(run, octet),
-        Node::Spare(symbol) => spare(desc.reading(), *symbol, octet, true),
-        Node::Pad => spare(desc.reading(), Symbol::Low, octet, false),
-        Node::Null => Pattern::new(true),
-        Node::Field { unit, count } => field(*unit, count),
-        Node::Rest => Pattern::new(false),
-        Node::Seq(_) => Pattern::new(false),
-        Node::Choice(_) => Pattern::new(false),
-        Node::Times { count: _, part: _ } => Pattern::new(false),
-        Node::Many(_) => Pattern::new(false),
-        Node::Trunc(_) => Pattern::new(false),
-        Node::Window {
-            unit: _,
-            count: _,
-            part: _,
-        } => Pattern::new(false),
-        Node::Named { label: _, part: _ } => Pattern::new(false),
-    }
-}
-
-/// The pattern of a field.
-fn field(unit: u8, count: &Count) -> Pattern
-    ensures { result ≡ field_pattern unit count.now }
-{
-    match count {
-        Count::Fixed(n) => any_bits(unit as u64 * *n as u64),
-        Count::Counted {
-            m: _,
-            field: _,
-            c: _,
-        } => Pattern::new(false),
-    }
-}
-
 /// Whether the pattern of such a node is covered, at each octet position that it has.
 fn leaf_is_covered(desc: &Desc, c: &Certificate, i: u16, node: &Node) -> bool
     requires { i < length c.now }
     ensures { IsTrue result ↔ LeafIsCovered desc.now.reading c.now i node.now }
 {
     for octet in 0..8 {
-        if c.has(i, octet) && !is_covered(c, i, octet, leaf(desc, node, octet)) {
+        if c.has(i, octet) && !is_covered(c, i, octet, leaf_pattern(desc.reading(), node, octet)) {
             return false;
         }
     }
@@ -305,7 +206,7 @@ pub(crate) fn keeps_keys(
 ) -> Result<bool, NoMemory>
     requires certificate { IsCertificate c.now }
     requires node { i < length c.now }
-    requires parts { PartsWithin (parts_of node.now) (length c.now) }
+    requires parts { NodeWithin node.now (length c.now) }
     ensures { IfOk result (λ keeps. IsTrue keeps ↔ KeepsKeys desc.now c.now i node.now) }
 {
     match node {

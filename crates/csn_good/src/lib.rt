@@ -8,6 +8,7 @@ mod ending;
 mod following;
 mod keys;
 pub mod laws;
+mod leaf;
 mod made;
 mod octets;
 mod reaching;
@@ -15,3 +16,4 @@ mod sets;
 mod tail;
 
 pub use checking::{Checked, check_certificate};
+pub use leaf::leaf_pattern;

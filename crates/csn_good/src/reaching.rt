@@ -1,12 +1,12 @@
 //! The rule of octet positions: each part has those at which it may begin.
 
 ghost use Rattle.std.specs.Prelude.{◌≡◌, ◌<◌, ◌≤◌, ◌↔◌, ◌∷◌, ◌++◌, ℕ, List, length, slice_get, IsTrue};
-ghost use Rattle.csn_desc.specs.Nodes.{DescV, parts_of};
+ghost use Rattle.csn_desc.specs.Nodes.{DescV};
 ghost use Rattle.csn_cert.specs.CertificateV.{IsCertificate};
 ghost use Rattle.csn_claims.specs.Reached.{PartReached};
 ghost use Rattle.csn_good.specs.ClaimedSets.{claims_of};
 ghost use Rattle.csn_good.specs.Good.{KeepsReached};
-ghost use Rattle.csn_good.specs.Octets.{has_octet, OctetsAre, OfSome, TurnBegins, PartsWithin};
+ghost use Rattle.csn_good.specs.Octets.{has_octet, OctetsAre, OfSome, TurnBegins, PartsWithin, NodeWithin};
 ghost use Rattle.csn_good.specs.Told.{EachReached, OrderReached, PartsReach};
 
 use crate::octets::{Octets, begins_of, has_all, through, through_fewer, through_many};
@@ -47,12 +47,8 @@ fn turns_begin(c: &Certificate, count: Count, part: u16, from: &Octets) -> Octet
     ensures { OctetsAre result.has (λ p. OfSome from.now.has (λ o. TurnBegins (claims_of c.now) count part o p)) }
 {
     match count {
+        Count::Counted { .. } => through_many(c, part, from),
         Count::Fixed(n) => through_fewer(c, part, n, from),
-        Count::Counted {
-            m: _,
-            field: _,
-            c: _,
-        } => through_many(c, part, from),
     }
 }
 
@@ -60,17 +56,11 @@ fn turns_begin(c: &Certificate, count: Count, part: u16, from: &Octets) -> Octet
 fn parts_reached(c: &Certificate, i: u16, node: &Node) -> bool
     requires certificate { IsCertificate c.now }
     requires node { i < length c.now }
-    requires parts { PartsWithin (parts_of node.now) (length c.now) }
+    requires parts { NodeWithin node.now (length c.now) }
     ensures { IsTrue result ↔ PartsReach (claims_of c.now) i node.now }
 {
     let begins = begins_of(c, i);
     match node {
-        Node::Lits(_) => true,
-        Node::Spare(_) => true,
-        Node::Pad => true,
-        Node::Null => true,
-        Node::Field { unit: _, count: _ } => true,
-        Node::Rest => true,
         Node::Seq(parts) => in_order(c, parts, &begins),
         Node::Choice(parts) => each_has(c, parts, &begins),
         Node::Times { count, part } => has_all(c, *part, &turns_begin(c, *count, *part, &begins)),
@@ -82,6 +72,7 @@ fn parts_reached(c: &Certificate, i: u16, node: &Node) -> bool
             part,
         } => has_all(c, *part, &begins),
         Node::Named { label: _, part } => has_all(c, *part, &begins),
+        _ => true,
     }
 }
 
@@ -89,7 +80,7 @@ fn parts_reached(c: &Certificate, i: u16, node: &Node) -> bool
 pub(crate) fn keeps_reached(c: &Certificate, i: u16, node: &Node) -> bool
     requires certificate { IsCertificate c.now }
     requires node { i < length c.now }
-    requires parts { PartsWithin (parts_of node.now) (length c.now) }
+    requires parts { NodeWithin node.now (length c.now) }
     ensures { (d : DescV) → IsTrue result ↔ KeepsReached d c.now i node.now }
 {
     if i == 0 && !c.has(0, 0) {

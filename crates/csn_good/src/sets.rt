@@ -1,21 +1,20 @@
 //! The rules of the first three sets: a node has what its equation makes of the sets of its parts.
 
 ghost use Rattle.std.specs.Prelude.{◌≡◌, ◌∷◌, ◌<◌, ◌≤◌, ◌↔◌, ℕ, [], length, slice_get, IsTrue, Some};
-ghost use Rattle.csn_desc.specs.Nodes.{DescV, parts_of};
-ghost use Rattle.csn_desc.specs.Spelled.{symbol_bit, IsSpare};
+ghost use Rattle.csn_desc.specs.Nodes.{DescV};
+ghost use Rattle.csn_desc.specs.Spelled.{IsSpare};
 ghost use Rattle.csn_cert.specs.CertificateV.{IsCertificate};
+ghost use Rattle.csn_good.specs.Octets.{PartsWithin, NodeWithin};
+ghost use Rattle.csn_good.specs.Told.{MayBeNone, SomeNullable, SomeStarts, LiteralStarts};
 ghost use Rattle.csn_claims.specs.Nullable.{NodeNullable, AllNullable};
 ghost use Rattle.csn_claims.specs.Ends.{NodeEnds};
 ghost use Rattle.csn_claims.specs.Starts.{NodeStarts};
 ghost use Rattle.csn_good.specs.ClaimedSets.{claims_of};
 ghost use Rattle.csn_good.specs.Good.{KeepsNullable, KeepsEnds, KeepsStart};
-ghost use Rattle.csn_good.specs.Octets.{PartsWithin};
-ghost use Rattle.csn_good.specs.Told.{MayBeNone, SomeNullable, SomeStarts, LiteralStarts};
 
 use crate::claims::{ends_at, nullable, starts_with};
 use crate::ending::ends_of;
 use crate::tail::tail_of;
-use csn_bits::pattern_bit;
 use csn_cert::Certificate;
 use csn_desc::{Count, Desc, Node, Parts, Reading, Run, Symbol};
 
@@ -57,7 +56,7 @@ fn some_nullable(c: &Certificate, parts: &Parts) -> bool
 
 /// Whether a node may have no bits.
 fn is_nullable(c: &Certificate, node: &Node) -> bool
-    requires { PartsWithin (parts_of node.now) (length c.now) }
+    requires { NodeWithin node.now (length c.now) }
     ensures { IsTrue result ↔ NodeNullable (claims_of c.now) node.now }
 {
     match node {
@@ -84,7 +83,7 @@ fn is_nullable(c: &Certificate, node: &Node) -> bool
 /// Rule 2: a node that may have no bits is claimed to be nullable.
 pub(crate) fn keeps_nullable(c: &Certificate, i: u16, node: &Node) -> bool
     requires node { i < length c.now }
-    requires parts { PartsWithin (parts_of node.now) (length c.now) }
+    requires parts { NodeWithin node.now (length c.now) }
     ensures { (d : DescV) → IsTrue result ↔ KeepsNullable d c.now i node.now }
 {
     nullable(c, i) || !is_nullable(c, node)
@@ -94,7 +93,7 @@ pub(crate) fn keeps_nullable(c: &Certificate, i: u16, node: &Node) -> bool
 fn has_ends(desc: &Desc, c: &Certificate, i: u16, node: &Node, octet: u8) -> bool
     requires node { i < length c.now }
     requires octet { octet ≤ 7 }
-    requires parts { PartsWithin (parts_of node.now) (length c.now) }
+    requires parts { NodeWithin node.now (length c.now) }
     ensures { IsTrue result ↔ ((p : ℕ) → p ≤ 7 → NodeEnds desc.now (claims_of c.now) node.now octet p → IsTrue ((claims_of c.now).ends i octet p)) }
 {
     let ends = ends_of(desc, c, node, octet);
@@ -110,7 +109,7 @@ fn has_ends(desc: &Desc, c: &Certificate, i: u16, node: &Node, octet: u8) -> boo
 pub(crate) fn keeps_ends(desc: &Desc, c: &Certificate, i: u16, node: &Node) -> bool
     requires certificate { IsCertificate c.now }
     requires node { i < length c.now }
-    requires parts { PartsWithin (parts_of node.now) (length c.now) }
+    requires parts { NodeWithin node.now (length c.now) }
     ensures { IsTrue result ↔ KeepsEnds desc.now c.now i node.now }
 {
     for octet in 0..8 {
@@ -121,19 +120,6 @@ pub(crate) fn keeps_ends(desc: &Desc, c: &Certificate, i: u16, node: &Node) -> b
     true
 }
 
-/// The bit that a symbol stands for at an octet position.
-pub(crate) fn bit_of_symbol(symbol: Symbol, octet: u8) -> u8
-    requires { octet ≤ 7 }
-    ensures { result ≡ symbol_bit symbol octet }
-{
-    match symbol {
-        Symbol::Zero => 0,
-        Symbol::One => 1,
-        Symbol::Low => pattern_bit(octet),
-        Symbol::High => 1 - pattern_bit(octet),
-    }
-}
-
 /// Whether a spare bit may be this one.
 fn spare_may_be(reading: Reading, symbol: Symbol, octet: u8, bit: u8) -> bool
     requires octet { octet ≤ 7 }
@@ -142,7 +128,7 @@ fn spare_may_be(reading: Reading, symbol: Symbol, octet: u8, bit: u8) -> bool
 {
     match reading {
         Reading::Received => true,
-        Reading::Sent => bit_of_symbol(symbol, octet) == bit,
+        Reading::Sent => symbol.bit(u32::from(octet)) == bit,
     }
 }
 
@@ -151,7 +137,7 @@ fn literal_starts(run: &Run, octet: u8, bit: u8) -> bool
     requires octet { octet ≤ 7 }
     ensures { IsTrue result ↔ LiteralStarts run.now octet bit }
 {
-    run.len() > 0 && bit_of_symbol(run.get(0), octet) == bit
+    run.len() > 0 && run.get(0).bit(u32::from(octet)) == bit
 }
 
 /// Whether some of the parts is claimed to begin with the bit.
@@ -171,7 +157,7 @@ fn some_starts(c: &Certificate, parts: &Parts, octet: u8, bit: u8) -> bool
 
 /// Whether a node may begin with the bit at an octet position.
 fn may_start(desc: &Desc, c: &Certificate, node: &Node, octet: u8, bit: u8) -> bool
-    requires parts { PartsWithin (parts_of node.now) (length c.now) }
+    requires parts { NodeWithin node.now (length c.now) }
     requires octet { octet ≤ 7 }
     requires bit { bit ≤ 1 }
     ensures { IsTrue result ↔ NodeStarts desc.now (claims_of c.now) node.now octet bit }
@@ -201,7 +187,7 @@ fn may_start(desc: &Desc, c: &Certificate, node: &Node, octet: u8, bit: u8) -> b
 fn has_starts(desc: &Desc, c: &Certificate, i: u16, node: &Node, octet: u8) -> bool
     requires node { i < length c.now }
     requires octet { octet ≤ 7 }
-    requires parts { PartsWithin (parts_of node.now) (length c.now) }
+    requires parts { NodeWithin node.now (length c.now) }
     ensures { IsTrue result ↔ ((bit : ℕ) → bit ≤ 1 → NodeStarts desc.now (claims_of c.now) node.now octet bit → IsTrue ((claims_of c.now).starts i octet bit)) }
 {
     for bit in 0..2 {
@@ -214,9 +200,9 @@ fn has_starts(desc: &Desc, c: &Certificate, i: u16, node: &Node, octet: u8) -> b
 
 /// Rule 4: at each octet position that it has, a node is claimed to begin with each bit with which it may.
 pub(crate) fn keeps_start(desc: &Desc, c: &Certificate, i: u16, node: &Node) -> bool
-    requires certificate { IsCertificate c.now }
     requires node { i < length c.now }
-    requires parts { PartsWithin (parts_of node.now) (length c.now) }
+    requires parts { NodeWithin node.now (length c.now) }
+    requires certificate { IsCertificate c.now }
     ensures { IsTrue result ↔ KeepsStart desc.now c.now i node.now }
 {
     for octet in 0..8 {

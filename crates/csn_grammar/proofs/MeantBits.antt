@@ -85,6 +85,8 @@ module _ (rules : RulesV) (r : Reading) where
     pub followed_bits : {x : ExprV} {o : ℕ} {env : Env} {b : List ℕ} → Follow rules r x o env b → IsBits b
     followed_bits (follows_whole t h) = meant_bits h
     followed_bits {b = b} (follows_leaf whole rest leaf cut h) = IsBits-cut b rest cut (meant_bits h)
+    followed_bits (follows_received is h) = followed_bits h
+    followed_bits (follows_sent is h) = followed_bits h
     followed_bits (follows_seq full h) = items_followed_bits h
     followed_bits (follows_choice xs j kept at h) = followed_bits h
     followed_bits (follows_times n is count h) = times_followed_bits h
@@ -94,8 +96,6 @@ module _ (rules : RulesV) (r : Reading) where
     followed_bits (follows_labelled h) = followed_bits h
     followed_bits (follows_name rule at h) = rule_followed_bits h
     followed_bits (follows_group h) = followed_bits h
-    followed_bits (follows_received is h) = followed_bits h
-    followed_bits (follows_sent is h) = followed_bits h
 
     items_followed_bits : {xs : ExprsV} {o : ℕ} {frame : Frame} {env : Env} {b : List ℕ}
         → ItemsFollow rules r xs o frame env b → IsBits b

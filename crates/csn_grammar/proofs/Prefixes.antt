@@ -145,6 +145,8 @@ module _ (rules : RulesV) (r : Reading) where
         → (b c : List ℕ) → w ≡ b ++ c → Follow rules r x o env b
     prefix_followed (follows_whole t h) b c e = begins h b c e
     prefix_followed {w = w} (follows_leaf whole rest leaf joins h) b c e = follows_leaf whole (c ++ rest) leaf (cut_again w b c rest joins e) h
+    prefix_followed (follows_received is h) b c e = follows_received is (prefix_followed h b c e)
+    prefix_followed (follows_sent is h) b c e = follows_sent is (prefix_followed h b c e)
     prefix_followed (follows_seq full h) b c e = follows_seq full (items_prefix h b c e)
     prefix_followed (follows_choice xs j kept at h) b c e = follows_choice xs j kept at (prefix_followed h b c e)
     prefix_followed (follows_times n is count h) b c e = follows_times n is count (times_prefix h b c e)
@@ -155,8 +157,6 @@ module _ (rules : RulesV) (r : Reading) where
     prefix_followed (follows_labelled h) b c e = follows_labelled (prefix_followed h b c e)
     prefix_followed (follows_name rule at h) b c e = follows_name rule at (rule_prefix h b c e)
     prefix_followed (follows_group h) b c e = follows_group (prefix_followed h b c e)
-    prefix_followed (follows_received is h) b c e = follows_received is (prefix_followed h b c e)
-    prefix_followed (follows_sent is h) b c e = follows_sent is (prefix_followed h b c e)
 
     items_prefix : {xs : ExprsV} {o : ℕ} {frame : Frame} {env : Env} {w : List ℕ}
         → ItemsFollow rules r xs o frame env w → (b c : List ℕ) → w ≡ b ++ c
@@ -207,10 +207,7 @@ module _ (rules : RulesV) (r : Reading) where
     tail_prefix (tail_turns b1 b2 b3 joins items word next) b c e =
         elim (splits b1 (b2 ++ b3) b c (sym joins ∙ e)) [
           | inside m p q ↦ begun b (items_full rules r items) (items_begin items b m p)
-          | behind m p q ↦ elim (splits b2 b3 m c q) [
-            | inside l u v ↦ tail_goes_on b1 m p items (l, sym word ∙ u)
-            | behind l u v ↦ tail_turns b1 b2 l (p ∙ ap (λ z. b1 ++ z) u) items word (tail_prefix next l c v)
-          ]
+          | behind m p q ↦ elim (splits b2 b3 m c q) [ inside l u v ↦ tail_goes_on b1 m p items (l, sym word ∙ u) | behind l u v ↦ tail_turns b1 b2 l (p ∙ ap (λ z. b1 ++ z) u) items word (tail_prefix next l c v) ]
         ]
 
   -- a string of a rule is followed by it

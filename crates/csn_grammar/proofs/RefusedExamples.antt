@@ -10,11 +10,11 @@ use Rattle.csn_grammar.specs.Environment.{Frame, Env}
 use Rattle.csn_grammar.specs.Meaning.{Means, ItemsMean, means_lits, means_field, means_times, means_seq, means_labelled, means_spare_bit, means_spare_low, means_padding, means_name, items_next}
 use Rattle.csn_grammar.specs.Follow.{Follow, ItemsFollow, follows_whole, follows_leaf, follows_seq, follows_times, follows_labelled, items_here, items_later}
 use Rattle.csn_grammar.specs.Strings.{Strings}
-use Rattle.csn_grammar.specs.Examples.{M, A, B, part, word, sequence, field, bits_by, fields, octet_B5, B5IsRefusedAtThree, padding}
+use Rattle.csn_grammar.specs.Examples.{M, A, B, part, word, sequence, field, bits_by, fields, octet_B5, B5IsRefusedAtThree, padding, PaddingGoesByReading}
 use Rattle.csn_desc.proofs.Splits.{behind_front}
 use Rattle.csn_grammar.proofs.Prefixes.{begins, rule_begins, prefix_followed}
 use Rattle.csn_grammar.proofs.VoidFacts.{no_rule}
-use Rattle.csn_grammar.proofs.ExampleFacts.{a5_has_its_tree}
+use Rattle.csn_grammar.proofs.ExampleFacts.{a5_has_its_tree, padding_is_received, padding_is_sent}
 use Rattle.csn_grammar.proofs.OneRule.{body_means, body_follows}
 
 -- the field of A has three bits
@@ -110,5 +110,8 @@ not_padding t (means_spare_low is one h) = absurd (omega arith)
 not_padding t (means_padding is some h) = cc
 not_padding t (means_name rule at h) = no_rule padding (codes "spare padding") rule refl at
 
-pub zeros_are_not_sent : (t : TreeV) → ¬ Strings padding M Sent (0 ∷ 0 ∷ 0 ∷ []) t
+zeros_are_not_sent : (t : TreeV) → ¬ Strings padding M Sent (0 ∷ 0 ∷ 0 ∷ []) t
 zeros_are_not_sent t h = not_padding t (body_means Sent (part (name (codes "spare padding"))) refl (0 ∷ 0 ∷ 0 ∷ []) t h)
+
+pub padding_goes_by_reading : PaddingGoesByReading
+padding_goes_by_reading = (padding_is_received, padding_is_sent, zeros_are_not_sent)

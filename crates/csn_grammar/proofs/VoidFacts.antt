@@ -238,6 +238,8 @@ module _ (rules : RulesV) (r : Reading) where
         → Void rules r x → ⊥
     follows_full (follows_whole t h) v = means_full h v
     follows_full (follows_leaf whole rest leaf cut h) v = means_full h v
+    follows_full (follows_received is h) v = follows_full h (left_void is v)
+    follows_full (follows_sent is h) v = follows_full h (right_void is v)
     follows_full (follows_seq full h) (void_seq v) = full v
     follows_full (follows_choice xs j kept at h) (void_choice all) = kept_some j kept at (void_choice all)
     follows_full (follows_times n is count h) v = elim v [ ]
@@ -247,8 +249,6 @@ module _ (rules : RulesV) (r : Reading) where
     follows_full (follows_labelled h) (void_labelled v) = follows_full h v
     follows_full (follows_name rule at h) v = rule_follows_full h (body_void at v)
     follows_full (follows_group h) (void_group v) = follows_full h v
-    follows_full (follows_received is h) v = follows_full h (left_void is v)
-    follows_full (follows_sent is h) v = follows_full h (right_void is v)
 
     pub rule_follows_full : {rule : Rule} {o : ℕ} {env : Env} {b : List ℕ}
         → RuleFollows rules r rule o env b → Void rules r rule.body → ⊥

@@ -95,9 +95,9 @@ mutual
   code_form-one _ _ p = cc
 
   pub code_exprs-one : (x y : ExprsV) → code_exprs x ≡ code_exprs y → x ≡ y
-  code_exprs-one no_item no_item p = cc
   code_exprs-one (item x xs) (item y ys) p =
       let heads : x ≡ y = code_expr-one x y (cc) in let tails : xs ≡ ys = code_exprs-one xs ys (cc) in cc
+  code_exprs-one no_item no_item p = cc
   code_exprs-one _ _ p = cc
 
   pub code_branches-one : (x y : BranchesV) → code_branches x ≡ code_branches y → x ≡ y
@@ -111,15 +111,9 @@ mutual
 abbrev pub expr_code : Coded ExprV
 expr_code = record { code = code_expr; inj = code_expr-one }
 
-abbrev pub exprs_code : Coded (List ExprV)
-exprs_code = coded_list expr_code
-
 abbrev pub branch_code : Coded BranchV
 branch_code =
     code_by (Bool × ExprV) (coded× coded_bool expr_code) (λ b. (b.error, b.body)) (λ p. record { error = p.0; body = p.1 }) (λ _. refl)
-
-abbrev pub branches_code : Coded (List BranchV)
-branches_code = coded_list branch_code
 
 abbrev mutual
   pub expr_size : ExprV → ℕ
@@ -161,8 +155,8 @@ branch_list_size bs = branches_size (branches_of bs)
 
 -- no member of a list is as large as the list
 pub most_le-list_size : (xs : List ExprV) → most (λ x. expr_size x + 1) xs ≤ list_size xs
-most_le-list_size [] = omega arith
 most_le-list_size (x ∷ xs) = omega (arith, most_le-list_size xs)
+most_le-list_size [] = omega arith
 
 pub most_le-branch_list_size : (bs : List BranchV) → most (λ b. branch_size b + 1) bs ≤ branch_list_size bs
 most_le-branch_list_size [] = omega arith

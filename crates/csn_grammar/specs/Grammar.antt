@@ -65,12 +65,12 @@ mutual
 
   -- a side, or two with `&` between
   pub data IsWindow : ℕ → List TokenV → ExprV → List TokenV → Type 0 where
-    side_window : {d : ℕ} {x : ExprV} {ts rest : List TokenV} → IsSide d ts x rest
-        → IsWindow d ts x rest
     both_window : {d s n s1 n1 s2 n2 : ℕ} {w : List ℕ} {f g : FormV} {ts middle rest : List TokenV}
         → IsSide d ts (expr s n f) (token Ampersand s1 n1 w ∷ middle)
         → IsSide d middle (expr s2 n2 g) rest
         → IsWindow d ts (expr s n2 (both (expr s n f) (expr s2 n2 g))) rest
+    side_window : {d : ℕ} {x : ExprV} {ts rest : List TokenV} → IsSide d ts x rest
+        → IsWindow d ts x rest
 
   -- the same, maybe with `=` and a side behind it
   pub data IsItem : ℕ → List TokenV → ExprV → List TokenV → Type 0 where

@@ -1,6 +1,7 @@
 pub mod ExprV
 pub mod ExprCode
 pub mod FormView
+pub mod ExprFalls
 pub mod RulesV
 pub mod Names
 pub mod Environment

@@ -1,11 +1,6 @@
-ghost use Rattle.std.specs.Prelude.{◌≡◌, ◌<◌, ◌≤◌, [], ◌∷◌, ◌++◌, length, slice_get, Some, OnOk};
-ghost use Rattle.csn_lexer.specs.declared.token.TheConstants.{MOST_TEXT};
-
 use crate::exponent::Exponent;
-use csn_bits::NoMemory;
-use csn_desc::{Label, Run};
+use csn_desc::{Label, Listed, Run};
 use csn_lexer::MOST_TEXT;
-use std::alloc::Global;
 use std::marker::Model;
 
 /// The most braces and labelled parts that stand inside one another.
@@ -59,12 +54,8 @@ pub enum Form {
     Sends(Box<Expr>, Box<Expr>),
 }
 
-/// Expressions one after another. A contract sees the list of them.
-#[cycle(expr)]
-#[derive(Drop)]
-pub struct Exprs {
-    exprs: Vec<Expr>,
-}
+/// Expressions one after another.
+pub type Exprs = Listed<Expr, MOST_TEXT>;
 
 /// An alternative. An error branch is one that stands behind `!`.
 #[cycle(expr)]
@@ -74,19 +65,15 @@ pub struct Branch {
     pub body: Expr,
 }
 
-/// The alternatives of a choice, in their order. A contract sees the list of them.
-#[cycle(expr)]
-#[derive(Drop)]
-pub struct Branches {
-    branches: Vec<Branch>,
-}
+/// The alternatives of a choice, in their order.
+pub type Branches = Listed<Branch, MOST_TEXT>;
 
 impl Model for Expr {
     ghost use Rattle.csn_grammar.specs.ExprV.{ExprV};
-    ghost use Rattle.csn_grammar.specs.ExprCode.{expr_code, expr_size};
-    ghost use Rattle.std.proofs.Common.{arith};
 
     ghost Value = { ExprV };
+
+    ghost use Rattle.csn_grammar.specs.ExprCode.{expr_code, expr_size};
 
     ghost coded = { expr_code };
 
@@ -96,35 +83,18 @@ impl Model for Expr {
 
     ghost size = { expr_size };
 
-    ghost size_decreases = { λ a h. Prim.grind arith };
-}
-
-impl Model for Exprs {
-    ghost use Rattle.std.specs.Prelude.{List, ◌≤◌, length};
-    ghost use Rattle.csn_lexer.specs.declared.token.TheConstants.{MOST_TEXT};
-    ghost use Rattle.csn_grammar.specs.ExprV.{ExprV};
-    ghost use Rattle.csn_grammar.specs.ExprCode.{exprs_code, list_size, most_le-list_size};
     ghost use Rattle.std.proofs.Common.{arith};
+    ghost use Rattle.csn_grammar.specs.ExprFalls.{deep_le-form_size};
 
-    ghost Value = { List ExprV };
-
-    ghost coded = { exprs_code };
-
-    ghost view = { λ r. r.exprs.items };
-
-    ghost invariant = { λ r. length r.exprs.items ≤ MOST_TEXT };
-
-    ghost size = { list_size };
-
-    ghost size_decreases = { λ a h. omega (arith, most_le-list_size a.exprs.items) };
+    ghost size_decreases = { λ a h. omega (arith, deep_le-form_size a.form) };
 }
 
 impl Model for Branch {
     ghost use Rattle.csn_grammar.specs.ExprV.{BranchV};
-    ghost use Rattle.csn_grammar.specs.ExprCode.{branch_code, branch_size};
-    ghost use Rattle.std.proofs.Common.{arith};
 
     ghost Value = { BranchV };
+
+    ghost use Rattle.csn_grammar.specs.ExprCode.{branch_code, branch_size};
 
     ghost coded = { branch_code };
 
@@ -132,101 +102,7 @@ impl Model for Branch {
 
     ghost size = { branch_size };
 
-    ghost size_decreases = { λ a h. Prim.grind arith };
-}
-
-impl Model for Branches {
-    ghost use Rattle.std.specs.Prelude.{List, ◌≤◌, length};
-    ghost use Rattle.csn_lexer.specs.declared.token.TheConstants.{MOST_TEXT};
-    ghost use Rattle.csn_grammar.specs.ExprV.{BranchV};
-    ghost use Rattle.csn_grammar.specs.ExprCode.{branches_code, branch_list_size, most_le-branch_list_size};
     ghost use Rattle.std.proofs.Common.{arith};
 
-    ghost Value = { List BranchV };
-
-    ghost coded = { branches_code };
-
-    ghost view = { λ r. r.branches.items };
-
-    ghost invariant = { λ r. length r.branches.items ≤ MOST_TEXT };
-
-    ghost size = { branch_list_size };
-
-    ghost size_decreases = { λ a h. omega (arith, most_le-branch_list_size a.branches.items) };
-}
-
-impl Exprs {
-    /// No expressions. It takes no memory.
-    pub(crate) fn new(alloc: Global) -> Exprs
-        ensures { result ≡ [] }
-    {
-        Exprs {
-            exprs: Vec::new(alloc),
-        }
-    }
-
-    /// Adds an expression at the end. A text has at least a byte for each, so that there is room.
-    pub(crate) fn push(&mut self, expr: Expr) -> Result<(), NoMemory>
-        ensures ok { OnOk result (self.new ≡ self.old ++ expr ∷ []) }
-    {
-        if self.exprs.len() >= MOST_TEXT as usize {
-            return Err(NoMemory);
-        }
-        self.exprs.push(expr)?;
-        Ok(())
-    }
-
-    /// How many expressions there are.
-    pub fn len(&self) -> u32
-        ensures len { result ≡ length self.now }
-        ensures bound { result ≤ MOST_TEXT }
-    {
-        self.exprs.len() as u32
-    }
-
-    /// The expression at the place `at`, counted from 0.
-    pub fn get(&self, at: u32) -> &Expr
-        requires { at < length self.now }
-        ensures { slice_get self.now at ≡ Some result.now }
-    {
-        &self.exprs[at as usize]
-    }
-}
-
-impl Branches {
-    /// No alternatives. It takes no memory.
-    pub(crate) fn new(alloc: Global) -> Branches
-        ensures { result ≡ [] }
-    {
-        Branches {
-            branches: Vec::new(alloc),
-        }
-    }
-
-    /// Adds an alternative at the end.
-    pub(crate) fn push(&mut self, branch: Branch) -> Result<(), NoMemory>
-        ensures ok { OnOk result (self.new ≡ self.old ++ branch ∷ []) }
-    {
-        if self.branches.len() >= MOST_TEXT as usize {
-            return Err(NoMemory);
-        }
-        self.branches.push(branch)?;
-        Ok(())
-    }
-
-    /// How many alternatives there are.
-    pub fn len(&self) -> u32
-        ensures len { result ≡ length self.now }
-        ensures bound { result ≤ MOST_TEXT }
-    {
-        self.branches.len() as u32
-    }
-
-    /// The alternative at the place `at`, counted from 0.
-    pub fn get(&self, at: u32) -> &Branch
-        requires { at < length self.now }
-        ensures { slice_get self.now at ≡ Some result.now }
-    {
-        &self.branches[at as usize]
-    }
+    ghost size_decreases = { λ a h. Prim.grind arith };
 }

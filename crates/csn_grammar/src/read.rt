@@ -48,8 +48,8 @@ fn finish(reader: Reader, end: u32) -> Result<Rules, GrammarFault>
     let Reader { rules, state } = reader;
     let between = is_between(&state);
     drop(state);
-    if between && !rules.is_empty() {
-        Ok(rules.whole())
+    if between && rules.len() > 0 {
+        Ok(Rules::of(rules))
     } else {
         Err(GrammarFault::Syntax { place: end })
     }

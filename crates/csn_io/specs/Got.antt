@@ -1,36 +1,36 @@
 -- What a source answers. (This project's own choice.)
 use Rattle.std.specs.Prelude.{◌≡◌, ℕ, List, [], ◌++◌, Option, Some, None, ⊤}
 use Rattle.csn_io.specs.declared.source.Got.{Got}
-use Rattle.csn_io.specs.declared.source.Got.TheVariants.{Bytes, End, Failed}
+use Rattle.csn_io.specs.declared.source.Got.TheVariants.{End, Bytes, Failed}
 
 -- the answer is Bytes(n) only where this holds of n
 abbrev pub IfBytes : Got → (ℕ → Type 0) → Type 0
-IfBytes (Bytes n) P = P n
 IfBytes End P = ⊤
+IfBytes (Bytes n) P = P n
 IfBytes Failed P = ⊤
 
 -- the answer is End only where this holds
 abbrev pub OnEnd : Got → Type 0 → Type 0
-OnEnd (Bytes n) P = ⊤
 OnEnd End P = P
+OnEnd (Bytes n) P = ⊤
 OnEnd Failed P = ⊤
 
 -- the answer is Failed only where this holds
 abbrev pub OnFailed : Got → Type 0 → Type 0
-OnFailed (Bytes n) P = ⊤
 OnFailed End P = ⊤
+OnFailed (Bytes n) P = ⊤
 OnFailed Failed P = P
 
 -- the answer is Bytes, or this holds
 abbrev pub UnlessBytes : Got → Type 0 → Type 0
-UnlessBytes (Bytes n) P = ⊤
 UnlessBytes End P = P
+UnlessBytes (Bytes n) P = ⊤
 UnlessBytes Failed P = P
 
 -- the answer is Failed, or this holds
 abbrev pub UnlessFailed : Got → Type 0 → Type 0
-UnlessFailed (Bytes n) P = P
 UnlessFailed End P = P
+UnlessFailed (Bytes n) P = P
 UnlessFailed Failed P = ⊤
 
 -- a source that had `before` left gave these bytes, and has `after` left. What a source tells it

@@ -6,10 +6,10 @@ ghost use Rattle.csn_io.specs.declared.source.Got.TheVariants.{Failed};
 /// What came of asking a source for bytes.
 #[derive(Clone, Copy, Debug, PartialEq, Eq)]
 pub enum Got {
-    /// So many bytes, at least one, now stand at the front of the buffer.
-    Bytes(usize),
     /// Nothing is left.
     End,
+    /// So many bytes, at least one, now stand at the front of the buffer.
+    Bytes(usize),
     /// The outside is at fault, and the source's count of faults shows it.
     Failed,
 }

@@ -110,6 +110,9 @@ impl Machine<'_> {
         ensures plan { self.new.plan ≡ self.old.plan }
     {
         source.none_behind_end();
+        if !track.takes_whole() {
+            return false;
+        }
         let Some(layout) = self.plan.layout(i) else {
             return false;
         };

@@ -37,6 +37,11 @@ pub trait Track {
         }
     }
 
+    /// Whether it is worth asking for all moves of a node at once.
+    fn takes_whole(&self) -> bool {
+        false
+    }
+
     /// All moves of node `i` of a plan at once, for the bits that the number writes; or nothing, where the track takes
     /// them one by one.
     fn whole(&mut self, _plan: &Plan, _i: u16, _layout: Layout, _number: u64) -> bool
@@ -66,6 +71,10 @@ impl Track for NoTrack {
     fn step(&mut self, _step: Move, _node: &Node) {}
 
     fn bits(&mut self, _number: u64, _count: u32, _node: &Node) {}
+
+    fn takes_whole(&self) -> bool {
+        true
+    }
 
     fn whole(&mut self, _plan: &Plan, _i: u16, _layout: Layout, _number: u64) -> bool {
         true

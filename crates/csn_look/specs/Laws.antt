@@ -121,20 +121,20 @@ RootIsReached = (d : DescV) → Reached d 0 0
 abbrev pub ReachedAreOctets : Type 0
 ReachedAreOctets = (d : DescV) (i o : ℕ) → Reached d i o → o < 8
 
--- a part of a sequence, or of a truncation, is reached where bits of the parts before it end
-abbrev pub SequencesReach : Type 0
-SequencesReach =
+-- a part of such a node is reached where bits of the parts before it end
+abbrev pub PartsReach : (List ℕ → Node) → Type 0
+PartsReach of_parts =
     (d : DescV) (k i o : ℕ) (parts before after : List ℕ) (v : Values) (b : List ℕ) (ts : Trees) → IsDescription d
-    → slice_get d.nodes k ≡ Some (Seq parts) → parts ≡ before ++ i ∷ after → FitWidths d v → Reached d k (o % 8)
+    → slice_get d.nodes k ≡ Some (of_parts parts) → parts ≡ before ++ i ∷ after → FitWidths d v → Reached d k (o % 8)
     → PartsMean d before o v b ts
     → Reached d i ((o + length b) % 8)
 
+-- so are the parts of a sequence, and of a truncation
+abbrev pub SequencesReach : Type 0
+SequencesReach = PartsReach Seq
+
 abbrev pub TruncationsReach : Type 0
-TruncationsReach =
-    (d : DescV) (k i o : ℕ) (parts before after : List ℕ) (v : Values) (b : List ℕ) (ts : Trees) → IsDescription d
-    → slice_get d.nodes k ≡ Some (Trunc parts) → parts ≡ before ++ i ∷ after → FitWidths d v → Reached d k (o % 8)
-    → PartsMean d before o v b ts
-    → Reached d i ((o + length b) % 8)
+TruncationsReach = PartsReach Trunc
 
 -- the part of a repetition where bits of fewer turns than it has end, and of a free one where bits of any turns end
 abbrev pub RepetitionsReach : Type 0
@@ -202,29 +202,33 @@ OneFreeTurnMore =
 
 -- ---- what stands behind parts: p is the place where the part ends
 
--- in a sequence: bits of the later parts, and what may stand behind the sequence
-abbrev pub BehindPartsOfSequences : Type 0
-BehindPartsOfSequences =
+-- in a node of parts one after another: bits that the later parts have, and what may stand behind the node
+abbrev pub BehindParts : (List ℕ → Node) → (DescV → List ℕ → ℕ → Values → List ℕ → Trees → Type 0) → Type 0
+BehindParts of_parts LaterMean =
     (d : DescV) (k i p : ℕ) (parts before after : List ℕ) (v : Values) (b x : List ℕ) (ts : Trees) → IsDescription d
-    → slice_get d.nodes k ≡ Some (Seq parts) → parts ≡ before ++ i ∷ after → FitWidths d v
-    → PartsMean d after p v b ts → MayStandBehind d k ((p + length b) % 8) x
+    → slice_get d.nodes k ≡ Some (of_parts parts) → parts ≡ before ++ i ∷ after → FitWidths d v
+    → LaterMean d after p v b ts → MayStandBehind d k ((p + length b) % 8) x
     → MayStandBehind d i (p % 8) (b ++ x)
 
 -- or bits that the later parts follow
-abbrev pub FollowedBehindPartsOfSequences : Type 0
-FollowedBehindPartsOfSequences =
+abbrev pub FollowedBehindParts : (List ℕ → Node) → Type 0
+FollowedBehindParts of_parts =
     (d : DescV) (k i p : ℕ) (parts before after : List ℕ) (v : Values) (b : List ℕ) → IsDescription d
-    → slice_get d.nodes k ≡ Some (Seq parts) → parts ≡ before ++ i ∷ after → FitWidths d v
+    → slice_get d.nodes k ≡ Some (of_parts parts) → parts ≡ before ++ i ∷ after → FitWidths d v
     → PartsFollow d after p v b
     → MayStandBehind d i (p % 8) b
 
--- in a truncation the same, and behind the last component that it has what may stand behind the truncation
+-- so in a sequence, which has all of the later parts
+abbrev pub BehindPartsOfSequences : Type 0
+BehindPartsOfSequences = BehindParts Seq PartsMean
+
+abbrev pub FollowedBehindPartsOfSequences : Type 0
+FollowedBehindPartsOfSequences = FollowedBehindParts Seq
+
+-- in a truncation, which has the first few of them, and behind the last component that it has what may stand behind
+-- the truncation
 abbrev pub BehindPartsOfTruncations : Type 0
-BehindPartsOfTruncations =
-    (d : DescV) (k i p : ℕ) (parts before after : List ℕ) (v : Values) (b x : List ℕ) (ts : Trees) → IsDescription d
-    → slice_get d.nodes k ≡ Some (Trunc parts) → parts ≡ before ++ i ∷ after → FitWidths d v
-    → LeadMean d after p v b ts → MayStandBehind d k ((p + length b) % 8) x
-    → MayStandBehind d i (p % 8) (b ++ x)
+BehindPartsOfTruncations = BehindParts Trunc LeadMean
 
 abbrev pub BehindLastOfTruncations : Type 0
 BehindLastOfTruncations =
@@ -233,11 +237,7 @@ BehindLastOfTruncations =
     → MayStandBehind d i o x
 
 abbrev pub FollowedBehindPartsOfTruncations : Type 0
-FollowedBehindPartsOfTruncations =
-    (d : DescV) (k i p : ℕ) (parts before after : List ℕ) (v : Values) (b : List ℕ) → IsDescription d
-    → slice_get d.nodes k ≡ Some (Trunc parts) → parts ≡ before ++ i ∷ after → FitWidths d v
-    → PartsFollow d after p v b
-    → MayStandBehind d i (p % 8) b
+FollowedBehindPartsOfTruncations = FollowedBehindParts Trunc
 
 -- in a repetition: bits of the turns that are left, and what may stand behind the repetition; or bits that these
 -- turns follow

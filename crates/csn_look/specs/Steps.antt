@@ -26,6 +26,12 @@ HasPartsBelow n count = (j p : ℕ) → slice_get (parts_of n) j ≡ Some p → 
 abbrev pub HasPartsOnce : Node → Type 0
 HasPartsOnce n = (j k p : ℕ) → slice_get (parts_of n) j ≡ Some p → slice_get (parts_of n) k ≡ Some p → j ≡ k
 
+-- what stands where a node hands down to its parts: a list has so many nodes, and look-ahead knows so many
+pub record HandsTo (n : Node) (nodes sets : ℕ) : Type 0 where
+  pub once : HasPartsOnce n
+  pub below : HasPartsBelow n nodes
+  pub known : HasPartsBelow n sets
+
 -- what the list has for what is no part of the node stays
 abbrev pub KeepsOthers : {A : Type 0} → Node → List A → List A → Type 0
 KeepsOthers n old new = (i : ℕ) → ((j : ℕ) → slice_get (parts_of n) j ≡ Some i → ⊥) → slice_get new i ≡ slice_get old i

@@ -4,7 +4,7 @@ ghost use Rattle.csn_desc.specs.Nodes.{DescV, parts_of};
 ghost use Rattle.csn_look.specs.Told.{OctetsAre};
 ghost use Rattle.csn_look.specs.Sums.{Has};
 ghost use Rattle.csn_look.specs.NodeSets.{IsLookOf};
-ghost use Rattle.csn_look.specs.Steps.{HasPartsBelow, HasPartsOnce, KeepsOthers};
+ghost use Rattle.csn_look.specs.Steps.{HandsTo, KeepsOthers};
 ghost use Rattle.csn_look.specs.FollowV.{IsBehind, FollowsAre, HasFollows, HasFollowsInOrder, signs_at};
 
 use crate::follow::Follow;
@@ -69,9 +69,7 @@ impl HandDown for Following {
 
 /// What may follow the parts of a node, from what may follow the node.
 fn follow_parts(look: &Look, node: &Node, above: Following, table: &mut [Following])
-    requires once { HasPartsOnce node.now }
-    requires below { HasPartsBelow node.now (length table.old) }
-    requires known { HasPartsBelow node.now (length look.now.sets) }
+    requires { HandsTo node.now (length table.old) (length look.now.sets) }
     ensures follows { (d : DescV) (k : ℕ) → IsLookOf d look.now.sets → FollowsAre d k above → HasFollows d node.now k table.new }
     ensures others { KeepsOthers node.now table.old table.new }
 {
@@ -103,12 +101,7 @@ fn follow_parts(look: &Look, node: &Node, above: Following, table: &mut [Followi
         Node::Named { label: _, part } => {
             table[*part as usize] = above;
         }
-        Node::Lits(_) => {}
-        Node::Spare(_) => {}
-        Node::Pad => {}
-        Node::Null => {}
-        Node::Field { unit: _, count: _ } => {}
-        Node::Rest => {}
+        _ => {}
     }
 }
 
@@ -120,9 +113,7 @@ fn follow_in_order(
     above: Following,
     table: &mut [Following],
 )
-    requires once { HasPartsOnce (Node.Seq parts.now) }
-    requires below { HasPartsBelow (Node.Seq parts.now) (length table.old) }
-    requires known { HasPartsBelow (Node.Seq parts.now) (length look.now.sets) }
+    requires { HandsTo (Node.Seq parts.now) (length table.old) (length look.now.sets) }
     ensures follows { (d : DescV) (k : ℕ) → IsLookOf d look.now.sets → FollowsAre d k above → HasFollowsInOrder d ends_early parts.now k table.new }
     ensures others { KeepsOthers (Node.Seq parts.now) table.old table.new }
 {

@@ -1,13 +1,13 @@
 //! Whether all words of one size that go on from a word are keys.
 
-ghost use Rattle.std.specs.Prelude.{◌≡◌, ℕ, ◌+◌, ◌-◌, ◌*◌, ◌/◌, ◌^◌, ◌<◌, ◌≤◌, Bool, true, false, not, if◌then◌else◌, List, length, IfSome, IfNone, IsTrue, ◌==◌};
-ghost use Rattle.std.specs.Int.{bit_at};
-ghost use Rattle.csn_look.specs.Full.{is_key_at, AreAll, IsOther, AreNoKeys, IsFullAt};
+ghost use Rattle.std.specs.Prelude.{◌≡◌, ℕ, ◌+◌, ◌-◌, ◌*◌, ◌^◌, ◌<◌, ◌≤◌, true, false, List, length, IfSome, IfNone, IsTrue};
+ghost use Rattle.csn_look.specs.Full.{is_key_at, AreAll, IsOther, AreNoKeys, IsFullAt, sought_against};
 ghost use Rattle.csn_look.specs.KeyMarks.{IsWord, place_of};
 ghost use Rattle.csn_look.specs.KeyTables.{IsKeyTable};
 
-use crate::key_marks::{CUT, MARK_WORDS, STARTS, is_key};
+use crate::key_marks::{MARK_WORDS, STARTS, is_key};
 use crate::key_table::KeyTable;
+use crate::marks::{Sought, next_sought};
 use crate::word::{MOST_WORD, PLACES};
 
 /// How many bits more the keys have that go on from the word with this place, which has so many bits: where all words
@@ -81,26 +81,12 @@ fn are_all(table: &KeyTable, keys: bool, from: usize, end: usize) -> bool
     ensures all { IsTrue result → AreAll table.now keys from end }
     ensures other { result ≡ false → IsOther table.now keys from end }
 {
-    let mut at = from;
-    while at < end {
-        let left = others(table, keys, at / 64) >> (at % 64);
-        if left == 0 {
-            at = 64 * (at / 64 + 1);
-        } else if left % 2 == 1 {
-            return false;
-        } else {
-            at += 1;
-        }
-    }
-    true
+    next_sought(table, sought_against(keys), from, end) == end
 }
 
-/// Which of the words with 64 places are no keys; or are.
-fn others(table: &KeyTable, keys: bool, at: usize) -> u64
-    requires size { length table.now ≡ MARK_WORDS }
-    requires few { at < PLACES / 64 }
-    ensures { (k : ℕ) → k < 64 → (bit_at result k == 1) ≡ (if keys then not (is_key_at table.now (64 * at + k)) else is_key_at table.now (64 * at + k)) }
+/// What is sought where words are to be keys, or are to be none.
+fn sought_against(keys: bool) -> Sought
+    ensures { result ≡ sought_against keys }
 {
-    let marked = table.word(at) | table.word(CUT / 64 + at);
-    if keys { !marked } else { marked }
+    if keys { Sought::NoKey } else { Sought::Key }
 }

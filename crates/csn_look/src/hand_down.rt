@@ -2,7 +2,7 @@ ghost use Rattle.std.specs.Prelude.{◌≡◌, ℕ, ◌<◌, length, slice_get, 
 ghost use Rattle.csn_desc.specs.Nodes.{DescV, parts_of};
 ghost use Rattle.csn_desc.specs.Formed.{IsDescription};
 ghost use Rattle.csn_look.specs.NodeSets.{IsLookOf};
-ghost use Rattle.csn_look.specs.Steps.{HasPartsBelow, HasPartsOnce, HasRight, AreRight, KeepsOthers};
+ghost use Rattle.csn_look.specs.Steps.{HandsTo, HasRight, AreRight, KeepsOthers};
 
 use crate::look::Look;
 use csn_bits::NoMemory;
@@ -16,9 +16,7 @@ pub(crate) trait HandDown: Copy {
 
     /// Writes to a table what the parts of a node have, from what the node has.
     fn hand_down(look: &Look, node: &Node, above: Self, table: &mut [Self])
-        requires once { HasPartsOnce node.now }
-        requires below { HasPartsBelow node.now (length table.old) }
-        requires known { HasPartsBelow node.now (length look.now.sets) }
+        requires { HandsTo node.now (length table.old) (length look.now.sets) }
         ensures parts { (d : DescV) (k : ℕ) → IsDescription d → IsLookOf d look.now.sets → slice_get d.nodes k ≡ Some node.now → is_right d k above → (j p : ℕ) → slice_get (parts_of node.now) j ≡ Some p → HasRight (is_right d) table.new p }
         ensures others { KeepsOthers node.now table.old table.new };
 }

@@ -267,7 +267,7 @@ fn literal_word(run: &Run, octet: u8) -> Word
     let size = if run.len() < most { run.len() } else { most };
     for at in 0..size {
         let place = (octet as u32 + at) % 8;
-        word.push(bit_of_symbol(run.get(at), place as u8));
+        word.push(bit_of_symbol(*run.get(at), place as u8));
     }
     word
 }

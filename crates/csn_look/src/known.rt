@@ -273,7 +273,7 @@ fn literal_starts(run: &Run, bit: u8) -> OctetSet
     if run.len() == 0 {
         OctetSet::empty()
     } else {
-        symbol_starts(run.get(0), bit)
+        symbol_starts(*run.get(0), bit)
     }
 }
 

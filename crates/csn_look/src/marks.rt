@@ -4,8 +4,9 @@ ghost use Rattle.std.specs.Prelude.{◌≡◌, ℕ, ◌+◌, ◌*◌, ◌^◌, �
 ghost use Rattle.std.specs.Int.{bit_at};
 ghost use Rattle.csn_look.specs.KeyMarks.{is_marked};
 ghost use Rattle.csn_look.specs.KeySteps.{Copies};
+ghost use Rattle.csn_look.specs.Full.{is_sought, sought_end};
 
-use crate::key_marks::{MARK_WORDS, MARKS};
+use crate::key_marks::{CUT, MARK_WORDS, MARKS};
 use crate::key_table::KeyTable;
 
 /// Whether the mark is set.
@@ -14,6 +15,14 @@ pub(crate) fn is_marked(marks: &[u64], at: usize) -> bool
     ensures { result ≡ is_marked marks.now at }
 {
     (marks[at / 64] >> (at % 64)) % 2 == 1
+}
+
+/// What is sought among places: marks, words that are keys, whole or cut, or words that are none.
+#[derive(Clone, Copy, Debug)]
+pub(crate) enum Sought {
+    Marked,
+    Key,
+    NoKey,
 }
 
 /// The first place from this one on, and before an end, whose mark is set; and the end where there is none.
@@ -26,9 +35,22 @@ pub(crate) fn next_marked(marks: &KeyTable, from: usize, end: usize) -> usize
     ensures none { (at : ℕ) → from ≤ at → at < result → is_marked marks.now at ≡ false }
     ensures here { result < end → is_marked marks.now result ≡ true }
 {
+    next_sought(marks, Sought::Marked, from, end)
+}
+
+/// The first place from this one on, and before an end, that is sought; and the end where there is none.
+pub(crate) fn next_sought(table: &KeyTable, sought: Sought, from: usize, end: usize) -> usize
+    requires size { length table.now ≡ MARK_WORDS }
+    requires order { from ≤ end }
+    requires within { end ≤ sought_end sought }
+    ensures low { from ≤ result }
+    ensures high { result ≤ end }
+    ensures none { (at : ℕ) → from ≤ at → at < result → is_sought sought table.now at ≡ false }
+    ensures here { result < end → is_sought sought table.now result ≡ true }
+{
     let mut at = from;
     while at < end {
-        let left = marks.word(at / 64) >> (at % 64);
+        let left = sought_in(table, sought, at / 64) >> (at % 64);
         if left == 0 {
             at = 64 * (at / 64 + 1);
         } else if left % 2 == 1 {
@@ -38,6 +60,19 @@ pub(crate) fn next_marked(marks: &KeyTable, from: usize, end: usize) -> usize
         }
     }
     end
+}
+
+/// Which of 64 places are sought.
+fn sought_in(table: &KeyTable, sought: Sought, at: usize) -> u64
+    requires size { length table.now ≡ MARK_WORDS }
+    requires few { 64 * at < sought_end sought }
+    ensures { (k : ℕ) → k < 64 → (bit_at result k == 1) ≡ is_sought sought table.now (64 * at + k) }
+{
+    match sought {
+        Sought::Marked => table.word(at),
+        Sought::Key => table.word(at) | table.word(CUT / 64 + at),
+        Sought::NoKey => !(table.word(at) | table.word(CUT / 64 + at)),
+    }
 }
 
 /// Sets a mark.

@@ -102,18 +102,25 @@ impl OctetSet {
         sums
     }
 
+    /// The numbers of bits that lead back where those of this set led on, all modulo 8.
+    fn back(self) -> OctetSet
+        ensures { OctetsAre result (λ octet. Has self ((8 - octet) % 8)) }
+    {
+        let mut back = OctetSet::empty();
+        for octet in 0..8 {
+            if self.has((8 - octet) % 8) {
+                back = back.with(octet);
+            }
+        }
+        back
+    }
+
     /// The positions from which as many bits as one of the lengths, which count modulo 8, lead to a
     /// position of this set.
     pub fn before(self, lengths: OctetSet) -> OctetSet
         ensures { OctetsAre result (Leads lengths self) }
     {
-        let mut begins = OctetSet::empty();
-        for by in 0..8 {
-            if lengths.has(by) {
-                begins = begins.union(self.turned((8 - by) % 8));
-            }
-        }
-        begins
+        self.plus(lengths.back())
     }
 
     /// The sums modulo 8 of `n` numbers of this set.

@@ -7,7 +7,7 @@ ghost use Rattle.csn_look.specs.NodeSets.{LengthsAre, IsLookOf};
 ghost use Rattle.csn_look.specs.Reached.{Reached, PartReached, InFollow};
 ghost use Rattle.csn_look.specs.ReachV.{IsReachOf};
 ghost use Rattle.csn_look.specs.FollowV.{IsFollow, IsFollowOf};
-ghost use Rattle.csn_look.specs.Steps.{HasSteps, HasPartsBelow, HasPartsOnce, KeepsOthers};
+ghost use Rattle.csn_look.specs.Steps.{HasSteps, HandsTo, KeepsOthers};
 
 use crate::follow::Follow;
 use crate::following::{Following, signs_of};
@@ -93,9 +93,7 @@ impl HandDown for OctetSet {
 
 /// Where the parts of a node are reached that is reached from these octet positions.
 fn reach_parts(look: &Look, node: &Node, from: OctetSet, reached: &mut [OctetSet])
-    requires once { HasPartsOnce node.now }
-    requires below { HasPartsBelow node.now (length reached.old) }
-    requires known { HasPartsBelow node.now (length look.now.sets) }
+    requires { HandsTo node.now (length reached.old) (length look.now.sets) }
     ensures steps { (d : DescV) → IsLookOf d look.now.sets → HasSteps d node.now from reached.new }
     ensures others { KeepsOthers node.now reached.old reached.new }
 {
@@ -119,20 +117,13 @@ fn reach_parts(look: &Look, node: &Node, from: OctetSet, reached: &mut [OctetSet
         Node::Named { label: _, part } => {
             reached[*part as usize] = from;
         }
-        Node::Lits(_) => {}
-        Node::Spare(_) => {}
-        Node::Pad => {}
-        Node::Null => {}
-        Node::Field { unit: _, count: _ } => {}
-        Node::Rest => {}
+        _ => {}
     }
 }
 
 /// Where parts one after another are reached.
 fn reach_in_order(look: &Look, parts: &Parts, from: OctetSet, reached: &mut [OctetSet])
-    requires once { HasPartsOnce (Node.Seq parts.now) }
-    requires below { HasPartsBelow (Node.Seq parts.now) (length reached.old) }
-    requires known { HasPartsBelow (Node.Seq parts.now) (length look.now.sets) }
+    requires { HandsTo (Node.Seq parts.now) (length reached.old) (length look.now.sets) }
     ensures steps { (d : DescV) → IsLookOf d look.now.sets → HasSteps d (Node.Seq parts.now) from reached.new }
     ensures others { KeepsOthers (Node.Seq parts.now) reached.old reached.new }
 {

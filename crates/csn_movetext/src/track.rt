@@ -109,6 +109,11 @@ impl<'a> Track for TextTrack<'a> {
     }
 
     #[inline(always)]
+    fn takes_whole(&self) -> bool {
+        matches!(self.openings.form(), TreeForm::Text)
+    }
+
+    #[inline(always)]
     fn whole(&mut self, _plan: &Plan, _i: u16, _layout: Layout, _number: u64) -> bool {
         if self.refused || self.writing.is_open() {
             return false;

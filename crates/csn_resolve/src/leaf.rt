@@ -32,7 +32,7 @@ pub(crate) fn copy_run(alloc: Global, run: &Run) -> Result<Run, NoMemory>
 {
     let mut copy = Run::new(alloc);
     for at in 0..run.len() {
-        copy.push(run.get(at))?;
+        copy.add(*run.get(at))?;
     }
     Ok(copy)
 }

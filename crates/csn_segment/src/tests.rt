@@ -56,165 +56,142 @@ fn joins(rt: &impl Abort, alloc: Global, steps: &[(Octets, Answer)]) -> Result<(
 
 #[test]
 fn a_first_segment_waits_for_its_second(rt: HostRuntime) -> Result<(), Fail> {
-    joins(
-        &rt,
-        rt.alloc(),
-        &[
-            (SECOND, NO_FIRST),
-            (FIRST, Answer::Waiting(3)),
-            (SECOND, MESSAGE),
-            (SECOND, NO_FIRST),
-        ],
-    )
+    let steps: [(Octets, Answer); 4] = [
+        (SECOND, NO_FIRST),
+        (FIRST, Answer::Waiting(3)),
+        (SECOND, MESSAGE),
+        (SECOND, NO_FIRST),
+    ];
+    joins(&rt, rt.alloc(), &steps)
 }
 
 #[test]
 fn a_first_segment_replaces_one_that_waits(rt: HostRuntime) -> Result<(), Fail> {
-    joins(
-        &rt,
-        rt.alloc(),
-        &[
-            (&[(0x80, 1), (0x0C, 1), (0xC1, 21)], Answer::Waiting(3)),
-            (FIRST, Answer::Waiting(3)),
-            (SECOND, MESSAGE),
-        ],
-    )
+    let steps: [(Octets, Answer); 3] = [
+        (&[(0x80, 1), (0x0C, 1), (0xC1, 21)], Answer::Waiting(3)),
+        (FIRST, Answer::Waiting(3)),
+        (SECOND, MESSAGE),
+    ];
+    joins(&rt, rt.alloc(), &steps)
 }
 
 #[test]
 fn transactions_stand_between_each_other(rt: HostRuntime) -> Result<(), Fail> {
-    joins(
-        &rt,
-        rt.alloc(),
-        &[
-            (FIRST, Answer::Waiting(3)),
-            (&[(0x80, 1), (0x7C, 1), (0xA2, 21)], Answer::Waiting(31)),
-            (&[(0x80, 1), (0x82, 1), (0xB3, 21)], NO_FIRST),
-            (SECOND, MESSAGE),
-            (
-                &[(0x80, 1), (0xFE, 1), (0xB2, 21)],
-                Answer::Message(&[(0xA2, 21), (0xB2, 21)]),
-            ),
-        ],
-    )
+    let steps: [(Octets, Answer); 5] = [
+        (FIRST, Answer::Waiting(3)),
+        (&[(0x80, 1), (0x7C, 1), (0xA2, 21)], Answer::Waiting(31)),
+        (&[(0x80, 1), (0x82, 1), (0xB3, 21)], NO_FIRST),
+        (SECOND, MESSAGE),
+        (
+            &[(0x80, 1), (0xFE, 1), (0xB2, 21)],
+            Answer::Message(&[(0xA2, 21), (0xB2, 21)]),
+        ),
+    ];
+    joins(&rt, rt.alloc(), &steps)
 }
 
 #[test]
 fn an_address_is_no_part_of_a_message(rt: HostRuntime) -> Result<(), Fail> {
-    joins(
-        &rt,
-        rt.alloc(),
-        &[
-            (
-                &[(0x80, 1), (0x0D, 1), (0x42, 1), (0xA1, 20)],
-                Answer::Waiting(3),
-            ),
-            (
-                &[(0x80, 1), (0x8F, 1), (0x42, 1), (0xB1, 20)],
-                Answer::Message(&[(0xA1, 20), (0xB1, 20)]),
-            ),
-            (
-                &[(0x80, 1), (0x0F, 1), (0x42, 1), (0xD1, 20)],
-                Answer::Message(&[(0xD1, 20)]),
-            ),
-        ],
-    )
+    let steps: [(Octets, Answer); 3] = [
+        (
+            &[(0x80, 1), (0x0D, 1), (0x42, 1), (0xA1, 20)],
+            Answer::Waiting(3),
+        ),
+        (
+            &[(0x80, 1), (0x8F, 1), (0x42, 1), (0xB1, 20)],
+            Answer::Message(&[(0xA1, 20), (0xB1, 20)]),
+        ),
+        (
+            &[(0x80, 1), (0x0F, 1), (0x42, 1), (0xD1, 20)],
+            Answer::Message(&[(0xD1, 20)]),
+        ),
+    ];
+    joins(&rt, rt.alloc(), &steps)
 }
 
 #[test]
 fn other_blocks_leave_what_waits(rt: HostRuntime) -> Result<(), Fail> {
-    joins(
-        &rt,
-        rt.alloc(),
-        &[
-            (FIRST, Answer::Waiting(3)),
-            (&[], Answer::Refused(SegmentWhy::BadLength)),
-            (
-                &[(0x80, 1), (0x0E, 1), (0xD1, 20)],
-                Answer::Refused(SegmentWhy::BadLength),
-            ),
-            (
-                &[(0x80, 1), (0x0E, 1), (0xD1, 22)],
-                Answer::Refused(SegmentWhy::BadLength),
-            ),
-            (
-                &[(0x3F, 1), (0x0E, 1), (0xD1, 21)],
-                Answer::Refused(SegmentWhy::NotControl),
-            ),
-            (
-                &[(0xC0, 1), (0x0E, 1), (0xD1, 21)],
-                Answer::Refused(SegmentWhy::Reserved),
-            ),
-            (
-                &[(0x80, 1), (0x8C, 1), (0xD1, 21)],
-                Answer::Refused(SegmentWhy::NotFinal),
-            ),
-            (
-                &[(0x7F, 1), (0x0E, 1), (0xD1, 21)],
-                Answer::Message(&[(0x0E, 1), (0xD1, 21)]),
-            ),
-            (SECOND, MESSAGE),
-        ],
-    )
+    let steps: [(Octets, Answer); 9] = [
+        (FIRST, Answer::Waiting(3)),
+        (&[], Answer::Refused(SegmentWhy::BadLength)),
+        (
+            &[(0x80, 1), (0x0E, 1), (0xD1, 20)],
+            Answer::Refused(SegmentWhy::BadLength),
+        ),
+        (
+            &[(0x80, 1), (0x0E, 1), (0xD1, 22)],
+            Answer::Refused(SegmentWhy::BadLength),
+        ),
+        (
+            &[(0x3F, 1), (0x0E, 1), (0xD1, 21)],
+            Answer::Refused(SegmentWhy::NotControl),
+        ),
+        (
+            &[(0xC0, 1), (0x0E, 1), (0xD1, 21)],
+            Answer::Refused(SegmentWhy::Reserved),
+        ),
+        (
+            &[(0x80, 1), (0x8C, 1), (0xD1, 21)],
+            Answer::Refused(SegmentWhy::NotFinal),
+        ),
+        (
+            &[(0x7F, 1), (0x0E, 1), (0xD1, 21)],
+            Answer::Message(&[(0x0E, 1), (0xD1, 21)]),
+        ),
+        (SECOND, MESSAGE),
+    ];
+    joins(&rt, rt.alloc(), &steps)
 }
 
 #[test]
 fn a_message_in_one_block_ends_what_waits(rt: HostRuntime) -> Result<(), Fail> {
-    joins(
-        &rt,
-        rt.alloc(),
-        &[
-            (FIRST, Answer::Waiting(3)),
-            (
-                &[(0x80, 1), (0x0E, 1), (0xD1, 21)],
-                Answer::Message(&[(0xD1, 21)]),
-            ),
-            (SECOND, NO_FIRST),
-        ],
-    )
+    let whole: Octets = &[(0x80, 1), (0x0E, 1), (0xD1, 21)];
+    let steps: [(Octets, Answer); 3] = [
+        (FIRST, Answer::Waiting(3)),
+        (whole, Answer::Message(&[(0xD1, 21)])),
+        (SECOND, NO_FIRST),
+    ];
+    joins(&rt, rt.alloc(), &steps)
 }
 
 /// A packet polling request that is filled up with the padding pattern, in one block and in two.
 #[test]
 fn a_message_is_filled_up(rt: HostRuntime) -> Result<(), Fail> {
-    joins(
-        &rt,
-        rt.alloc(),
-        &[
-            (
-                &[
-                    (0x40, 1),
-                    (0x10, 1),
-                    (0xB0, 1),
-                    (0x00, 3),
-                    (0x6B, 1),
-                    (0x2B, 16),
-                ],
-                Answer::Message(&[(0x10, 1), (0xB0, 1), (0x00, 3), (0x6B, 1), (0x2B, 16)]),
-            ),
-            (
-                &[
-                    (0x80, 1),
-                    (0x0C, 1),
-                    (0x10, 1),
-                    (0xB0, 1),
-                    (0x00, 3),
-                    (0x6B, 1),
-                    (0x2B, 15),
-                ],
-                Answer::Waiting(3),
-            ),
-            (&[(0x80, 1), (0x10, 1), (0x2B, 21)], Answer::Waiting(4)),
-            (
-                &[(0x80, 1), (0x8E, 1), (0x2B, 21)],
-                Answer::Message(&[(0x10, 1), (0xB0, 1), (0x00, 3), (0x6B, 1), (0x2B, 36)]),
-            ),
-            (&[(0x80, 1), (0x8E, 1), (0x2B, 21)], NO_FIRST),
-            (
-                &[(0x00, 1), (0x2B, 22)],
-                Answer::Refused(SegmentWhy::NotControl),
-            ),
-            (&[(0x40, 1)], Answer::Refused(SegmentWhy::BadLength)),
-        ],
-    )
+    let steps: [(Octets, Answer); 7] = [
+        (
+            &[
+                (0x40, 1),
+                (0x10, 1),
+                (0xB0, 1),
+                (0x00, 3),
+                (0x6B, 1),
+                (0x2B, 16),
+            ],
+            Answer::Message(&[(0x10, 1), (0xB0, 1), (0x00, 3), (0x6B, 1), (0x2B, 16)]),
+        ),
+        (
+            &[
+                (0x80, 1),
+                (0x0C, 1),
+                (0x10, 1),
+                (0xB0, 1),
+                (0x00, 3),
+                (0x6B, 1),
+                (0x2B, 15),
+            ],
+            Answer::Waiting(3),
+        ),
+        (&[(0x80, 1), (0x10, 1), (0x2B, 21)], Answer::Waiting(4)),
+        (
+            &[(0x80, 1), (0x8E, 1), (0x2B, 21)],
+            Answer::Message(&[(0x10, 1), (0xB0, 1), (0x00, 3), (0x6B, 1), (0x2B, 36)]),
+        ),
+        (&[(0x80, 1), (0x8E, 1), (0x2B, 21)], NO_FIRST),
+        (
+            &[(0x00, 1), (0x2B, 22)],
+            Answer::Refused(SegmentWhy::NotControl),
+        ),
+        (&[(0x40, 1)], Answer::Refused(SegmentWhy::BadLength)),
+    ];
+    joins(&rt, rt.alloc(), &steps)
 }

@@ -1,7 +1,7 @@
--- The table of the values of hexadecimal digits in upper case.
-use Rattle.std.proofs.Common.{◌≡◌, ℕ, zero, suc, ◌<◌, ◌≤◌, ◌==◌, nat_le, true, false, if◌then◌else◌, Option, Some, None, refl, sym, ap, ◌∙◌, arith, eqb-true, slice_index}
+-- The values of hexadecimal digits in upper case: those of all digits below `a`.
+use Rattle.std.proofs.Common.{◌≡◌, ℕ, zero, suc, ◌<◌, ◌≤◌, ◌==◌, nat_le, true, false, if◌then◌else◌, Option, Some, None, sym, ap, ◌∙◌, refl, arith, eqb-true}
 use Rattle.std.proofs.lemmas.Bool.{agree_below_at, le-leb, lt-leb}
-use Rattle.csn_treetext.specs.declared.long.TheConstants.{UPPER_VALUES}
+use Rattle.hex.specs.Hex.{hex_digit_value}
 use Rattle.csn_treetext.specs.reader.Machine.{upper_value}
 
 abbrev code : Option ℕ → ℕ
@@ -14,18 +14,14 @@ one_option None (Some v) e = absurd (omega (arith, e))
 one_option (Some v) None e = absurd (omega (arith, e))
 one_option (Some v) (Some w) e = let same : v ≡ w = omega (arith, e) in ap (λ x. Some x) same
 
-abbrev by_table : ℕ → Option ℕ
-by_table k = if nat_le (slice_index UPPER_VALUES k) 15 then Some (slice_index UPPER_VALUES k) else None
+abbrev below : ℕ → Option ℕ
+below byte = if nat_le 97 byte then None else hex_digit_value byte
 
-by_table_is : (k : ℕ) → k < 256 → by_table k ≡ upper_value k
-by_table_is k low = one_option (by_table k) (upper_value k) (eqb-true _ _ (agree_below_at (λ k. code (by_table k) == code (upper_value k)) (λ _. true) 256 k refl low))
+below_is : (byte : ℕ) → byte < 256 → below byte ≡ upper_value byte
+below_is byte low = one_option (below byte) (upper_value byte) (eqb-true _ _ (agree_below_at (λ k. code (below k) == code (upper_value k)) (λ _. true) 256 byte refl low))
 
-pub upper_digit : (k : ℕ) → k < 256 → slice_index UPPER_VALUES k < 16 → Some (slice_index UPPER_VALUES k) ≡ upper_value k
-upper_digit k low small =
-    let yes : nat_le (slice_index UPPER_VALUES k) 15 ≡ true = le-leb (slice_index UPPER_VALUES k) 15 (omega (arith, small)) in
-    sym (ap (λ b. if b then Some (slice_index UPPER_VALUES k) else None) yes) ∙ by_table_is k low
+pub no_upper_digit : (byte : ℕ) → byte < 256 → 97 ≤ byte → None ≡ upper_value byte
+no_upper_digit byte low large = sym (ap (λ b. if b then None else hex_digit_value byte) (le-leb 97 byte large)) ∙ below_is byte low
 
-pub no_upper_digit : (k : ℕ) → k < 256 → 16 ≤ slice_index UPPER_VALUES k → None ≡ upper_value k
-no_upper_digit k low large =
-    let no : nat_le (slice_index UPPER_VALUES k) 15 ≡ false = lt-leb (slice_index UPPER_VALUES k) 15 (omega (arith, large)) in
-    sym (ap (λ b. if b then Some (slice_index UPPER_VALUES k) else None) no) ∙ by_table_is k low
+pub upper_digit : (byte : ℕ) → byte < 256 → byte < 97 → hex_digit_value byte ≡ upper_value byte
+upper_digit byte low small = sym (ap (λ b. if b then None else hex_digit_value byte) (lt-leb 97 byte small)) ∙ below_is byte low

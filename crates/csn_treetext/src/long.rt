@@ -16,39 +16,22 @@ use crate::leaf::{is_short, last_octet, leaf, octets_leaf, push_bit};
 use crate::next::Taken;
 use crate::source::Source;
 use crate::stack::Stack;
-use csn_bits::{Bits, MOST_BITS, NoMemory};
+use csn_bits::{Bits, MOST_BITS, NoMemory, digit_value};
 use std::alloc::Global;
 
 // The fewest octets of a leaf that is written as a block line: they hold more than 64 bits, whatever
 // bits of the last one belong to it.
 const FEWEST_OCTETS: usize = 9;
 
-// The value of each byte that is a hexadecimal digit in upper case, and 255 of any other: a digit is as likely as another, so
-// that the processor could not foresee a branch.
-static UPPER_VALUES: [u8; 256] = [
-    255, 255, 255, 255, 255, 255, 255, 255, 255, 255, 255, 255, 255, 255, 255, 255, 255, 255, 255,
-    255, 255, 255, 255, 255, 255, 255, 255, 255, 255, 255, 255, 255, 255, 255, 255, 255, 255, 255,
-    255, 255, 255, 255, 255, 255, 255, 255, 255, 255, 0, 1, 2, 3, 4, 5, 6, 7, 8, 9, 255, 255, 255,
-    255, 255, 255, 255, 10, 11, 12, 13, 14, 15, 255, 255, 255, 255, 255, 255, 255, 255, 255, 255,
-    255, 255, 255, 255, 255, 255, 255, 255, 255, 255, 255, 255, 255, 255, 255, 255, 255, 255, 255,
-    255, 255, 255, 255, 255, 255, 255, 255, 255, 255, 255, 255, 255, 255, 255, 255, 255, 255, 255,
-    255, 255, 255, 255, 255, 255, 255, 255, 255, 255, 255, 255, 255, 255, 255, 255, 255, 255, 255,
-    255, 255, 255, 255, 255, 255, 255, 255, 255, 255, 255, 255, 255, 255, 255, 255, 255, 255, 255,
-    255, 255, 255, 255, 255, 255, 255, 255, 255, 255, 255, 255, 255, 255, 255, 255, 255, 255, 255,
-    255, 255, 255, 255, 255, 255, 255, 255, 255, 255, 255, 255, 255, 255, 255, 255, 255, 255, 255,
-    255, 255, 255, 255, 255, 255, 255, 255, 255, 255, 255, 255, 255, 255, 255, 255, 255, 255, 255,
-    255, 255, 255, 255, 255, 255, 255, 255, 255, 255, 255, 255, 255, 255, 255, 255, 255, 255, 255,
-    255, 255, 255, 255, 255, 255, 255, 255, 255, 255, 255, 255, 255, 255, 255, 255, 255, 255, 255,
-    255, 255, 255, 255,
-];
-
 // The value of a hexadecimal digit in upper case.
 fn upper_value(byte: u8) -> Option<u8>
     ensures value { result ≡ upper_value byte }
     ensures small { IfSome result (λ value. value < 16) }
 {
-    let value = UPPER_VALUES[usize::from(byte)];
-    if value < 16 { Some(value) } else { None }
+    if byte >= b'a' {
+        return None;
+    }
+    digit_value(byte)
 }
 
 // The value of the hexadecimal digit at a place, if one stands there.

@@ -62,12 +62,12 @@ pub enum Mode {
     Name { start: u32, words: Label },
     /// Behind a base, which may have an exponent.
     Base(Expr),
+    /// In an exponent.
+    Exponent { base: Expr, progress: Progress },
     /// Behind a side that has no exponent any more.
     Done(Expr),
     /// Behind the `//` of a sequence.
     Slashes(Expr),
-    /// In an exponent.
-    Exponent { base: Expr, progress: Progress },
 }
 
 /// What is open, and the expression inside it as far as it is read.
@@ -110,9 +110,8 @@ impl Frames {
     pub fn new(alloc: Global) -> Frames
         ensures { result ≡ [] }
     {
-        Frames {
-            frames: Vec::new(alloc),
-        }
+        let frames = Vec::new(alloc);
+        Frames { frames }
     }
 
     /// How much is open.

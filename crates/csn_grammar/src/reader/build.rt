@@ -75,7 +75,7 @@ pub fn seq_with(mut items: Exprs, last: Expr) -> Result<Expr, NoMemory>
         return Ok(last);
     }
     let span = across(items.get(0).span, last.span);
-    items.push(last)?;
+    items.add(last)?;
     Ok(Expr {
         span,
         form: Form::Seq(items),
@@ -91,7 +91,7 @@ pub fn cut_with(mut items: Exprs, last: Expr, end: u32) -> Result<Expr, NoMemory
     } else {
         items.get(0).span.start
     };
-    items.push(last)?;
+    items.add(last)?;
     Ok(Expr {
         span: Span { start, end },
         form: Form::Cut(items),
@@ -106,7 +106,7 @@ pub fn choice_with(mut branches: Branches, error: bool, last: Expr) -> Result<Ex
         return Ok(last);
     }
     let span = across(branches.get(0).body.span, last.span);
-    branches.push(Branch { error, body: last })?;
+    branches.add(Branch { error, body: last })?;
     Ok(Expr {
         span,
         form: Form::Choice(branches),
@@ -125,7 +125,7 @@ pub fn components_of(alloc: Global, x: Expr) -> Result<Expr, NoMemory>
         }),
         form => {
             let mut items = Exprs::new(alloc);
-            items.push(Expr { span, form })?;
+            items.add(Expr { span, form })?;
             Ok(Expr {
                 span,
                 form: Form::Cut(items),

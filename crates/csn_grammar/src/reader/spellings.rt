@@ -3,7 +3,6 @@
 ghost use Rattle.std.specs.Prelude.{◌≡◌, ◌≤◌, length, codes, IsTrue};
 ghost use Rattle.std.specs.List.{list_all};
 ghost use Rattle.std.specs.Char.{is_ascii_digit};
-ghost use Rattle.csn_lexer.specs.declared.token.TheConstants.{MOST_TEXT};
 ghost use Rattle.csn_grammar.specs.declared.exponent.TheConstants.{MOST_DIGITS};
 ghost use Rattle.csn_grammar.specs.Writing.{decimal_after};
 ghost use Rattle.csn_grammar.specs.reader.GivesForm.{GivesForm};
@@ -67,13 +66,12 @@ fn symbol_of(byte: u8) -> Option<Symbol>
 
 // The symbols of a word that is a literal.
 fn run_of(alloc: Global, word: &[u8]) -> Result<Run, Stop>
-    requires { length word.now ≤ MOST_TEXT }
     ensures { Gives result (run_of word.now) }
 {
     let mut run = Run::new(alloc);
     for byte in word {
         match symbol_of(*byte) {
-            Some(symbol) => run.push(symbol)?,
+            Some(symbol) => run.add(symbol)?,
             None => return Err(Stop::Refused),
         }
     }
@@ -82,7 +80,6 @@ fn run_of(alloc: Global, word: &[u8]) -> Result<Run, Stop>
 
 /// The side that a word is alone.
 pub fn word_form(alloc: Global, word: &[u8]) -> Result<Form, Stop>
-    requires { length word.now ≤ MOST_TEXT }
     ensures { GivesForm result (word_form word.now) }
 {
     if word == b"null".as_slice() {

@@ -85,7 +85,7 @@ fn in_body(
                 start,
                 end: piece.token.end,
             };
-            rules.push(Rule { name, span, body })?;
+            rules.add(Rule { name, span, body })?;
             Ok(Reader {
                 rules,
                 state: State::Between,

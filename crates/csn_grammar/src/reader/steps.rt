@@ -50,7 +50,7 @@ pub fn body_step(alloc: Global, body: Body, piece: Piece<'_>) -> Result<Next, St
     match mode {
         Mode::Side => begin_side(alloc, within, piece),
         Mode::Less(start) => first_word(alloc, within, start, piece),
-        Mode::Name { start, words } => after_words(alloc, within, start, words, piece),
+        Mode::Name { start, words } => after_words(alloc, within, piece, start, words),
         Mode::Base(base) => after_base(alloc, within, base, piece),
         Mode::Done(side) => after_side(alloc, within, side, piece),
         Mode::Slashes(seq) => after_seq(alloc, within, seq, piece.token),

@@ -10,7 +10,7 @@ use Rattle.std.proofs.lemmas.Bool.Decides.{eqb_tells}
 use Rattle.std.proofs.lemmas.Nat.Bits.{bit_at-lt, bit_at_or}
 use Rattle.csn_look.specs.Marks.{marked, marks_of, marks_of-marked, contains-marked}
 use Rattle.csn_look.specs.Told.{OctetsAre}
-use Rattle.csn_look.specs.Sums.{Has, IsSum, SumOf, sum_none, sum_next}
+use Rattle.csn_look.specs.Sums.{Has, IsSum, SumOf, sum_none, sum_next, Leads}
 
 -- ---- one number more, and two sets together
 
@@ -139,16 +139,6 @@ swept_same P k s u swept here same o small = (
   ])),
 )
 
-back_turn : (o by : ℕ) → by < 8 → (o + 8 - (8 - by) % 8) % 8 ≡ (o + by) % 8
-back_turn o by small = omega arith
-
--- what is turned back lies before
-pub turned_back : (s t : set.FinSet nat_cmp) (by : ℕ) → by < 8 → OctetsAre t (λ o. Has s ((o + 8 - (8 - by) % 8) % 8)) → OctetsAre t (λ o. Has s ((o + by) % 8))
-turned_back s t by small turned o within = (
-  (λ h. subst (λ q. Has s q) (back_turn o by small) ((turned o within).0 h)),
-  (λ h. (turned o within).1 (subst (λ q. Has s q) (sym (back_turn o by small)) h)),
-)
-
 pub plus_is : (a b s : set.FinSet nat_cmp) (k : ℕ) → Swept (λ n o. Has b n × Has a ((o + 8 - n) % 8)) k s → 8 ≤ k → k ≤ 8 → OctetsAre s (IsSum a b)
 plus_is a b s k swept end within o small = (
   (λ h.
@@ -169,6 +159,35 @@ plus_is a b s k swept end within o small = (
       let right = h.b_small in
       let back : h.a ≡ (o + 8 - h.b) % 8 = omega arith in
       (swept o small).1 (h.b, omega arith, (h.has_b, subst (λ q. Has a q) back h.has_a))),
+)
+
+-- what is behind a set by numbers that lead back lies before it by those that led on
+pub before_is : (s lengths back t : set.FinSet nat_cmp) → OctetsAre back (λ o. Has lengths ((8 - o) % 8)) → OctetsAre t (IsSum s back) → OctetsAre t (Leads lengths s)
+before_is s lengths back t opposite behind o small = (
+  (λ h.
+      let sum = (behind o small).0 h in
+      let low = sum.a_small in
+      let led = sum.b_small in
+      let is = sum.is in
+      let there : sum.a ≡ (o + (8 - sum.b) % 8) % 8 = omega arith in
+      record {
+        length = (8 - sum.b) % 8;
+        small = omega arith;
+        has_length = (opposite sum.b sum.b_small).0 sum.has_b;
+        reaches = subst (λ n. Has s n) there sum.has_a;
+      }),
+  (λ h.
+      let led = h.small in
+      let twice : h.length ≡ (8 - (8 - h.length) % 8) % 8 = omega arith in
+      (behind o small).1 (record {
+        a = (o + h.length) % 8;
+        b = (8 - h.length) % 8;
+        a_small = omega arith;
+        b_small = omega arith;
+        has_a = h.reaches;
+        has_b = (opposite ((8 - h.length) % 8) (omega arith)).1 (subst (λ n. Has lengths n) twice h.has_length);
+        is = omega arith;
+      })),
 )
 
 -- ---- sums

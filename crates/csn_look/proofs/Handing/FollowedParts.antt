@@ -271,6 +271,9 @@ module _ (d : DescV) where
   pub follows_of : (n m : Node) (k : ℕ) (table : List Following) → n ≡ m → HasFollows d m k table → HasFollows d n k table
   follows_of n m k table is h = subst (λ q. HasFollows d q k table) (sym is) h
 
+  pub no_follows : (n : Node) (k : ℕ) (table : List Following) → parts_of n ≡ [] → HasFollows d n k table
+  no_follows n k table none j p at = let e : slice_get [] j ≡ Some p = subst (λ l. slice_get l j ≡ Some p) none at in cc
+
   pub single_follows : (n m : Node) (k : ℕ) (f : Following) (part : ℕ) (table : List Following) → n ≡ m → parts_of m ≡ part ∷ [] → part < length table → SaysFollow f (PartFollow d m k (drop 1 (parts_of m)) part) → HasFollows d n k (put table part f)
   single_follows n m k f part table is parts inside says =
       follows_of n m k (put table part f) is

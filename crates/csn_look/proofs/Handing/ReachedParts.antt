@@ -21,7 +21,7 @@ use Rattle.csn_look.specs.NodeSets.{LengthsAre}
 use Rattle.csn_look.specs.Ends.{InEnds, NodeEnds, PartsEnd, TimesEnd, ManyEnd, LeadEnd, ends_at, ends_lits, ends_spare, ends_null, ends_pad, ends_rest, ends_field, ends_window, ends_seq, ends_choice, ends_times, ends_counted, ends_many, ends_trunc, ends_named, parts_end, parts_next, times_end, times_next, many_end, many_next, lead_end, lead_next}
 use Rattle.csn_look.specs.Reached.{Reached, PartReached, reached_root, reached_part, reached_seq, reached_trunc, reached_choice, reached_window, reached_named, reached_times, reached_counted, reached_many}
 use Rattle.csn_look.specs.ReachV.{HasAt}
-use Rattle.csn_look.specs.Steps.{IsStep, HasSteps, KeepsOthers, HasPartsOnce, HasPartsBelow}
+use Rattle.csn_look.specs.Steps.{IsStep, HasSteps, KeepsOthers, HasPartsOnce, HasPartsBelow, HandsTo}
 use Rattle.csn_look.proofs.Meaning.ReachFacts.{parts_end_more}
 use Rattle.csn_look.proofs.Basics.Puts.{get_put_same, get_put_other, middle_get, middle_take, split_at, take_more}
 use Rattle.csn_look.proofs.Basics.Octets.{has_insert, has_none, sum_small}
@@ -446,14 +446,16 @@ parts_below d k n count is at all j p get =
     let end = s.within in
     omega arith
 
-pub once_kind : (n m : Node) → n ≡ m → HasPartsOnce n → HasPartsOnce m
-once_kind n m is h = subst (λ q. HasPartsOnce q) is h
-
 pub below_kind : (n m : Node) (count : ℕ) → n ≡ m → HasPartsBelow n count → HasPartsBelow m count
 below_kind n m count is h = subst (λ q. HasPartsBelow q count) is h
 
 pub part_below : (n m : Node) (count part : ℕ) → n ≡ m → parts_of m ≡ part ∷ [] → HasPartsBelow n count → part < count
 part_below n m count part is parts h = below_kind n m count is h 0 part (ap (λ l. slice_get l 0) parts)
+
+-- parts one after another are handed to as those of a sequence
+pub in_sequence : (n : Node) (parts : List ℕ) {nodes sets : ℕ} → parts_of n ≡ parts → HandsTo n nodes sets → HandsTo (Seq parts) nodes sets
+in_sequence n parts {nodes = nodes} {sets = sets} is h =
+    subst (λ l. HandsTo (Seq l) nodes sets) is (record { once = h.once; below = h.below; known = h.known })
 
 -- a vector after its slice was written
 pub written_back : {A : Type 0} (new items : List A) (len : ℕ) → length new ≡ length items → len ≡ length items → take len (new ++ drop (length new) items) ≡ new

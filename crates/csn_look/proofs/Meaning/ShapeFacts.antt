@@ -6,7 +6,7 @@ use Rattle.csn_desc.specs.declared.node.Count.TheVariants.{Fixed, Counted}
 use Rattle.csn_desc.specs.declared.node.Node.{Node}
 use Rattle.csn_desc.specs.declared.node.Node.TheVariants.{Lits, Spare, Pad, Null, Field, Rest, Seq, Choice, Times, Many, Trunc, Window, Named}
 use Rattle.csn_desc.specs.TreeV.{TreeV}
-use Rattle.csn_desc.specs.Nodes.{DescV, head_of}
+use Rattle.csn_desc.specs.Nodes.{DescV, head_of, parts_of}
 use Rattle.csn_desc.specs.Values.{Values, value_of, count_of, with_value}
 use Rattle.csn_desc.specs.Means.{NMeans}
 use Rattle.csn_desc.specs.Formed.{value_width, IsUnit, IsCount, IsHead, Formed, formed, IsDescription, FitWidths}
@@ -15,6 +15,17 @@ use Rattle.csn_look.specs.Known.{Known}
 use Rattle.csn_look.specs.Ends.{MayCount, may_fixed, may_counted}
 
 -- ---- nodes
+
+-- a node of none of these kinds has no parts
+pub has_no_parts : (n : Node) → ((parts : List ℕ) → ¬ (n ≡ Seq parts)) → ((parts : List ℕ) → ¬ (n ≡ Choice parts)) → ((count : Count) (part : ℕ) → ¬ (n ≡ Times count part)) → ((part : ℕ) → ¬ (n ≡ Many part)) → ((parts : List ℕ) → ¬ (n ≡ Trunc parts)) → ((unit : ℕ) (count : Count) (part : ℕ) → ¬ (n ≡ Window unit count part)) → ((label : List ℕ) (part : ℕ) → ¬ (n ≡ Named label part)) → parts_of n ≡ []
+has_no_parts (Seq parts) no_seq no_choice no_times no_many no_trunc no_window no_name = absurd (no_seq parts refl)
+has_no_parts (Choice parts) no_seq no_choice no_times no_many no_trunc no_window no_name = absurd (no_choice parts refl)
+has_no_parts (Times count part) no_seq no_choice no_times no_many no_trunc no_window no_name = absurd (no_times count part refl)
+has_no_parts (Many part) no_seq no_choice no_times no_many no_trunc no_window no_name = absurd (no_many part refl)
+has_no_parts (Trunc parts) no_seq no_choice no_times no_many no_trunc no_window no_name = absurd (no_trunc parts refl)
+has_no_parts (Window unit count part) no_seq no_choice no_times no_many no_trunc no_window no_name = absurd (no_window unit count part refl)
+has_no_parts (Named label part) no_seq no_choice no_times no_many no_trunc no_window no_name = absurd (no_name label part refl)
+has_no_parts _ no_seq no_choice no_times no_many no_trunc no_window no_name = refl
 
 -- a count is at least 1, or stands on a labelled field of constant width
 abbrev pub CountIs : List Node → Count → Type 0

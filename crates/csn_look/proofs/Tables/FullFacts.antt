@@ -1,5 +1,5 @@
 -- Words behind which all words of one size are keys.
-use Rattle.std.proofs.Common.{◌≡◌, ℕ, ◌+◌, ◌-◌, ◌*◌, ◌/◌, ◌%◌, ◌^◌, ◌<◌, ◌≤◌, ◌≢◌, ◌⊎◌, ◌↔◌, inl, inr, Bool, true, false, not, ◌||◌, if◌then◌else◌, List, [], ◌∷◌, ◌++◌, length, get_or, IsTrue, refl, sym, ap, ◌∙◌, subst, arith, length-append}
+use Rattle.std.proofs.Common.{◌≡◌, ℕ, ◌+◌, ◌-◌, ◌*◌, ◌/◌, ◌%◌, ◌^◌, ◌<◌, ◌≤◌, ◌≢◌, ◌⊎◌, ◌↔◌, inl, inr, Bool, true, false, not, ◌||◌, List, [], ◌∷◌, ◌++◌, length, get_or, IsTrue, refl, sym, ap, ◌∙◌, subst, arith, length-append}
 use Rattle.std.specs.Prelude.{bit_or, ◌==◌}
 use Rattle.std.specs.Int.{bit_at, bit_not, w64}
 use Rattle.std.proofs.lemmas.Bool.Decides.{nat_tests}
@@ -11,7 +11,7 @@ use Rattle.csn_bits.specs.Numbers.{number_of}
 use Rattle.csn_bits.proofs.NumberFacts.{number_of-lt}
 use Rattle.csn_look.specs.KeyMarks.{IsWord, is_marked, place_of, has_key, IsKeyOf, StartsKey}
 use Rattle.csn_look.specs.KeyTables.{IsKeyTable}
-use Rattle.csn_look.specs.Full.{is_key_at, AreAll, IsOther, AreNoKeys, IsFull, IsFullAt}
+use Rattle.csn_look.specs.Full.{is_key_at, is_sought, sought_against, AreAll, IsOther, AreNoKeys, IsFull, IsFullAt}
 use Rattle.csn_look.proofs.Basics.Places.{place_of-append, Numbered, numbered}
 use Rattle.csn_look.proofs.Tables.KeyMarkFacts.{key_told, starts_told}
 use Rattle.csn_look.proofs.Tables.MarkFacts.{bit_of_either}
@@ -36,24 +36,28 @@ others_told n k is small low e = by (bit_at n k) (bit_at (bit_not w64 n) k) (bit
 
 -- ---- places one after another
 
--- what is no other is as wanted
-same_as : (keys is : Bool) → false ≡ (if keys then not is else is) → is ≡ keys
-same_as true true e = refl
-same_as true false e = absurd (cc)
-same_as false true e = absurd (cc)
-same_as false false e = refl
+-- what is sought and not there is as wanted, and the other way round
+pub as_wanted : (keys : Bool) (marks : List ℕ) (at : ℕ) → is_sought (sought_against keys) marks at ≡ false → is_key_at marks at ≡ keys
+as_wanted true marks at e = back (is_key_at marks at) e
+  where
+    back : (is : Bool) → not is ≡ false → is ≡ true
+    back true e = refl
+    back false e = absurd (cc)
+as_wanted false marks at e = e
 
-other_than : (keys is : Bool) → true ≡ (if keys then not is else is) → is ≡ not keys
-other_than true true e = absurd (cc)
-other_than true false e = refl
-other_than false true e = refl
-other_than false false e = absurd (cc)
+pub not_wanted : (keys : Bool) (marks : List ℕ) (at : ℕ) → is_sought (sought_against keys) marks at ≡ true → is_key_at marks at ≡ not keys
+not_wanted true marks at e = back (is_key_at marks at) e
+  where
+    back : (is : Bool) → not is ≡ true → is ≡ false
+    back true e = absurd (cc)
+    back false e = refl
+not_wanted false marks at e = e
 
-module _ (marks : List ℕ) (keys : Bool) (others at : ℕ) (told : (k : ℕ) → k < 64 → (bit_at others k == 1) ≡ (if keys then not (is_key_at marks (64 * (at / 64) + k)) else is_key_at marks (64 * (at / 64) + k))) where
-  here : (k : ℕ) → at / 64 ≡ k / 64 → (bit_at others (k % 64) == 1) ≡ (if keys then not (is_key_at marks k) else is_key_at marks k)
+module _ (sought : ℕ → Bool) (number at : ℕ) (told : (k : ℕ) → k < 64 → (bit_at number k == 1) ≡ sought (64 * (at / 64) + k)) where
+  here : (k : ℕ) → at / 64 ≡ k / 64 → (bit_at number (k % 64) == 1) ≡ sought k
   here k same =
       let place : 64 * (at / 64) + k % 64 ≡ k = omega (arith, same) in
-      told (k % 64) (omega arith) ∙ ap (λ n. if keys then not (is_key_at marks n) else is_key_at marks n) place
+      told (k % 64) (omega arith) ∙ ap sought place
 
   unset : (b : ℕ) → b ≡ 0 → (b == 1) ≡ false
   unset b e = ap (λ n. n == 1) e
@@ -61,26 +65,26 @@ module _ (marks : List ℕ) (keys : Bool) (others at : ℕ) (told : (k : ℕ) �
   set : (b : ℕ) → b ≡ 1 → (b == 1) ≡ true
   set b e = ap (λ n. n == 1) e
 
-  -- where nothing is left of the others, all words are as wanted up to the end of the number
-  pub rest_same : others / 2 ^ (at % 64) ≡ 0 → (k : ℕ) → at ≤ k → k < 64 * (at / 64 + 1) → is_key_at marks k ≡ keys
-  rest_same none k low high =
-      let few : others / 2 ^ (at % 64) < 1 = omega (arith, none) in
-      let small : others < 2 ^ (at % 64) = omega (arith, (div-lt_iff_lt-mul {k = 2 ^ (at % 64)} {x = others} {y = 1} (pow_pos (at % 64))).0 few) in
+  -- where nothing is left of the number, no place up to its end is sought
+  pub rest_unsought : number / 2 ^ (at % 64) ≡ 0 → (k : ℕ) → at ≤ k → k < 64 * (at / 64 + 1) → sought k ≡ false
+  rest_unsought none k low high =
+      let few : number / 2 ^ (at % 64) < 1 = omega (arith, none) in
+      let small : number < 2 ^ (at % 64) = omega (arith, (div-lt_iff_lt-mul {k = 2 ^ (at % 64)} {x = number} {y = 1} (pow_pos (at % 64))).0 few) in
       let same : at / 64 ≡ k / 64 = omega arith in
-      let bit : bit_at others (k % 64) ≡ 0 = bit_at_above others (at % 64) (k % 64) small (omega arith) in
-      same_as keys (is_key_at marks k) (sym (unset (bit_at others (k % 64)) bit) ∙ here k same)
+      let bit : bit_at number (k % 64) ≡ 0 = bit_at_above number (at % 64) (k % 64) small (omega arith) in
+      sym (here k same) ∙ unset (bit_at number (k % 64)) bit
 
-  -- and so the word at the place, or it is the other way round
-  pub this_same : others / 2 ^ (at % 64) % 2 ≢ 1 → is_key_at marks at ≡ keys
-  this_same none =
-      let bit : bit_at others (at % 64) ≡ 0 = zero_or (bit_at others (at % 64)) (bit_at-lt others (at % 64)) none in
-      same_as keys (is_key_at marks at) (sym (unset (bit_at others (at % 64)) bit) ∙ here at refl)
+  -- and whether this one is
+  pub this_unsought : number / 2 ^ (at % 64) % 2 ≢ 1 → sought at ≡ false
+  this_unsought none =
+      let bit : bit_at number (at % 64) ≡ 0 = zero_or (bit_at number (at % 64)) (bit_at-lt number (at % 64)) none in
+      sym (here at refl) ∙ unset (bit_at number (at % 64)) bit
     where
       zero_or : (b : ℕ) → b < 2 → b ≢ 1 → b ≡ 0
       zero_or b few not_one = omega (arith, not_one)
 
-  pub this_other : others / 2 ^ (at % 64) % 2 ≡ 1 → is_key_at marks at ≡ not keys
-  this_other one = other_than keys (is_key_at marks at) (sym (set (bit_at others (at % 64)) one) ∙ here at refl)
+  pub this_sought : number / 2 ^ (at % 64) % 2 ≡ 1 → sought at ≡ true
+  this_sought one = sym (here at refl) ∙ set (bit_at number (at % 64)) one
 
 -- ---- the places of words that go on by so many bits
 

@@ -6,9 +6,7 @@ use Rattle.std.specs.Int.{bit_at, w64}
 use Rattle.std.proofs.lemmas.Bool.Decides.{eqb_tells, nat_tests}
 use Rattle.std.proofs.lemmas.List.{get_or-set_same, get_or-set_other, get_or_past}
 use Rattle.std.proofs.Math.ListN.{replicate}
-use Rattle.std.proofs.lemmas.Nat.Bits.{bit_at_set_same, bit_at_set_other, bit_at_or, bit_at-lt, bit_at-zero, bit_at_above}
-use Rattle.std.proofs.lemmas.Nat.{pow_pos}
-use Rattle.std.proofs.Math.Nat.{div-lt_iff_lt-mul}
+use Rattle.std.proofs.lemmas.Nat.Bits.{bit_at_set_same, bit_at_set_other, bit_at_or, bit_at-lt, bit_at-zero}
 use Rattle.csn_look.specs.KeyMarks.{is_marked}
 
 -- one mark more
@@ -90,13 +88,3 @@ unmarked n at =
 -- past the end of both there is nothing
 pub past_end : (a b : List ℕ) (k : ℕ) → length a ≤ k → length b ≤ k → get_or a k 0 ≡ bit_or (get_or a k 0) (get_or b k 0)
 past_end a b k h i = rw (get_or_past a k 0 h, get_or_past b k 0 i) refl
-
--- where nothing is left of a number from a place on, none of its marks from there on is set
-pub none_left : (marks : List ℕ) (at k : ℕ) → get_or marks (at / 64) 0 / 2 ^ (at % 64) ≡ 0 → at ≤ k → k < 64 * (at / 64 + 1) → is_marked marks k ≡ false
-none_left marks at k none low high =
-    let number = get_or marks (at / 64) 0 in
-    let few : number / 2 ^ (at % 64) < 1 = omega (arith, none) in
-    let small : number < 2 ^ (at % 64) = omega (arith, (div-lt_iff_lt-mul {k = 2 ^ (at % 64)} {x = number} {y = 1} (pow_pos (at % 64))).0 few) in
-    let same : k / 64 ≡ at / 64 = omega arith in
-    let bit : bit_at number (k % 64) ≡ 0 = bit_at_above number (at % 64) (k % 64) small (omega arith) in
-    ap (λ n. bit_at (get_or marks n 0) (k % 64) == 1) same ∙ ap (λ b. b == 1) bit

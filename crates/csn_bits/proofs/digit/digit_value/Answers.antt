@@ -1,13 +1,10 @@
-use Rattle.std.proofs.Common.{arith}
-use Rattle.csn_bits.proofs.HexDigits.{reads_digit, value_small}
+use Rattle.std.proofs.Common.{ap, ◌∙◌, arith}
+use Rattle.hex.specs.Hex.{hex_digit_value}
+use Rattle.csn_bits.proofs.DigitValues.{is_digit, no_digit}
 use Rattle.csn_bits.proofs.digit.digit_value.Goals as goal
 
-pub returns-in-Ok-clause-value : goal.returns-in-Ok-clause-value
-returns-in-Ok-clause-value c = rw (← c.in-Ok.ensures) at (reads_digit c.args.byte)
+pub returns-then-value-lt16-clause-value : goal.returns-then-value-lt16-clause-value
+returns-then-value-lt16-clause-value c = is_digit c.from.result (omega (arith, c.from.ensures, c.ranges.byte.fits)) c.if-value-lt16.true ∙ ap hex_digit_value c.from.ensures
 
-pub returns-in-Ok-clause-small : goal.returns-in-Ok-clause-small
-returns-in-Ok-clause-small c =
-    rw (← (rw (← c.in-Ok.ensures) at (reads_digit c.args.byte))) at (value_small c.args.byte (omega arith))
-
-pub returns-in-Err-clause-value : goal.returns-in-Err-clause-value
-returns-in-Err-clause-value c = rw (← c.in-Err.ensures) at (reads_digit c.args.byte)
+pub returns-else-value-lt16-clause-value : goal.returns-else-value-lt16-clause-value
+returns-else-value-lt16-clause-value c = no_digit c.from.result (omega (arith, c.from.ensures, c.ranges.byte.fits)) c.if-value-lt16.false ∙ ap hex_digit_value c.from.ensures

@@ -1,5 +1,5 @@
 use Rattle.std.proofs.Common.{◌∷◌, [], ap, ◌∙◌, refl, arith}
-use Rattle.csn_certmake.specs.Patterns.{leaf_pattern}
+use Rattle.csn_good.specs.Patterns.{leaf_pattern}
 use Rattle.csn_certmake.proofs.Rows.{row_one, row_all}
 use Rattle.csn_certmake.proofs.pattern_table.alone.Goals as goal
 

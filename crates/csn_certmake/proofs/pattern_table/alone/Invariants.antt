@@ -1,5 +1,5 @@
 use Rattle.std.proofs.Common.{[], ◌∷◌}
-use Rattle.csn_certmake.specs.Patterns.{leaf_pattern}
+use Rattle.csn_good.specs.Patterns.{leaf_pattern}
 use Rattle.csn_certmake.proofs.Rows.{RowSo}
 use Rattle.csn_certmake.proofs.pattern_table.alone.Given as goal
 

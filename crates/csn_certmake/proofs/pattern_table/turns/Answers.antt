@@ -10,4 +10,4 @@ returns-in-Fixed c = subst (λ (k : Count). IfOk c.times.result (λ row. IsRow (
 pub returns-in-Counted : goal.returns-in-Counted
 returns-in-Counted c =
     subst (λ (k : Count). IfOk c.each.result (λ row. IsRow (turns_of (patterns_in c.args.part.now) k) row)) (sym c.in-Counted.is)
-    (subst (λ (p : PatternV). IfOk c.each.result (λ row. IsRow (λ (octet : ℕ). p ∷ []) row)) c.unread.ensures c.each.ensures)
+    (subst (λ (p : PatternV). IfOk c.each.result (λ row. IsRow (λ (octet : ℕ). p ∷ []) row)) c.new.ensures c.each.ensures)

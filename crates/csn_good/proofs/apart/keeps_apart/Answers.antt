@@ -1,21 +1,9 @@
-use Rattle.std.proofs.Common.{◌↔◌, IsTrue, not, refl}
+use Rattle.std.proofs.Common.{◌↔◌, IsTrue, not}
 use Rattle.csn_good.specs.Good.{KeepsApart}
-use Rattle.csn_good.proofs.Arms.{along, parts_within}
+use Rattle.csn_good.proofs.Arms.{along}
 use Rattle.csn_good.proofs.SetArms.{tells}
 use Rattle.csn_good.proofs.Conflicting.{not_told, is_false, choice_told, pad_apart, rest_apart, trunc_apart, pad_back, rest_back, trunc_back, times_apart, times_back, many_apart, many_back}
 use Rattle.csn_good.proofs.apart.keeps_apart.Goals as goal
-
-pub choice_is_apart-requires-clause-parts : goal.choice_is_apart-requires-clause-parts
-choice_is_apart-requires-clause-parts c = parts_within c.in-Choice.is c.requires.parts
-
-pub nullable-requires : goal.nullable-requires
-nullable-requires c = parts_within c.in-Times.is c.requires.parts 0 c.in-Times.part refl
-
-pub is_firm-requires : goal.is_firm-requires
-is_firm-requires c = parts_within c.in-Many.is c.requires.parts 0 c.in-Many.part refl
-
-pub turns_clash-requires-clause-part : goal.turns_clash-requires-clause-part
-turns_clash-requires-clause-part c = parts_within c.in-Many.is c.requires.parts 0 c.in-Many.part refl
 
 pub returns-in-Pad : goal.returns-in-Pad
 returns-in-Pad c = along (λ n. IsTrue (not c.something_follows.result) ↔ KeepsApart c.args.desc.now c.args.c.now c.args.i n) c.in-Pad.is (not_told c.something_follows.ensures (pad_apart c.args.desc.now c.args.c.now c.requires.certificate c.args.i) (pad_back c.args.desc.now c.args.c.now c.requires.certificate c.args.i))

@@ -5,14 +5,16 @@ use Rattle.std.proofs.lemmas.Option.{slice_get_within}
 use Rattle.csn_desc.proofs.Numbering.{parts_later}
 use Rattle.csn_good.specs.Good.{KeepsNumber, KeepsRules, Good, FirstFault}
 use Rattle.csn_good.specs.Faults.{FaultAt}
+use Rattle.csn_good.proofs.Arms.{node_within}
 use Rattle.csn_good.proofs.Holding.{unbroken}
 use Rattle.csn_good.proofs.Faulting.{first_fault, number_fault}
 use Rattle.csn_good.proofs.checking.check_certificate.Goals as goal
 
 pub broken_rule-requires-clause-parts : goal.broken_rule-requires-clause-parts
 broken_rule-requires-clause-parts c =
-    parts_later c.args.desc.now c.loop-node.node c.node-this.result.now (λ j. j < length c.args.c.now) c.len-count.ensures.description c.node-this.ensures
-    (λ j later inside. let claimed = c.len-claimed.ensures.count in let count = c.len-count.ensures.len in omega arith)
+    node_within c.node-this.result.now
+    (parts_later c.args.desc.now c.loop-node.node c.node-this.result.now (λ j. j < length c.args.c.now) c.len-count.ensures.description c.node-this.ensures
+    (λ j later inside. let claimed = c.len-claimed.ensures.count in let count = c.len-count.ensures.len in omega arith))
 
 pub returns-then-claimed-count-clause-unproved : goal.returns-then-claimed-count-clause-unproved
 returns-then-claimed-count-clause-unproved c = λ rule node same.

@@ -1,21 +1,9 @@
-use Rattle.std.proofs.Common.{◌↔◌, IsTrue, refl}
+use Rattle.std.proofs.Common.{◌↔◌, IsTrue}
 use Rattle.csn_good.specs.Good.{KeepsKeys}
-use Rattle.csn_good.proofs.Arms.{along, parts_within}
+use Rattle.csn_good.proofs.Arms.{along}
 use Rattle.csn_good.proofs.SetArms.{tells}
 use Rattle.csn_good.proofs.Covered.{other_is_leaf, leaf_keys, seq_keys, choice_keys, named_keys}
 use Rattle.csn_good.proofs.keys.keeps_keys.Goals as goal
-
-pub made_of_parts-requires : goal.made_of_parts-requires
-made_of_parts-requires c = parts_within c.in-Seq.is c.requires.parts
-
-pub each_is_covered-requires-clause-parts : goal.each_is_covered-requires-clause-parts
-each_is_covered-requires-clause-parts c = parts_within c.in-Choice.is c.requires.parts
-
-pub turns_are_covered-requires-clause-part : goal.turns_are_covered-requires-clause-part
-turns_are_covered-requires-clause-part c = parts_within c.in-Times.is c.requires.parts 0 c.in-Times.part refl
-
-pub part_is_covered-requires-clause-part : goal.part_is_covered-requires-clause-part
-part_is_covered-requires-clause-part c = parts_within c.in-Named.is c.requires.parts 0 c.in-Named.part refl
 
 pub returns-in_default : goal.returns-in_default
 returns-in_default c =

@@ -1,7 +1,6 @@
 use Rattle.std.proofs.Common.{◌<◌, ℕ, IsTrue}
 use Rattle.csn_good.specs.ClaimedSets.{claims_of}
-use Rattle.csn_good.specs.Patterns.{IsCovered}
-use Rattle.csn_good.specs.Covering.{leaf_pattern}
+use Rattle.csn_good.specs.Patterns.{leaf_pattern, IsCovered}
 use Rattle.csn_good.proofs.keys.leaf_is_covered.Given as goal
 
 abbrev pub invariant-loop-octet : goal.invariant-loop-octet

@@ -1,4 +1,4 @@
-use Rattle.std.proofs.Common.{◌≡◌, ◌+◌, ◌*◌, ◌≤◌, drop}
+use Rattle.std.proofs.Common.{◌≡◌, ◌≤◌, drop}
 use Rattle.csn_good.specs.Made.{marks_number}
 use Rattle.csn_good.proofs.made.number_of.Given as goal
 

@@ -1,24 +1,9 @@
 use Rattle.std.proofs.Common.{refl, sym, ◌∙◌, inl, inr, ◌↔◌, IsTrue, true}
 use Rattle.csn_claims.specs.Nullable.{NodeNullable, nullable_null, nullable_rest, nullable_many, nullable_trunc}
 use Rattle.csn_good.specs.ClaimedSets.{claims_of}
-use Rattle.csn_good.proofs.Arms.{along, parts_within}
+use Rattle.csn_good.proofs.Arms.{along}
 use Rattle.csn_good.proofs.SetArms.{null_field, null_seq, null_choice, null_times, null_window, null_named, tells, is_claim}
 use Rattle.csn_good.proofs.sets.is_nullable.Goals as goal
-
-pub all_nullable-requires : goal.all_nullable-requires
-all_nullable-requires c = parts_within c.in-Seq.is c.requires
-
-pub some_nullable-requires : goal.some_nullable-requires
-some_nullable-requires c = parts_within c.in-Choice.is c.requires
-
-pub nullable-requires : goal.nullable-requires
-nullable-requires c = parts_within c.in-Times.is c.requires 0 c.in-Times.part refl
-
-pub nullable-requires-then-may_be_none-2 : goal.nullable-requires-then-may_be_none-2
-nullable-requires-then-may_be_none-2 c = parts_within c.in-Window.is c.requires 0 c.in-Window.part refl
-
-pub nullable-requires-in-Named : goal.nullable-requires-in-Named
-nullable-requires-in-Named c = parts_within c.in-Named.is c.requires 0 c.in-Named.part refl
 
 pub returns-in-Null : goal.returns-in-Null
 returns-in-Null c = along (λ n. IsTrue true ↔ NodeNullable (claims_of c.args.c.now) n) c.in-Null.is ((λ h. nullable_null), (λ h. refl))

@@ -3,30 +3,9 @@ use Rattle.csn_desc.specs.Spelled.{IsSpare}
 use Rattle.std.proofs.Common.{subst, [], ◌∷◌, refl, ◌↔◌, IsTrue, true}
 use Rattle.csn_claims.specs.Starts.{NodeStarts, starts_field, starts_rest}
 use Rattle.csn_good.specs.ClaimedSets.{claims_of}
-use Rattle.csn_good.proofs.Arms.{along, parts_within}
+use Rattle.csn_good.proofs.Arms.{along}
 use Rattle.csn_good.proofs.SetArms.{start_lits, start_spare, start_pad, start_seq, start_trunc, start_choice, start_times, start_many, start_window, start_named, tells, is_claim}
 use Rattle.csn_good.proofs.sets.may_start.Goals as goal
-
-pub tail_of-requires : goal.tail_of-requires
-tail_of-requires c = parts_within c.in-Seq.is c.requires.parts
-
-pub some_starts-requires-clause-parts : goal.some_starts-requires-clause-parts
-some_starts-requires-clause-parts c = parts_within c.in-Choice.is c.requires.parts
-
-pub starts_with-requires-clause-node : goal.starts_with-requires-clause-node
-starts_with-requires-clause-node c = parts_within c.in-Times.is c.requires.parts 0 c.in-Times.part refl
-
-pub starts_with-requires-in-Many-clause-node : goal.starts_with-requires-in-Many-clause-node
-starts_with-requires-in-Many-clause-node c = parts_within c.in-Many.is c.requires.parts 0 c.in-Many.part refl
-
-pub tail_of-requires-in-Trunc : goal.tail_of-requires-in-Trunc
-tail_of-requires-in-Trunc c = parts_within c.in-Trunc.is c.requires.parts
-
-pub starts_with-requires-in-Window-clause-node : goal.starts_with-requires-in-Window-clause-node
-starts_with-requires-in-Window-clause-node c = parts_within c.in-Window.is c.requires.parts 0 c.in-Window.part refl
-
-pub starts_with-requires-in-Named-clause-node : goal.starts_with-requires-in-Named-clause-node
-starts_with-requires-in-Named-clause-node c = parts_within c.in-Named.is c.requires.parts 0 c.in-Named.part refl
 
 pub returns-in-Field : goal.returns-in-Field
 returns-in-Field c = along (λ n. IsTrue true ↔ NodeStarts c.args.desc.now (claims_of c.args.c.now) n c.args.octet c.args.bit) c.in-Field.is ((λ h. starts_field c.requires.bit), (λ h. refl))

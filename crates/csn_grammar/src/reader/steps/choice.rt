@@ -17,7 +17,7 @@ fn next_branch(alloc: Global, within: Within, body: Expr, error: bool) -> Result
     ensures { Gives result (goes within.frames (with_branch within.level body error) Mode.Side) }
 {
     let Within { frames, mut level } = within;
-    level.branches.push(Branch {
+    level.branches.add(Branch {
         error: level.error,
         body,
     })?;

@@ -32,9 +32,9 @@ pub fn first_word(alloc: Global, within: Within, start: u32, piece: Piece<'_>) -
 pub fn after_words(
     alloc: Global,
     within: Within,
+    piece: Piece<'_>,
     start: u32,
     words: Label,
-    piece: Piece<'_>,
 ) -> Result<Next, Stop>
     ensures { Gives result (after_words within.frames within.level start words piece.entry.token.kind piece.entry.token.end piece.entry.text.now) }
 {

@@ -18,7 +18,7 @@ use std::alloc::Global;
 fn next_item(alloc: Global, mut within: Within, item: Expr, piece: Piece<'_>) -> Result<Next, Stop>
     ensures { Gives result (begin_side within.frames (with_item within.level item) piece.entry.token.kind piece.entry.token.start piece.entry.token.end piece.entry.text.now) }
 {
-    within.level.items.push(item)?;
+    within.level.items.add(item)?;
     within.level.joint = Joint::Alone;
     begin_side(alloc, within, piece)
 }

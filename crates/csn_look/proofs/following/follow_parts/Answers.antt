@@ -1,17 +1,13 @@
-use Rattle.std.proofs.Common.{suc, drop, refl, length}
+use Rattle.std.proofs.Common.{suc, drop, refl, ap, length}
+use Rattle.csn_desc.specs.Nodes.{parts_of}
+use Rattle.csn_look.proofs.Meaning.ShapeFacts.{has_no_parts}
 use Rattle.csn_look.proofs.Sets.LookFacts.{known_sets}
-use Rattle.csn_look.proofs.Handing.ReachedParts.{once_kind, below_kind, part_below, single_others, others_of}
-use Rattle.csn_look.proofs.Handing.FollowedParts.{follows_of, single_follows, says_choice, says_times, says_many, says_window, says_named}
+use Rattle.csn_look.proofs.Handing.ReachedParts.{below_kind, in_sequence, part_below, single_others, others_of}
+use Rattle.csn_look.proofs.Handing.FollowedParts.{follows_of, no_follows, single_follows, says_choice, says_times, says_many, says_window, says_named}
 use Rattle.csn_look.proofs.following.follow_parts.Goals as goal
 
-pub follow_in_order-requires-clause-once : goal.follow_in_order-requires-clause-once
-follow_in_order-requires-clause-once c = once_kind c.args.node.now _ c.in-Seq.is c.requires.once
-
-pub follow_in_order-requires-clause-below : goal.follow_in_order-requires-clause-below
-follow_in_order-requires-clause-below c = below_kind c.args.node.now _ (length c.args.table.now) c.in-Seq.is c.requires.below
-
-pub follow_in_order-requires-clause-known : goal.follow_in_order-requires-clause-known
-follow_in_order-requires-clause-known c = below_kind c.args.node.now _ (length c.args.look.now.sets) c.in-Seq.is c.requires.known
+pub follow_in_order-requires : goal.follow_in_order-requires
+follow_in_order-requires c = in_sequence c.args.node.now c.in-Seq.parts (ap parts_of c.in-Seq.is) c.requires
 
 pub returns-in-Seq-clause-follows : goal.returns-in-Seq-clause-follows
 returns-in-Seq-clause-follows c = λ d k look says. follows_of d c.args.node.now _ k c.follow_in_order.new.table c.in-Seq.is (c.follow_in_order.ensures.follows d k look says)
@@ -19,14 +15,8 @@ returns-in-Seq-clause-follows c = λ d k look says. follows_of d c.args.node.now
 pub returns-in-Seq-clause-others : goal.returns-in-Seq-clause-others
 returns-in-Seq-clause-others c = others_of c.args.node.now _ c.args.table.now c.follow_in_order.new.table c.in-Seq.is c.follow_in_order.ensures.others
 
-pub follow_in_order-requires-in-Trunc-clause-once : goal.follow_in_order-requires-in-Trunc-clause-once
-follow_in_order-requires-in-Trunc-clause-once c = once_kind c.args.node.now _ c.in-Trunc.is c.requires.once
-
-pub follow_in_order-requires-in-Trunc-clause-below : goal.follow_in_order-requires-in-Trunc-clause-below
-follow_in_order-requires-in-Trunc-clause-below c = below_kind c.args.node.now _ (length c.args.table.now) c.in-Trunc.is c.requires.below
-
-pub follow_in_order-requires-in-Trunc-clause-known : goal.follow_in_order-requires-in-Trunc-clause-known
-follow_in_order-requires-in-Trunc-clause-known c = below_kind c.args.node.now _ (length c.args.look.now.sets) c.in-Trunc.is c.requires.known
+pub follow_in_order-requires-in-Trunc : goal.follow_in_order-requires-in-Trunc
+follow_in_order-requires-in-Trunc c = in_sequence c.args.node.now c.in-Trunc.parts (ap parts_of c.in-Trunc.is) c.requires
 
 pub returns-in-Trunc-clause-follows : goal.returns-in-Trunc-clause-follows
 returns-in-Trunc-clause-follows c = λ d k look says. follows_of d c.args.node.now _ k c.follow_in_order-in-Trunc.new.table c.in-Trunc.is (c.follow_in_order-in-Trunc.ensures.follows d k look says)
@@ -89,3 +79,8 @@ returns-in-Named-clause-follows c = λ d k look says. single_follows d c.args.no
 
 pub returns-in-Named-clause-others : goal.returns-in-Named-clause-others
 returns-in-Named-clause-others c = single_others c.args.node.now _ c.in-Named.part c.args.above c.args.table.now c.in-Named.is refl
+
+pub returns-in_default-clause-follows : goal.returns-in_default-clause-follows
+returns-in_default-clause-follows c = λ d k look says.
+    let other = c.in_default in
+    no_follows d c.args.node.now k c.args.table.now (has_no_parts c.args.node.now other.not-Seq other.not-Choice other.not-Times other.not-Many other.not-Trunc other.not-Window other.not-Named)

@@ -1,30 +1,22 @@
-use Rattle.std.proofs.Common.{◌≡◌, ◌<◌, ◌≤◌, ◌⊎◌, ◌+◌, ◌/◌, ◌%◌, ◌^◌, ℕ, inl, inr, sym, ap, ◌∙◌, subst, arith}
-use Rattle.csn_look.specs.Full.{is_key_at}
-use Rattle.csn_look.proofs.Tables.FullFacts.{rest_same, this_same, this_other}
+use Rattle.std.proofs.Common.{◌≡◌, ◌<◌, true, false, subst, arith}
+use Rattle.std.proofs.lemmas.Bool.Decides.{nat_tests}
+use Rattle.csn_look.specs.declared.marks.Sought.{Sought}
+use Rattle.csn_look.specs.Full.{is_sought}
+use Rattle.csn_look.proofs.Tables.FullFacts.{as_wanted, not_wanted}
 use Rattle.csn_look.proofs.full.are_all.Goals as goal
 
-lower_or : (k at : ℕ) → (k < at) ⊎ (at ≤ k)
-lower_or k at = grind arith
+pub returns-clause-all : goal.returns-clause-all
+returns-clause-all c = λ yes at from below.
+    let same : c.next_sought.result ≡ c.args.end = grind (arith, nat_tests, yes) in
+    as_wanted c.args.keys c.args.table.now at
+    (subst (λ (s : Sought). is_sought s c.args.table.now at ≡ false) c.sought_against.ensures (c.next_sought.ensures.none at from (omega (arith, below, same))))
 
-same_or : (k at : ℕ) → at ≤ k → k < at + 1 → at ≡ k
-same_or k at low high = omega arith
-
-pub loop-at-preserved-then-left-eq0 : goal.loop-at-preserved-then-left-eq0
-loop-at-preserved-then-left-eq0 c = (
-  omega (arith, c.loop-at.invariant.0),
-  λ k from high. elim (lower_or k c.loop-at.at) [
-    | inl below ↦ c.loop-at.invariant.1 k from below
-    | inr past ↦ rest_same c.args.table.now c.args.keys c.others.result c.loop-at.at c.others.ensures c.if-left-eq0.true k past high
-  ],
-)
-
-pub loop-at-preserved : goal.loop-at-preserved
-loop-at-preserved c = (
-  omega (arith, c.loop-at.invariant.0),
-  λ k from high. elim (lower_or k c.loop-at.at) [
-    | inl below ↦ c.loop-at.invariant.1 k from below
-    | inr past ↦
-        subst (λ (n : ℕ). is_key_at c.args.table.now n ≡ c.args.keys) (same_or k c.loop-at.at past high)
-        (this_same c.args.table.now c.args.keys c.others.result c.loop-at.at c.others.ensures c.if-left-eq1.false)
-  ],
-)
+pub returns-clause-other : goal.returns-clause-other
+returns-clause-other c = λ no.
+    let found = c.next_sought.result in
+    let less : found < c.args.end = grind (arith, nat_tests, no, c.next_sought.ensures.high) in (
+      found,
+      c.next_sought.ensures.low,
+      less,
+      not_wanted c.args.keys c.args.table.now found (subst (λ (s : Sought). is_sought s c.args.table.now found ≡ true) c.sought_against.ensures (c.next_sought.ensures.here less)),
+    )

@@ -12,18 +12,19 @@ loop-k-init g c =
     let is = c.len-count.ensures.description in
     handed_none (λ i a. g.T.HandDown.is_right d i a) d is c.in_ok-table.table.items c.args.root (c.in_ok-table.ensures ∙ c.len-count.ensures.len) (c.requires.root is)
 
-pub hand_down-requires-clause-once : goal.hand_down-requires-clause-once
-hand_down-requires-clause-once g c = parts_once c.args.desc.now c.loop-k.k c.node.result.now c.len-count.ensures.description c.node.ensures
-
-pub hand_down-requires-clause-below : goal.hand_down-requires-clause-below
-hand_down-requires-clause-below g c =
+pub hand_down-requires : goal.hand_down-requires
+hand_down-requires g c =
+    let d = c.args.desc.now in
+    let k = c.loop-k.k in
+    let node = c.node.result.now in
+    let is = c.len-count.ensures.description in
     let size = ap length c.as_mut_slice.ensures.value in
     let same = c.loop-k.invariant.same in
-    parts_below c.args.desc.now c.loop-k.k c.node.result.now (length c.as_mut_slice.result.now) c.len-count.ensures.description c.node.ensures (omega (arith, size, same))
-
-pub hand_down-requires-clause-known : goal.hand_down-requires-clause-known
-hand_down-requires-clause-known g c =
-    parts_below c.args.desc.now c.loop-k.k c.node.result.now (length c.args.look.now.sets) c.len-count.ensures.description c.node.ensures (omega (arith, c.requires.known.same))
+    record {
+      once = parts_once d k node is c.node.ensures;
+      below = parts_below d k node (length c.as_mut_slice.result.now) is c.node.ensures (omega (arith, size, same));
+      known = parts_below d k node (length c.args.look.now.sets) is c.node.ensures (omega (arith, c.requires.known.same));
+    }
 
 pub loop-k-preserved : goal.loop-k-preserved
 loop-k-preserved g c =

@@ -6,4 +6,4 @@ pub returns-then-len-eq0 : goal.returns-then-len-eq0
 returns-then-len-eq0 c = λ d. no_lits_start d c.args.run.now c.empty.result c.args.bit (sym c.len.ensures.len ∙ c.if-len-eq0.true) c.empty.ensures
 
 pub returns-else-len-eq0 : goal.returns-else-len-eq0
-returns-else-len-eq0 c = λ d. some_lits_start d c.args.run.now c.get.result c.symbol_starts.result c.args.bit c.get.ensures c.symbol_starts.ensures
+returns-else-len-eq0 c = λ d. some_lits_start d c.args.run.now c.get.result.now c.symbol_starts.result c.args.bit c.get.ensures c.symbol_starts.ensures

@@ -1,25 +1,15 @@
-use Rattle.std.proofs.Common.{refl, length}
+use Rattle.std.proofs.Common.{refl, ap, length}
+use Rattle.csn_desc.specs.Nodes.{parts_of}
+use Rattle.csn_look.proofs.Meaning.ShapeFacts.{has_no_parts}
 use Rattle.csn_look.proofs.Sets.RepetitionsTell.{many_lengths}
-use Rattle.csn_look.proofs.Handing.ReachedParts.{once_kind, below_kind, part_below, steps_of, trunc_steps, single_steps, single_others, others_of, at_choice, at_times, at_many, at_window, at_named}
+use Rattle.csn_look.proofs.Handing.ReachedParts.{below_kind, in_sequence, part_below, steps_of, no_steps, trunc_steps, single_steps, single_others, others_of, at_choice, at_times, at_many, at_window, at_named}
 use Rattle.csn_look.proofs.reach.reach_parts.Goals as goal
 
-pub reach_in_order-requires-clause-once : goal.reach_in_order-requires-clause-once
-reach_in_order-requires-clause-once c = once_kind c.args.node.now _ c.in-Seq.is c.requires.once
+pub reach_in_order-requires : goal.reach_in_order-requires
+reach_in_order-requires c = in_sequence c.args.node.now c.in-Seq.parts (ap parts_of c.in-Seq.is) c.requires
 
-pub reach_in_order-requires-clause-below : goal.reach_in_order-requires-clause-below
-reach_in_order-requires-clause-below c = below_kind c.args.node.now _ (length c.args.reached.now) c.in-Seq.is c.requires.below
-
-pub reach_in_order-requires-clause-known : goal.reach_in_order-requires-clause-known
-reach_in_order-requires-clause-known c = below_kind c.args.node.now _ (length c.args.look.now.sets) c.in-Seq.is c.requires.known
-
-pub reach_in_order-requires-in-Trunc-clause-once : goal.reach_in_order-requires-in-Trunc-clause-once
-reach_in_order-requires-in-Trunc-clause-once c = once_kind c.args.node.now _ c.in-Trunc.is c.requires.once
-
-pub reach_in_order-requires-in-Trunc-clause-below : goal.reach_in_order-requires-in-Trunc-clause-below
-reach_in_order-requires-in-Trunc-clause-below c = below_kind c.args.node.now _ (length c.args.reached.now) c.in-Trunc.is c.requires.below
-
-pub reach_in_order-requires-in-Trunc-clause-known : goal.reach_in_order-requires-in-Trunc-clause-known
-reach_in_order-requires-in-Trunc-clause-known c = below_kind c.args.node.now _ (length c.args.look.now.sets) c.in-Trunc.is c.requires.known
+pub reach_in_order-requires-in-Trunc : goal.reach_in_order-requires-in-Trunc
+reach_in_order-requires-in-Trunc c = in_sequence c.args.node.now c.in-Trunc.parts (ap parts_of c.in-Trunc.is) c.requires
 
 pub hand_to_each-requires : goal.hand_to_each-requires
 hand_to_each-requires c = record { below = below_kind c.args.node.now _ (length c.args.reached.now) c.in-Choice.is c.requires.below }
@@ -88,3 +78,8 @@ returns-in-Named-clause-steps c = λ d look. single_steps d c.args.node.now _ c.
 
 pub returns-in-Named-clause-others : goal.returns-in-Named-clause-others
 returns-in-Named-clause-others c = single_others c.args.node.now _ c.in-Named.part c.args.from c.args.reached.now c.in-Named.is refl
+
+pub returns-in_default-clause-steps : goal.returns-in_default-clause-steps
+returns-in_default-clause-steps c = λ d look.
+    let other = c.in_default in
+    no_steps d c.args.node.now c.args.node.now c.args.from c.args.reached.now refl (has_no_parts c.args.node.now other.not-Seq other.not-Choice other.not-Times other.not-Many other.not-Trunc other.not-Window other.not-Named)

@@ -1,10 +1,9 @@
-use Rattle.std.proofs.Common.{ap, ◌∙◌, arith}
-use Rattle.csn_treetext.specs.reader.Machine.{upper_value}
+use Rattle.std.proofs.Common.{◌∙◌, arith}
 use Rattle.csn_treetext.proofs.UpperValues.{upper_digit, no_upper_digit}
 use Rattle.csn_treetext.proofs.long.upper_value.Goals as goal
 
-pub returns-then-value-lt16-clause-value : goal.returns-then-value-lt16-clause-value
-returns-then-value-lt16-clause-value c = upper_digit c.from.result (omega (arith, c.from.ensures, c.ranges.byte.fits)) c.if-value-lt16.true ∙ ap upper_value c.from.ensures
+pub returns-then-byte-ge97-clause-value : goal.returns-then-byte-ge97-clause-value
+returns-then-byte-ge97-clause-value c = no_upper_digit c.args.byte (omega (arith, c.ranges.byte.fits)) (omega (arith, c.if-byte-ge97.true))
 
-pub returns-else-value-lt16-clause-value : goal.returns-else-value-lt16-clause-value
-returns-else-value-lt16-clause-value c = no_upper_digit c.from.result (omega (arith, c.from.ensures, c.ranges.byte.fits)) c.if-value-lt16.false ∙ ap upper_value c.from.ensures
+pub returns-clause-value : goal.returns-clause-value
+returns-clause-value c = c.digit_value.ensures.value ∙ upper_digit c.args.byte (omega (arith, c.ranges.byte.fits)) (omega (arith, c.if-byte-ge97.false))

@@ -7,10 +7,10 @@ use Rattle.csn_certify.proofs.chooser.Chooser.width.Goals as goal
 
 pub loop-j-preserved : goal.loop-j-preserved
 loop-j-preserved c =
+    let j = c.loop-j.j in
     let d = c.args.self.now.desc.now in
     let parts = c.args.self.now.parts.now in
     let octet = c.args.self.now.octet in
-    let j = c.loop-j.j in
     let P : ℕ → Type 0 = λ width. AreDeep d parts octet (j + 1) width × (width ≤ 12) in
     elim c.match-keys.branch [
       | in-None w ↦ subst P (sym w.width-is) (deep_null d parts octet j c.loop-j.width w.in-None.ensures c.loop-j.invariant.0, c.loop-j.invariant.1)

@@ -6,6 +6,14 @@ use Rattle.csn_certify.proofs.PickTables.{cut_place, cut_within}
 use Rattle.csn_certify.proofs.PickBlocks.{read_block, read_within}
 use Rattle.csn_certify.proofs.pick_table.PickTable.entry.Goals as goal
 
+pub returns-then-place-lt-FIRST : goal.returns-then-place-lt-FIRST
+returns-then-place-lt-FIRST c =
+    let table = c.self.inside.table.now in
+    let over : c.saturating_sub-over.result ≡ length c.args.held.now - table.width = c.saturating_sub-over.ensures ∙ ap (λ n. n - table.width) c.len.ensures.count in
+    c.self.invariant.first (c.place.result / 2 ^ c.saturating_sub-over.result) c.if-place-lt-FIRST.true
+    ∙ ap (entry_in (blocks_at table.index.items c.self.inside.blocks.now)) (cut_place table.width c.args.held.now c.place.result c.saturating_sub-over.result c.place.ensures.word c.place.ensures.value over)
+    ∙ ap (λ t. entry_at t c.args.held.now) c.self.view_is
+
 pub index-block-requires : goal.index-block-requires
 index-block-requires c =
     let width = c.self.inside.table.now.width in

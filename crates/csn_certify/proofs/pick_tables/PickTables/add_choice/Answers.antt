@@ -10,11 +10,11 @@ use Rattle.csn_certify.proofs.pick_tables.PickTables.add_choice.Goals as goal
 
 pub loop-octet-preserved : goal.loop-octet-preserved
 loop-octet-preserved c =
+    let less = c.loop-octet-test.true in
     let d = c.args.known.now.desc.now in
     let node = c.args.node in
     let octet = c.loop-octet.octet in
     let parts = c.args.parts.now in
-    let less = c.loop-octet-test.true in
     let inside = slice_get_within d.nodes node (Choice parts) c.requires.choice in
     let P : PickTablesV → Type 0 = λ picks. HaveTables d (8 * node + (octet + 1)) picks in
     elim c.if-has.branch [

@@ -21,7 +21,7 @@ loop-at-preserved c =
       bits = c.in_ok-push.ensures.bits ∙ ap (λ l. l ++ c.bit.result ∷ []) c.loop-at.invariant.bits
           ∙ append_assoc c.args.self.now.bits (spelled (take c.loop-at.at c.args.run.now) (length c.args.self.now.bits)) (c.bit.result ∷ [])
           ∙ ap (λ b. c.args.self.now.bits ++ (spelled (take c.loop-at.at c.args.run.now) (length c.args.self.now.bits) ++ b ∷ [])) c.bit.ensures.value
-          ∙ ap (λ l. c.args.self.now.bits ++ l) (sym (spelled-next c.args.run.now c.loop-at.at (length c.args.self.now.bits) c.len-place.result c.get.result c.get.ensures (omega arith) (c.len-place.ensures.count ∙ (omega (arith, long, size, few)))));
+          ∙ ap (λ l. c.args.self.now.bits ++ l) (sym (spelled-next c.args.run.now c.loop-at.at (length c.args.self.now.bits) c.len-place.result c.get.result.now c.get.ensures (omega arith) (c.len-place.ensures.count ∙ (omega (arith, long, size, few)))));
       path = c.in_ok-push.ensures.path ∙ c.loop-at.invariant.path;
       numbers = c.in_ok-push.ensures.numbers ∙ c.loop-at.invariant.numbers;
     }

@@ -1,10 +1,7 @@
-use Rattle.std.proofs.Common.{◌≡◌, drop, length}
+use Rattle.std.proofs.Common.{◌≡◌, drop}
 use Rattle.csn_grammar.specs.reader.Spellings.{run_of}
 use Rattle.csn_grammar.proofs.Spelled.{with_run}
 use Rattle.csn_grammar.proofs.reader.spellings.run_of.Given as goal
 
 abbrev pub invariant-loop-byte : goal.invariant-loop-byte
-invariant-loop-byte l = record {
-  short : length l.run ≡ l.byte-index;
-  value : with_run l.run (run_of (drop l.byte-index l.word)) ≡ run_of l.word;
-}
+invariant-loop-byte l = with_run l.run (run_of (drop l.byte-index l.word)) ≡ run_of l.word
