@@ -1,5 +1,5 @@
 -- The credit of steps. (This project's own choice.)
-use Rattle.std.specs.Prelude.{ℕ, ◌+◌, ◌-◌, ◌*◌, ◌<◌, ◌≤◌, if◌then◌else◌, List, [], ◌∷◌, length, Option, Some, None}
+use Rattle.std.specs.Prelude.{ℕ, ◌+◌, ◌-◌, ◌*◌, ◌<◌, ◌≤◌, if◌then◌else◌, List, [], ◌∷◌, length}
 use Rattle.csn_judge.specs.declared.frame.Frame.{Frame}
 use Rattle.csn_judge.specs.declared.frame.Frame.TheVariants as frame
 use Rattle.csn_judge.specs.declared.pace.Pace.{Pace}
@@ -42,15 +42,6 @@ Pays before after steps steps_after (Refused place) = steps_after ≤ steps + be
 abbrev pub NextPays : (before after : ℕ) → (steps steps_after : ℕ) → Next → Type 0
 NextPays before after steps steps_after (next.Begin node) = (steps_after + after ≤ steps + before) × (after ≤ before)
 NextPays before after steps steps_after (next.Turn turn) = Pays before after steps steps_after turn
-
--- turns come to an end: the credit falls, or a node that stood ready to begin does
-abbrev pub turns_left_at : Option ℕ → ℕ → ℕ
-turns_left_at (Some node) credit = 2 * credit
-turns_left_at None credit = 2 * credit + 1
-
-abbrev pub turns_left_then : Next → ℕ → ℕ
-turns_left_then (next.Begin node) credit = 2 * credit
-turns_left_then (next.Turn turn) credit = 2 * credit + 1
 
 -- the credit of a state
 abbrev pub credit_in : DescV → StateV → ℕ

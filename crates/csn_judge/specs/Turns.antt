@@ -104,11 +104,6 @@ abbrev pub state_begun : ℕ → Frame → Machine → Coming → StateV
 state_begun part behind machine coming =
     record { frames = frame.Begin part ∷ behind ∷ reverse machine.frames.items; values = machine.values.items; pace = begun_by part machine.pace; coming = coming }
 
--- the state where this node begins next, or none does
-abbrev pub state_at : Option ℕ → Machine → Coming → StateV
-state_at (Some node) machine coming = state_with (frame.Begin node) machine coming
-state_at None machine coming = state_of machine coming
-
 -- the state behind a turn: the node that begins next is innermost
 abbrev pub state_then : Next → Machine → Coming → StateV
 state_then (next.Begin node) machine coming = state_with (frame.Begin node) machine coming

@@ -4,8 +4,8 @@ ghost use Rattle.std.specs.Prelude.{◌≡◌, ◌+◌, ◌*◌, ◌<◌, IsTrue
 ghost use Rattle.csn_judge.specs.declared.frame.Frame.TheVariants as frame;
 ghost use Rattle.csn_judge.specs.declared.turn.Turn.TheVariants as turn;
 ghost use Rattle.csn_judge.specs.Coming.{IsSame};
-ghost use Rattle.csn_judge.specs.Credit.{credit_in, credit_of, turns_left_at, turns_left_then, NextPays, PaysAll, TurnPays};
-ghost use Rattle.csn_judge.specs.Turns.{state_at, state_of, state_then, state_with, turn_in, turn_of, StandsSomewhere, Turns};
+ghost use Rattle.csn_judge.specs.Credit.{credit_in, credit_of, NextPays, PaysAll, TurnPays};
+ghost use Rattle.csn_judge.specs.Turns.{state_of, state_then, state_with, turn_in, turn_of, StandsSomewhere, Turns};
 
 use crate::frame::Frame;
 use crate::machine::Machine;
@@ -35,39 +35,62 @@ impl Machine<'_> {
         ensures plan { self.new.plan ≡ self.old.plan }
     {
         source.none_behind_end();
-        let mut begins = None;
         loop {
-            match self.step(begins, source, track, steps) {
-                Next::Begin { node } => begins = Some(node),
-                Next::Turn(Turn::Moved) => begins = None,
-                Next::Turn(Turn::Waits) => return Verdict::Going,
-                Next::Turn(Turn::Refused { place }) => return Verdict::Refused { place },
+            match self.step(source, track, steps) {
+                Turn::Moved => {}
+                Turn::Waits => return Verdict::Going,
+                Turn::Refused { place } => return Verdict::Refused { place },
             }
         }
     }
 
-    /// The node that begins next is entered, or where none does the innermost frame has its turn.
+    /// The innermost frame has its turn, and what begins by it is read or entered.
     #[inline(always)]
     fn step<T: Track, L: Ledger>(
         &mut self,
-        begins: Option<u16>,
         source: &mut Source<'_>,
         track: &mut T,
         steps: &mut Steps<L>,
-    ) -> Next
-        requires stands { StandsSomewhere self.old.plan.now (state_at begins self.old source.old) }
+    ) -> Turn
+        requires stands { StandsSomewhere self.old.plan.now (state_of self.old source.old) }
         requires fits { T.fits track.old self.old.plan.now }
-        ensures turns { Turns self.old.plan.now T.takes (state_at begins self.old source.old) (state_then result self.new source.new)
-            track.old track.new (turn_in result) }
-        ensures pays { NextPays (credit_in self.old.plan.now (state_at begins self.old source.old))
-            (credit_in self.old.plan.now (state_then result self.new source.new)) steps.old steps.new result }
-        ensures fewer { turn_in result ≡ turn.Moved → turns_left_then result (credit_in self.old.plan.now (state_then result self.new source.new))
-            < turns_left_at begins (credit_in self.old.plan.now (state_at begins self.old source.old)) }
+        ensures turns { Turns self.old.plan.now T.takes (state_of self.old source.old) (state_of self.new source.new)
+            track.old track.new result }
+        ensures pays { TurnPays self.old.plan.now (state_of self.old source.old) (state_of self.new source.new)
+            steps.old steps.new result }
         ensures plan { self.new.plan ≡ self.old.plan }
     {
-        match begins {
-            Some(node) => self.read_or_enter(node, source, track, steps),
-            None => self.turn(source, track, steps),
+        source.none_behind_end();
+        match self.turn(source, track, steps) {
+            Next::Begin { node } => self.enter_along(node, source, track, steps),
+            Next::Turn(turn) => turn,
+        }
+    }
+
+    /// A node that begins is read or entered, and so is the part of it that begins then, until none does.
+    #[inline(always)]
+    fn enter_along<T: Track, L: Ledger>(
+        &mut self,
+        first: u16,
+        source: &mut Source<'_>,
+        track: &mut T,
+        steps: &mut Steps<L>,
+    ) -> Turn
+        requires stands { StandsSomewhere self.old.plan.now (state_with (frame.Begin first) self.old source.old) }
+        requires fits { T.fits track.old self.old.plan.now }
+        ensures turns { Turns self.old.plan.now T.takes (state_with (frame.Begin first) self.old source.old) (state_of self.new source.new)
+            track.old track.new result }
+        ensures pays { TurnPays self.old.plan.now (state_with (frame.Begin first) self.old source.old) (state_of self.new source.new)
+            steps.old steps.new result }
+        ensures plan { self.new.plan ≡ self.old.plan }
+    {
+        source.none_behind_end();
+        let mut begins = first;
+        loop {
+            match self.read_or_enter(begins, source, track, steps) {
+                Next::Begin { node } => begins = node,
+                Next::Turn(turn) => return turn,
+            }
         }
     }
 
@@ -142,8 +165,6 @@ impl Machine<'_> {
             track.old track.new (turn_in result) }
         ensures pays { NextPays (credit_in self.old.plan.now (state_of self.old source.old))
             (credit_in self.old.plan.now (state_then result self.new source.new)) steps.old steps.new result }
-        ensures fewer { turn_in result ≡ turn.Moved → turns_left_then result (credit_in self.old.plan.now (state_then result self.new source.new))
-            < 2 * credit_in self.old.plan.now (state_of self.old source.old) + 1 }
         ensures plan { self.new.plan ≡ self.old.plan }
     {
         let Some(frame) = self.frames.pop() else {

@@ -1,8 +1,6 @@
 -- The blocks of the generator, one more at a time.
-use Rattle.std.proofs.Common.{◌≡◌, ◌↔◌, ℕ, zero, suc, ◌+◌, ◌*◌, ◌≤◌, Bool, true, false, if◌then◌else◌, IsTrue, List, [], ◌++◌, length, take, drop, refl, sym, ap, subst, ◌∙◌, arith, append_assoc, append-nil}
+use Rattle.std.proofs.Common.{◌≡◌, ◌↔◌, ℕ, zero, suc, ◌+◌, ◌*◌, ◌<◌, ◌≤◌, Bool, true, false, if◌then◌else◌, IsTrue, List, ◌++◌, length, take, drop, refl, sym, subst, arith}
 use Rattle.std.specs.Int.{to_be_bytes, w64}
-use Rattle.std.proofs.Math.Seq.{drop-append_seam}
-use Rattle.std.proofs.lemmas.List.{take_all, length-take-le}
 use Rattle.csn_bits.specs.Octets.{bits_of_octets}
 use Rattle.csn_catalogue.specs.declared.entry.Entry.{Entry}
 use Rattle.csn_catalogue.specs.declared.entry.Entry.TheVariants.{Uplink, Downlink, Si1, Si3, Si4, Si13, Ia}
@@ -11,17 +9,6 @@ use Rattle.csn_desc.specs.Nodes.{DescV}
 use Rattle.csn_soak.specs.declared.soaking.Soaked.{Soaked}
 use Rattle.csn_soak.specs.Generator.{number, sample_bits, sample_with, is_cut, block}
 use Rattle.csn_soak.specs.Soaking.{IsString, Counted, one_more, no_more, bits_in, IsSoaked}
-
--- what stands behind the first bits of some bits, once all of them were gone through
-pub behind_all : {A : Type 0} (n m : ℕ) (all behind : List A) → n ≤ length all → length all ≤ m → take n all ++ behind ≡ take m all → behind ≡ drop n all
-behind_all {A} n m all behind within past is =
-    let P : ℕ → Type 0 = λ k. drop k (take n all ++ behind) ≡ behind in
-    let seam : P n = subst P (length-take-le n all within) (drop-append_seam (take n all) behind) in
-    sym seam ∙ ap (λ x. drop n x) (is ∙ take_all m all past)
-
--- three pieces, one behind another
-pub three : (a b c : List ℕ) → a ++ (b ++ (c ++ [])) ≡ (a ++ b) ++ c
-three a b c = ap (λ x. a ++ (b ++ x)) (append-nil c) ∙ sym (append_assoc a b c)
 
 -- a number in the field does not change how many bits a sample has, nor its first one
 pub as_long : (entry : Entry) (x : ℕ) → length (sample_with entry x) ≡ 8 * length (sample_octets entry)
@@ -35,6 +22,16 @@ cut_long entry x = elim entry as (λ e. length (take 1 (sample_with e x)) ≡ 1)
 
 pub few_octets : (entry : Entry) → length (sample_octets entry) ≤ 22
 few_octets entry = elim entry as (λ e. length (sample_octets e) ≤ 22) [ Uplink ↦ omega arith | Downlink ↦ omega arith | Si1 ↦ omega arith | Si3 ↦ omega arith | Si4 ↦ omega arith | Si13 ↦ omega arith | Ia ↦ omega arith ]
+
+-- a field has some bits, and stands near the front
+pub some_bits : (entry : Entry) → 0 < field_width entry
+some_bits entry = elim entry as (λ e. 0 < field_width e) [ Uplink ↦ omega arith | Downlink ↦ omega arith | Si1 ↦ omega arith | Si3 ↦ omega arith | Si4 ↦ omega arith | Si13 ↦ omega arith | Ia ↦ omega arith ]
+
+pub narrow : (entry : Entry) → field_width entry ≤ 32
+narrow entry = elim entry as (λ e. field_width e ≤ 32) [ Uplink ↦ omega arith | Downlink ↦ omega arith | Si1 ↦ omega arith | Si3 ↦ omega arith | Si4 ↦ omega arith | Si13 ↦ omega arith | Ia ↦ omega arith ]
+
+pub near : (entry : Entry) → field_at entry + field_width entry ≤ 64
+near entry = elim entry as (λ e. field_at e + field_width e ≤ 64) [ Uplink ↦ omega arith | Downlink ↦ omega arith | Si1 ↦ omega arith | Si3 ↦ omega arith | Si4 ↦ omega arith | Si13 ↦ omega arith | Ia ↦ omega arith ]
 
 -- how a block is made of its sample
 made_if : (entry : Entry) (x : ℕ) (cut : Bool) → (if cut then take 1 (sample_bits entry) else sample_with entry x) ≡ (if cut then take 1 (sample_with entry x) else sample_with entry x)
@@ -85,21 +82,19 @@ module _ (d : DescV) (entry : Entry) where
       all_of true a b = omega (arith, a, b, so_far.all)
       all_of false a b = omega (arith, a, b, so_far.all)
 
-  -- what is found of the bits that a sample, a number and what stands behind the field make is found of the block
-  pub tells_of : (k : ℕ) (r : Bool) (octets : List ℕ) (at width x : ℕ) (behind : List ℕ) → octets ≡ sample_octets entry → at ≡ field_at entry
-      → width ≡ field_width entry → x ≡ number (suc k) → behind ≡ drop (at + width) (bits_of_octets octets)
+  -- what is found of the bits that a sample and a number in its field make is found of the block
+  pub tells_of : (k : ℕ) (r : Bool) (octets : List ℕ) (at width x : ℕ) → octets ≡ sample_octets entry → at ≡ field_at entry
+      → width ≡ field_width entry → x ≡ number (suc k)
       → (IsTrue r ↔ IsString d (if is_cut k then take 1 (bits_of_octets octets)
-      else (take at (bits_of_octets octets) ++ take width (bits_of_octets (to_be_bytes w64 x)) ++ behind)))
+      else (take at (bits_of_octets octets) ++ take width (bits_of_octets (to_be_bytes w64 x)) ++ drop (at + width) (bits_of_octets octets))))
       → IsTrue r ↔ IsString d (block entry k)
-  tells_of k r octets at width x behind o a w n b tells =
+  tells_of k r octets at width x o a w n tells =
       let P : List ℕ → Type 0 = λ bits. IsTrue r ↔ IsString d bits in
-      let B : List ℕ → ℕ → ℕ → ℕ → List ℕ → List ℕ = λ octets at width x behind.
+      let B : List ℕ → ℕ → ℕ → ℕ → List ℕ = λ octets at width x.
       if is_cut k then take 1 (bits_of_octets octets)
-      else (take at (bits_of_octets octets) ++ take width (bits_of_octets (to_be_bytes w64 x)) ++ behind) in
-      let samples : List ℕ = bits_of_octets (sample_octets entry) in
+      else (take at (bits_of_octets octets) ++ take width (bits_of_octets (to_be_bytes w64 x)) ++ drop (at + width) (bits_of_octets octets)) in
       subst P (made entry k)
-      (subst (λ y. P (B (sample_octets entry) (field_at entry) (field_width entry) y (drop (field_at entry + field_width entry) samples))) n
-      (subst (λ y. P (B (sample_octets entry) (field_at entry) y x (drop (field_at entry + y) samples))) w
-      (subst (λ y. P (B (sample_octets entry) y width x (drop (y + width) samples))) a
-      (subst (λ y. P (B y at width x (drop (at + width) (bits_of_octets y)))) o
-      (subst (λ y. P (B octets at width x y)) b tells)))))
+      (subst (λ y. P (B (sample_octets entry) (field_at entry) (field_width entry) y)) n
+      (subst (λ y. P (B (sample_octets entry) (field_at entry) y x)) w
+      (subst (λ y. P (B (sample_octets entry) y width x)) a
+      (subst (λ y. P (B y at width x)) o tells))))

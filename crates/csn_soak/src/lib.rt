@@ -3,5 +3,6 @@
 
 mod generator;
 mod soaking;
+mod template;
 
 pub use soaking::{MOST_BLOCKS, Soaked, soak};

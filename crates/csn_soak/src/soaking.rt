@@ -7,7 +7,8 @@ ghost use Rattle.csn_soak.specs.Generator.{is_cut};
 ghost use Rattle.csn_soak.specs.Soaking.{IsSoaked, IsString};
 
 use crate::generator::next;
-use csn_bits::{Bits, BitsFault, NoMemory};
+use crate::template::Template;
+use csn_bits::NoMemory;
 use csn_blocks::{Piece, judge_next};
 use csn_catalogue::{Entry, Sample, sample_of};
 use csn_certify::Plan;
@@ -49,20 +50,6 @@ impl Soaked {
     }
 }
 
-/// The bits of a sample behind its field.
-fn behind_field(alloc: Global, sample: &Sample) -> Result<Bits, BitsFault>
-    requires within { sample.now.at + sample.now.width ≤ 8 * length sample.now.octets.now }
-    requires short { length sample.now.octets.now ≤ 22 }
-    ensures { IfOk result (λ behind. behind ≡ drop (sample.now.at + sample.now.width) (bits_of_octets sample.now.octets.now)) }
-{
-    let whole = Bits::from_octets(alloc, sample.octets, 8 * sample.octets.len() as u32)?;
-    let mut behind = Bits::new(alloc);
-    for at in sample.at + sample.width..whole.len() {
-        behind.push(whole.get(at))?;
-    }
-    Ok(behind)
-}
-
 /// Whether the bits of some pieces are a string.
 fn is_string(judge: &mut Judge<'_>, pieces: &[Piece<'_>]) -> bool
     requires fresh { IsFresh judge.old }
@@ -75,31 +62,22 @@ fn is_string(judge: &mut Judge<'_>, pieces: &[Piece<'_>]) -> bool
 }
 
 /// Whether the sample with a number in its field is a string.
-fn is_string_with(judge: &mut Judge<'_>, sample: &Sample, behind: &Bits, number: u64) -> bool
+fn is_string_with(judge: &mut Judge<'_>, template: &mut Template, number: u64) -> bool
     requires fresh { IsFresh judge.old }
-    requires within { sample.now.at + sample.now.width ≤ 8 * length sample.now.octets.now }
-    requires short { length sample.now.octets.now ≤ 22 }
-    requires width { sample.now.width ≤ 64 }
-    requires behind { length behind.now ≤ 176 }
-    ensures answer { IsTrue result ↔ IsString judge.old.desc (take sample.now.at (bits_of_octets sample.now.octets.now)
-        ++ take sample.now.width (bits_of_octets (to_be_bytes w64 number)) ++ behind.now) }
+    requires short { length template.old.sample.octets.now ≤ 22 }
+    ensures answer { IsTrue result ↔ IsString judge.old.desc (take template.old.sample.at (bits_of_octets template.old.sample.octets.now)
+        ++ take template.old.sample.width (bits_of_octets (to_be_bytes w64 number))
+        ++ drop (template.old.sample.at + template.old.sample.width) (bits_of_octets template.old.sample.octets.now)) }
     ensures fresh { IsFresh judge.new }
     ensures desc { judge.new.desc ≡ judge.old.desc }
+    ensures sample { template.new.sample ≡ template.old.sample }
 {
-    let pieces = [
-        Piece {
-            octets: sample.octets,
-            bits: sample.at,
-        },
-        Piece {
-            octets: &number.to_be_bytes(),
-            bits: sample.width,
-        },
-        Piece {
-            octets: behind.octets(),
-            bits: behind.len(),
-        },
-    ];
+    template.put(number);
+    let octets = template.octets();
+    let pieces = [Piece {
+        octets,
+        bits: 8 * octets.len() as u32,
+    }];
     is_string(judge, &pieces)
 }
 
@@ -141,26 +119,26 @@ fn length_of(sample: &Sample, k: u32) -> u32
 fn is_block_string(
     judge: &mut Judge<'_>,
     sample: &Sample,
-    behind: &Bits,
+    template: &mut Template,
     k: u32,
     number: u64,
 ) -> bool
     requires fresh { IsFresh judge.old }
     requires some { 0 < length sample.now.octets.now }
-    requires within { sample.now.at + sample.now.width ≤ 8 * length sample.now.octets.now }
     requires short { length sample.now.octets.now ≤ 22 }
-    requires width { sample.now.width ≤ 64 }
-    requires behind { length behind.now ≤ 176 }
+    requires template { template.old.sample ≡ sample.now }
     ensures answer { IsTrue result ↔ IsString judge.old.desc (if is_cut k then take 1 (bits_of_octets sample.now.octets.now)
         else (take sample.now.at (bits_of_octets sample.now.octets.now)
-        ++ take sample.now.width (bits_of_octets (to_be_bytes w64 number)) ++ behind.now)) }
+        ++ take sample.now.width (bits_of_octets (to_be_bytes w64 number))
+        ++ drop (sample.now.at + sample.now.width) (bits_of_octets sample.now.octets.now))) }
     ensures fresh { IsFresh judge.new }
     ensures desc { judge.new.desc ≡ judge.old.desc }
+    ensures sample { template.new.sample ≡ template.old.sample }
 {
     if is_cut(k) {
         is_string_cut(judge, sample)
     } else {
-        is_string_with(judge, sample, behind, number)
+        is_string_with(judge, template, number)
     }
 }
 
@@ -170,7 +148,7 @@ pub fn soak(alloc: Global, plan: &Plan, entry: Entry, blocks: u32) -> Result<Soa
     ensures { IfOk result (IsSoaked plan.now entry blocks) }
 {
     let sample = sample_of(entry);
-    let Ok(behind) = behind_field(alloc, &sample) else {
+    let Ok(mut template) = Template::new(alloc, sample) else {
         return Err(NoMemory);
     };
     let mut soaked = Soaked {
@@ -182,7 +160,7 @@ pub fn soak(alloc: Global, plan: &Plan, entry: Entry, blocks: u32) -> Result<Soa
     let mut judge = Judge::new(plan);
     for k in 0..blocks {
         number = next(number);
-        let ok = is_block_string(&mut judge, &sample, &behind, k, number);
+        let ok = is_block_string(&mut judge, &sample, &mut template, k, number);
         soaked.add(ok, length_of(&sample, k));
     }
     Ok(soaked)

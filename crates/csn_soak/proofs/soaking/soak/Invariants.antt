@@ -10,4 +10,5 @@ invariant-loop-k l = record {
   soaked : IsSoaked l.plan l.fn.entry l.k l.soaked;
   fresh : IsFresh l.judge;
   desc : l.judge.desc ≡ l.plan;
+  template : l.template.sample ≡ l.sample;
 }

@@ -15,14 +15,14 @@ use Rattle.csn_judge.proofs.TurningTruncs.{begins_component, leaves_truncation, 
 use Rattle.csn_judge.proofs.machine.Machine.trunc.Goals.{else-ready-eq0-via-then-ready-eq0+then-at-len+else-not-is_closed, else-ready-eq0-via-then-ready-eq0+else-at-len, else-ready-eq0-via-else-ready-eq0, then-ready-eq0-2-via-then-ready-eq0-2, then-ready-eq0-2-via-else-ready-eq0-2+then-at-len-2}
 use Rattle.csn_judge.proofs.machine.Machine.trunc.Goals as goal
 
-pub push-requires : goal.push-requires
-push-requires g c = (lit< tt, items_room c.args.self.now.plan.now c.args.self.now.frames.items c.requires.stands.shows c.requires.stands.stack_is)
-
 pub returns-then-not-is_closed-clause-turns : goal.returns-then-not-is_closed-clause-turns
 returns-then-not-is_closed-clause-turns g c =
     waits_unready c.args.self.now.plan.now g.T.Track.takes c.args.track.now c.args.self.now.values.items c.args.self.now.pace c.ready-ready.new.self 1 (omega arith) c.ready-ready.ensures.same (sym c.ready-ready.ensures.count ∙ c.if-ready-eq0.true) c.ready-ready.ensures.good c.ready-ready.ensures.within
     (λ closed. let yes = c.is_closed.ensures.1 closed in let no = c.if-not-is_closed.true in absurd (cc)) c.requires.known
     (pushed c.args.self.now.frames.items (frame.Trunc c.args.i c.args.at c.args.values) c.push.ensures.items)
+
+pub push-requires : goal.push-requires
+push-requires g c = (lit< tt, items_room c.args.self.now.plan.now c.args.self.now.frames.items c.requires.stands.shows c.requires.stands.stack_is)
 
 pub returns-then-ready-eq0-2-clause-turns : goal.returns-then-ready-eq0-2-clause-turns
 returns-then-ready-eq0-2-clause-turns g c =
