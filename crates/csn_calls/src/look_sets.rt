@@ -61,6 +61,28 @@ fn last_kinds(alloc: Global, builder: &mut DescBuilder) -> Result<(), Fail> {
 /// A node, an octet position, how many keys there are, and the first one.
 type KeysCase = (u16, u8, u32, &'static [u8], bool);
 
+/// A node, whether it may have no bits, whether it is firm, where it ends from 0 on and where it is reached.
+type SetsCase = (u16, bool, bool, u8, u8);
+
+const FIRM: &[SetsCase] = &[
+    (0, false, true, 0b1111_1111, 0b0000_0001),
+    (1, false, true, 0b0000_1100, 0b0000_0001),
+    (5, false, true, 0b0000_0010, 0b0000_0100),
+    (7, false, true, 0b0000_0100, 0b0000_1100),
+    (8, false, true, 0b0000_0010, 0b0001_1100),
+    (9, false, true, 0b0000_1000, 0b0011_0000),
+    (14, false, true, 0b0000_0010, 0b1111_1111),
+    (19, false, true, 0b1111_1111, 0b1111_1111),
+];
+
+const NOT_FIRM: [SetsCase; 5] = [
+    (11, true, false, 0b0000_0001, 0b1000_0001),
+    (12, true, false, 0b1111_1111, 0b1000_0001),
+    (13, true, false, 0b1111_1111, 0b1000_0001),
+    (15, true, false, 0b0000_0111, 0b1111_1111),
+    (18, true, false, 0b0000_0001, 0b1111_1111),
+];
+
 #[test]
 fn nodes_have_their_keys(rt: HostRuntime) -> Result<(), Fail> {
     let desc = every_kind(rt.alloc())?;
@@ -105,37 +127,20 @@ fn nodes_have_their_sets(rt: HostRuntime) -> Result<(), Fail> {
     let desc = every_kind(rt.alloc())?;
     let look = Look::new(rt.alloc(), &desc)?;
     let reach = Reach::new(rt.alloc(), &desc, &look)?;
-    // whether there may be no bits, whether it is firm, where it ends from 0 on and where it is reached
-    let cases = [
-        (0, false, true, 0b1111_1111, 0b0000_0001),
-        (1, false, true, 0b0000_1100, 0b0000_0001),
-        (5, false, true, 0b0000_0010, 0b0000_0100),
-        (7, false, true, 0b0000_0100, 0b0000_1100),
-        (8, false, true, 0b0000_0010, 0b0001_1100),
-        (9, false, true, 0b0000_1000, 0b0011_0000),
-        (11, true, false, 0b0000_0001, 0b1000_0001),
-        (12, true, false, 0b1111_1111, 0b1000_0001),
-        (13, true, false, 0b1111_1111, 0b1000_0001),
-        (14, false, true, 0b0000_0010, 0b1111_1111),
-        (15, true, false, 0b0000_0111, 0b1111_1111),
-        (18, true, false, 0b0000_0001, 0b1111_1111),
-        (19, false, true, 0b1111_1111, 0b1111_1111),
-    ];
-    for (node, nullable, firm, ends, reached) in cases {
-        assert!(rt; node < desc.len());
-        assert_eq!(rt; look.nullable(node), nullable, "{node}");
-        assert_eq!(rt; look.firm(node), firm, "{node}");
-        assert_eq!(rt; marks_of(look.ends(node, 0)), ends, "{node}");
-        assert_eq!(rt; marks_of(reach.reached(node)), reached, "{node}");
+    for cases in [FIRM, NOT_FIRM.as_slice()] {
+        for &(node, nullable, firm, ends, reached) in cases {
+            assert!(rt; node < desc.len());
+            assert_eq!(rt; look.nullable(node), nullable, "{node}");
+            assert_eq!(rt; look.firm(node), firm, "{node}");
+            assert_eq!(rt; marks_of(look.ends(node, 0)), ends, "{node}");
+            assert_eq!(rt; marks_of(reach.reached(node)), reached, "{node}");
+        }
     }
     Ok(())
 }
 
 #[test]
 fn signs_follow_and_come_first(rt: HostRuntime) -> Result<(), Fail> {
-    let desc = every_kind(rt.alloc())?;
-    let look = Look::new(rt.alloc(), &desc)?;
-    let reach = Reach::new(rt.alloc(), &desc, &look)?;
     // whether 0, 1 and the end may come first at octet position 3, and may follow there
     let cases = [
         (1, (true, true, false), (true, true, false)),
@@ -144,6 +149,9 @@ fn signs_follow_and_come_first(rt: HostRuntime) -> Result<(), Fail> {
         (14, (false, true, false), (true, true, false)),
         (19, (true, false, false), (false, false, true)),
     ];
+    let desc = every_kind(rt.alloc())?;
+    let look = Look::new(rt.alloc(), &desc)?;
+    let reach = Reach::new(rt.alloc(), &desc, &look)?;
     for (node, first, follow) in cases {
         assert!(rt; node < desc.len());
         let after = reach.follow(node);

@@ -33,6 +33,13 @@ fn refusals_have_their_numbers(rt: HostRuntime) -> Result<(), Fail> {
 const DEEP: &str =
     "<M> ::= {{{{{{{{{{{{{{{{{{{{{{{{{{{{{{{{{{{{{{{{{{{{{{{{{{{{{{{{{{{{{{{{0}}}}}}}}}}}}}}}}}}}}}}}}}}}}}}}}}}}}}}}}}}}}}}}}}}}}}}}}}}}}}}}} ;";
 
+// Texts of which no rule is refused.
+const TAKEN: [&str; 3] = [
+    "<M> ::= <A : bit (3)> { 0 | 1 <M> } ;",
+    "<M> ::= <N : bit(20)> <N : bit(2)> <V : bit(val(N))> ;",
+    "<M> ::= { 0 ! <no string> } ;",
+];
+
 // What the text's rule of the name gives.
 fn resolved(
     alloc: Global,
@@ -76,22 +83,22 @@ fn rules_are_refused_at_their_places(rt: HostRuntime) -> Result<(), Fail> {
         ("<M> ::= 0 ; <M> ::= 1 ;", 2, 12),
         ("<M> ::= 1 <M> ;", 3, 10),
         ("<M> ::= <V : bit(val(N))> ;", 4, 13),
+        (DEEP, 12, 72),
         ("<M> ::= <N : bit(20)> <V : bit(val(N))> ;", 5, 27),
         ("<M> ::= bit(0) ;", 6, 8),
         ("<M> ::= bit(70000) ;", 7, 8),
         ("<M> ::= { 0 } & { 1 } ;", 8, 8),
         ("<M> ::= { 0 ! 1 } ;", 9, 14),
-        ("<M> ::= <no string> ;", 10, 8),
-        ("<M> ::= { 0 | 1 <M> } <A : bit> ;", 3, 16),
-        ("<M> ::= { 0 | 1 <M> } ;", 3, 16),
         (
             "<M> ::= <N : bit(2)> <N : bit(20)> <V : bit(val(N))> ;",
             5,
             40,
         ),
+        ("<M> ::= <no string> ;", 10, 8),
+        ("<M> ::= { 0 | 1 <M> } <A : bit> ;", 3, 16),
+        ("<M> ::= { 0 | 1 <M> } ;", 3, 16),
         ("<M> ::= { 0 bit <no string> } // ;", 10, 16),
         ("<M> ::= <spare bit> ; <spare bit> ::= 0 ;", 2, 22),
-        (DEEP, 12, 72),
     ];
     for (text, number, place) in cases {
         let refusal = refusal_of(rt.alloc(), text, "M", Reading::Received)?;
@@ -111,11 +118,7 @@ fn a_side_counts_in_its_reading(rt: HostRuntime) -> Result<(), Fail> {
 
 #[test]
 fn rules_are_taken(rt: HostRuntime) -> Result<(), Fail> {
-    for text in [
-        "<M> ::= <A : bit (3)> { 0 | 1 <M> } ;",
-        "<M> ::= <N : bit(20)> <N : bit(2)> <V : bit(val(N))> ;",
-        "<M> ::= { 0 ! <no string> } ;",
-    ] {
+    for text in TAKEN {
         let refusal = refusal_of(rt.alloc(), text, "M", Reading::Received)?;
         assert_eq!(rt; refusal, None, "{text}");
     }

@@ -1,14 +1,14 @@
 ghost use Rattle.std.specs.Prelude.{◌≡◌, ◌+◌, ◌<◌, ◌≤◌, length, slice_get, Some, IfSome};
-ghost use Rattle.csn_desc.specs.Formed.{IsDescription, is_counted};
-ghost use Rattle.csn_look.specs.NodeSets.{IsLookOf};
-ghost use Rattle.csn_look.specs.LookKeys.{IsKeysOf};
-ghost use Rattle.csn_look.specs.ReachV.{IsReachOf};
-ghost use Rattle.csn_look.specs.FollowV.{IsFollowOf};
 ghost use Rattle.csn_certify.specs.Conflicts.{Certified};
 ghost use Rattle.csn_certify.specs.Picks.{IsAsked, Picks};
 ghost use Rattle.csn_certify.specs.PickTables.{ArePickTables};
 ghost use Rattle.csn_certify.specs.Layouts.{HasLayout, AreLayouts};
 ghost use Rattle.csn_certify.specs.Plans.{HasOneTree};
+ghost use Rattle.csn_desc.specs.Formed.{IsDescription, is_counted};
+ghost use Rattle.csn_look.specs.NodeSets.{IsLookOf};
+ghost use Rattle.csn_look.specs.LookKeys.{IsKeysOf};
+ghost use Rattle.csn_look.specs.ReachV.{IsReachOf};
+ghost use Rattle.csn_look.specs.FollowV.{IsFollowOf};
 
 use crate::laws::blocks_have_one_tree;
 use crate::layouts::Layout;

@@ -177,8 +177,8 @@ module _ (d : DescV) where
       let front = along.front in
       record {
         front = front ++ t ∷ [];
-        long = length-append front (t ∷ []) ∙ ap (λ n. n + 1) along.long;
         begins = row_more front count t text rest next behind along.long along.begins first later within;
+        long = length-append front (t ∷ []) ∙ ap (λ n. n + 1) along.long;
         done = λ us v s.
             let done = along.done (t ∷ us) v s in
             let P : List TreeV → Type 0 = λ l. TurnsDone d part l round v old (count + 1) written in

@@ -4,8 +4,8 @@ ghost use Rattle.std.specs.Prelude.{◌≡◌, ◌*◌, ℕ, true, false, length
 ghost use Rattle.csn_desc.specs.declared.node.Count.{Count as CountV};
 ghost use Rattle.csn_desc.specs.declared.node.Node.TheVariants as node;
 ghost use Rattle.csn_desc.specs.TreeV.{trees_of};
-ghost use Rattle.csn_desc.specs.Values.{Values, count_of};
 ghost use Rattle.csn_desc.specs.Means.{TimesMean};
+ghost use Rattle.csn_desc.specs.Values.{Values, count_of};
 ghost use Rattle.csn_encode.specs.Following.{BeginsWith, BeginsWithRow};
 ghost use Rattle.csn_encode.specs.Writing.{Stands, StandsAtPart, StandsAtParts, Added, Adds, AddsNode, AddsParts};
 

@@ -1,13 +1,13 @@
 //! The nodes that have no parts, written along the text of their tree.
 
 ghost use Rattle.std.specs.Prelude.{◌≡◌, ℕ, ◌*◌, ◌≤◌, Some, length, IfSome};
+ghost use Rattle.csn_encode.specs.Following.{BeginsWith};
+ghost use Rattle.csn_encode.specs.Writing.{AddsNode};
 ghost use Rattle.csn_bits.specs.Octets.{most_bits};
 ghost use Rattle.csn_desc.specs.declared.node.Count.{Count as CountV};
 ghost use Rattle.csn_desc.specs.declared.node.Node.TheVariants as node;
 ghost use Rattle.csn_desc.specs.Nodes.{DescV};
 ghost use Rattle.csn_desc.specs.Values.{Values, count_of};
-ghost use Rattle.csn_encode.specs.Following.{BeginsWith};
-ghost use Rattle.csn_encode.specs.Writing.{AddsNode};
 
 use crate::draft::Draft;
 use crate::text::{behind, leaf, number};

@@ -15,6 +15,7 @@ use Rattle.csn_movetext.specs.Kept.{begun, IsFront, Extends}
 use Rattle.csn_movetext.specs.Track.{TrackV, Shown, Writes}
 use Rattle.csn_movetext.specs.Blocks.{nothing}
 use Rattle.csn_movetext.proofs.Octets.{extends_then, extends_none}
+use Rattle.csn_movetext.proofs.WholeFacts.{shown_state}
 
 -- what goes on is there
 record Goes (o : Option WritingV) (f : WritingV → Option WritingV) (u : WritingV) : Type 0 where
@@ -105,24 +106,7 @@ module _ (d : DescV) where
 -- ---- at both ends
 
 pub nothing_shown : (openings : OpeningsV) (before : List ℕ) → Shown (nothing openings before) (ready before false)
-nothing_shown openings before =
-    record {
-      before = ready before false;
-      shows = record {
-        front = [];
-        back = [];
-        cut = refl;
-        octets = refl;
-        written_ahead = refl;
-        written = sym (append-nil before);
-        count = refl;
-        number = refl;
-        front_bits = tt;
-        back_bits = tt;
-        left_is = refl;
-      };
-      with_pending = refl;
-    }
+nothing_shown openings before = shown_state openings 0 (ready before false) refl
 
 first_none : (a b : List ℕ) → [] ≡ a ++ b → a ≡ []
 first_none [] b e = refl

@@ -122,7 +122,8 @@ module _ (openings : OpeningsV) (bits : ℕ) where
         none = s.shows.number ∙ ap number_of back_none;
       }
 
-  shown_state : (w : WritingV) → bits ≡ 0 → Shown (state openings bits w) w
+  -- with no bits kept, the track shows what it has written
+  pub shown_state : (w : WritingV) → bits ≡ 0 → Shown (state openings bits w) w
   shown_state w none =
       record {
         before = ready w.text w.left;

@@ -57,9 +57,9 @@ fields_are_resolved =
             walked =
                 asked_rule fields_rule refl
                 (walk.rule_plain refl (walk_seq
-                (walk.items_next (walk_labelled (walk_field refl (count_number refl) refl) refl)
-                (walk.items_next (walk_lits refl)
-                (walk.items_next (walk_labelled (walk_field refl (count_number refl) refl) refl)
+                (walk.items_next [] (walk_labelled (walk_field refl (count_number refl) refl) refl) refl
+                (walk.items_next [] (walk_lits refl) refl
+                (walk.items_next [] (walk_labelled (walk_field refl (count_number refl) refl) refl) refl
                 (walk.items_end refl) refl) refl) refl) refl))
                 (is_accepted (λ v. rule_full fields_rules Received fields_give v) refl) refl;
             are = refl;
@@ -90,12 +90,12 @@ refusals_have_an_order =
       walked =
           asked_rule refused_rule refl
           (walk.rule_plain refl (walk_seq
-          (walk.items_next (walk_undefined refl refl refl)
-          (walk.items_next
+          (walk.items_next [] (walk_undefined refl refl refl) refl
+          (walk.items_next []
           (walk_group (walk_choice
           (walk.branches_next (walk_lits refl) (left_plain refl)
           (walk.branches_next (walk_recursive refused_rule refl refl refl) (left_plain refl)
-          (walk.branches_end refl) refl) refl) refl) refl)
+          (walk.branches_end refl) refl) refl) refl) refl) refl
           (walk.items_end refl) refl) refl) refl))
           (is_accepted refused_full refl) refl;
       are = refl;

@@ -79,6 +79,11 @@ module _ (rules : RulesV) (r : Reading) where
   abbrev pub PartLeft : ExprV → List Step → Type 0
   PartLeft x steps = Refuses (Void rules r x) NoString (start_of x) steps
 
+  -- on leaving an item or a component
+  abbrev pub ItemLeft : Bool → ExprV → List Step → Type 0
+  ItemLeft false x steps = steps ≡ []
+  ItemLeft true x steps = PartLeft x steps
+
   -- on leaving an alternative: one behind `!` is empty of strings for a sender, whatever the reading is
   pub data BranchLeft : Bool → ExprV → List Step → Type 0 where
     left_plain : {x : ExprV} {steps : List Step} → steps ≡ [] → BranchLeft false x steps
@@ -136,7 +141,7 @@ module _ (rules : RulesV) (r : Reading) where
           → Walk (inside a) x inner → steps ≡ node_at a s ++ inner → Walk a (expr s e (labelled label x)) steps
       walk_seq :
           {a : Around} {s e : ℕ} {xs : ExprsV} {steps inner : List Step}
-          → ItemsWalk (inside a) [] xs inner → steps ≡ node_at a s ++ inner → Walk a (expr s e (seq xs)) steps
+          → ItemsWalk false (inside a) [] xs inner → steps ≡ node_at a s ++ inner → Walk a (expr s e (seq xs)) steps
       walk_choice :
           {a : Around} {s e : ℕ} {bs : BranchesV} {steps inner : List Step}
           → BranchesWalk (inside a) bs inner → steps ≡ node_at a s ++ inner
@@ -152,7 +157,7 @@ module _ (rules : RulesV) (r : Reading) where
           → steps ≡ node_at a s ++ (inner ++ left) → Walk a (expr s e (power x Any)) steps
       walk_cut :
           {a : Around} {s e : ℕ} {xs : ExprsV} {steps inner : List Step}
-          → ComponentsWalk (inside a) [] xs inner → steps ≡ node_at a s ++ inner
+          → ItemsWalk true (inside a) [] xs inner → steps ≡ node_at a s ++ inner
           → Walk a (expr s e (cut xs)) steps
       -- a window whose width is the left side; one whose width is the right side; and none
       walk_window :
@@ -174,27 +179,17 @@ module _ (rules : RulesV) (r : Reading) where
           {a : Around} {s e : ℕ} {x y : ExprV} {steps left right : List Step}
           → Walk a x left → Walk a y right → steps ≡ left ++ right → Walk a (expr s e (sends x y)) steps
 
-    -- the items of a sequence, of which each sees the labelled ones before it
-    pub data ItemsWalk : Around → Frame ExprV → ExprsV → List Step → Type 0 where
+    -- the items of a sequence or the components of a truncation, of which each sees the labelled ones before it;
+    -- where they are full, none may be empty of strings
+    pub data ItemsWalk : Bool → Around → Frame ExprV → ExprsV → List Step → Type 0 where
       items_end :
-          {a : Around} {frame : Frame ExprV} {steps : List Step}
-          → steps ≡ [] → ItemsWalk a frame no_item steps
+          {full : Bool} {a : Around} {frame : Frame ExprV} {steps : List Step}
+          → steps ≡ [] → ItemsWalk full a frame no_item steps
       items_next :
-          {a : Around} {frame : Frame ExprV} {x : ExprV} {xs : ExprsV} {steps first rest : List Step}
-          → Walk (behind frame a) x first
-          → ItemsWalk a (with_labelled (label_of r x) (inner_of r x) frame) xs rest → steps ≡ first ++ rest
-          → ItemsWalk a frame (item x xs) steps
-
-    -- the components of a truncation, of which none may be empty of strings
-    pub data ComponentsWalk : Around → Frame ExprV → ExprsV → List Step → Type 0 where
-      components_end :
-          {a : Around} {frame : Frame ExprV} {steps : List Step}
-          → steps ≡ [] → ComponentsWalk a frame no_item steps
-      components_next :
-          {a : Around} {frame : Frame ExprV} {x : ExprV} {xs : ExprsV} {steps first left rest : List Step}
-          → Walk (behind frame a) x first → PartLeft x left
-          → ComponentsWalk a (with_labelled (label_of r x) (inner_of r x) frame) xs rest
-          → steps ≡ first ++ (left ++ rest) → ComponentsWalk a frame (item x xs) steps
+          {full : Bool} {a : Around} {frame : Frame ExprV} {x : ExprV} {xs : ExprsV} {steps first rest : List Step}
+          (left : List Step) → Walk (behind frame a) x first → ItemLeft full x left
+          → ItemsWalk full a (with_labelled (label_of r x) (inner_of r x) frame) xs rest
+          → steps ≡ first ++ (left ++ rest) → ItemsWalk full a frame (item x xs) steps
 
     pub data BranchesWalk : Around → BranchesV → List Step → Type 0 where
       branches_end : {a : Around} {steps : List Step} → steps ≡ [] → BranchesWalk a no_branch steps
@@ -211,7 +206,7 @@ module _ (rules : RulesV) (r : Reading) where
           → tail_of rule ≡ None → Walk a rule.body steps → RuleWalk a rule steps
       rule_tail :
           {a : Around} {rule : Rule} {steps items turn left : List Step} (tail : TailV)
-          → tail_of rule ≡ Some tail → ItemsWalk (inside a) [] tail.items items
-          → ItemsWalk (in_turn (inside a)) [] tail.items turn → TurnLeft tail left
+          → tail_of rule ≡ Some tail → ItemsWalk false (inside a) [] tail.items items
+          → ItemsWalk false (in_turn (inside a)) [] tail.items turn → TurnLeft tail left
           → steps ≡ node_at a (start_of rule.body) ++ (items ++ (turn_begun (inside a) tail.end ++ (turn ++ (left ++ node_at (inside a) tail.end.stop.at))))
           → RuleWalk a rule steps

@@ -5,16 +5,20 @@ use Rattle.csn_resolve.specs.declared.why.Why.{Why}
 use Rattle.csn_resolve.specs.declared.why.Why.TheVariants.{Undefined, DefinedTwice, Recursive, ValUnknown, ValWidth, ZeroCount, CountTooLarge, IntersectionForm, ErrorBranchForm, NoString, TooManyNodes, TooDeep, TooManyVals}
 
 abbrev pub number_of : Why → ℕ
+-- names
 number_of Undefined = 1
 number_of DefinedTwice = 2
 number_of Recursive = 3
+-- counts
 number_of ValUnknown = 4
 number_of ValWidth = 5
 number_of ZeroCount = 6
 number_of CountTooLarge = 7
+-- forms
 number_of IntersectionForm = 8
 number_of ErrorBranchForm = 9
 number_of NoString = 10
+-- limits
 number_of TooManyNodes = 11
 number_of TooDeep = 12
 number_of TooManyVals = 13

@@ -20,6 +20,9 @@ use csn_desc::{Count, Label, Node, Parts, Reading};
 use csn_grammar::{Branch, Branches, Exponent, Expr, Exprs, Form, Rule};
 use std::alloc::Global;
 
+/// Nothing but want of memory keeps nodes from being added.
+type Built = Result<(), NoMemory>;
+
 /// What the second walk through the rules, which makes the nodes, asks: the rules by their names, and which
 /// of them are empty of strings in the reading.
 #[derive(Clone, Copy)]
@@ -34,7 +37,7 @@ pub(crate) struct Builder<'a> {
 impl<'a> Builder<'a> {
     /// Adds the nodes of an expression, whose walk meets no refusal.
     #[cycle(build)]
-    pub(crate) fn build(&self, round: Round<'_>, x: &Expr, made: &mut Made) -> Result<(), NoMemory>
+    pub(crate) fn build(&self, round: Round<'_>, x: &Expr, made: &mut Made) -> Built
         requires quiet { QuietAt self.now.names.now self.now.reading round.names x.now }
         requires gives { GivesFew self.now.names.now self.now.reading x.now (length made.old) (shown_view self.now.reading round.shown.now) }
         ensures { OnOk result (Adds self.now.names.now self.now.reading x.now (shown_view self.now.reading round.entry.shown.now) made.old made.new) }
@@ -61,17 +64,17 @@ impl<'a> Builder<'a> {
                 made.set(at, Node::Seq(parts));
                 Ok(())
             }
-            Form::Choice(branches) => self.build_choice(round, place, branches, made),
+            Form::Choice(branches) => self.build_choice(place, round, branches, made),
             Form::Power(part, count) => self.build_power(round, place, part, count, made),
             Form::Cut(items) => {
-                let at = made.len();
                 let mut parts = Parts::new(self.alloc);
+                let at = made.len();
                 made.push(Node::Trunc(Parts::new(self.alloc)), place)?;
                 self.build_items(round, items, items.len(), &mut parts, made)?;
                 made.set(at, Node::Trunc(parts));
                 Ok(())
             }
-            Form::Both(left, right) => self.build_both(round, place, left, right, made),
+            Form::Both(left, right) => self.build_both(round, left, right, place, made),
             Form::Sends(left, right) => match self.reading {
                 Reading::Received => self.build(round, left, made),
                 Reading::Sent => self.build(round, right, made),
@@ -89,7 +92,7 @@ impl<'a> Builder<'a> {
         count: u32,
         parts: &mut Parts,
         made: &mut Made,
-    ) -> Result<(), NoMemory>
+    ) -> Built
         requires within { count ≤ length items.now }
         requires quiet { AllQuiet self.now.names.now self.now.reading round.names (take count items.now) }
         requires gives { ItemsGiveFew self.now.names.now self.now.reading (take count items.now) (length made.old) (shown_view self.now.reading round.shown.now) }
@@ -116,11 +119,11 @@ impl<'a> Builder<'a> {
     #[cycle(build)]
     fn build_choice(
         &self,
-        round: Round<'_>,
         place: u32,
+        round: Round<'_>,
         branches: &Branches,
         made: &mut Made,
-    ) -> Result<(), NoMemory>
+    ) -> Built
         requires quiet { BranchesQuiet self.now.names.now self.now.reading round.names branches.now }
         requires gives { (end : ℕ) × GivesFew self.now.names.now self.now.reading (expr place end (choice (branches_of branches.now))) (length made.old) (shown_view self.now.reading round.shown.now) }
         ensures { OnOk result ((end : ℕ) → Adds self.now.names.now self.now.reading (expr place end (choice (branches_of branches.now))) (shown_view self.now.reading round.entry.shown.now) made.old made.new) }
@@ -144,7 +147,7 @@ impl<'a> Builder<'a> {
         branches: &Branches,
         parts: &mut Parts,
         made: &mut Made,
-    ) -> Result<(), NoMemory>
+    ) -> Built
         requires quiet { BranchesQuiet self.now.names.now self.now.reading round.names branches.now }
         requires gives { KeptGiveFew self.now.names.now self.now.reading branches.now (length made.old) (shown_view self.now.reading round.shown.now) }
         requires room { length parts.old ≤ length made.old }
@@ -170,7 +173,7 @@ impl<'a> Builder<'a> {
         part: &Expr,
         count: &Exponent,
         made: &mut Made,
-    ) -> Result<(), NoMemory>
+    ) -> Built
         requires quiet { (end : ℕ) × QuietAt self.now.names.now self.now.reading round.names (expr place end (power part.now count.now)) }
         requires gives { (end : ℕ) × GivesFew self.now.names.now self.now.reading (expr place end (power part.now count.now)) (length made.old) (shown_view self.now.reading round.shown.now) }
         ensures { OnOk result ((end : ℕ) → Adds self.now.names.now self.now.reading (expr place end (power part.now count.now)) (shown_view self.now.reading round.entry.shown.now) made.old made.new) }
@@ -197,11 +200,11 @@ impl<'a> Builder<'a> {
     fn build_both(
         &self,
         round: Round<'_>,
-        place: u32,
         left: &Expr,
         right: &Expr,
+        place: u32,
         made: &mut Made,
-    ) -> Result<(), NoMemory>
+    ) -> Built
         requires quiet { (end : ℕ) × QuietAt self.now.names.now self.now.reading round.names (expr place end (both left.now right.now)) }
         requires gives { (end : ℕ) × GivesFew self.now.names.now self.now.reading (expr place end (both left.now right.now)) (length made.old) (shown_view self.now.reading round.shown.now) }
         ensures { OnOk result ((end : ℕ) → Adds self.now.names.now self.now.reading (expr place end (both left.now right.now)) (shown_view self.now.reading round.entry.shown.now) made.old made.new) }
@@ -218,13 +221,7 @@ impl<'a> Builder<'a> {
 
     /// Adds the nodes of the rule of a name, or of a spare part.
     #[cycle(build)]
-    fn build_name(
-        &self,
-        round: Round<'_>,
-        place: u32,
-        label: &Label,
-        made: &mut Made,
-    ) -> Result<(), NoMemory>
+    fn build_name(&self, round: Round<'_>, place: u32, label: &Label, made: &mut Made) -> Built
         requires quiet { (end : ℕ) × QuietAt self.now.names.now self.now.reading round.names (expr place end (named label.now)) }
         requires gives { (end : ℕ) × GivesFew self.now.names.now self.now.reading (expr place end (named label.now)) (length made.old) (shown_view self.now.reading round.shown.now) }
         ensures { OnOk result ((end : ℕ) → Adds self.now.names.now self.now.reading (expr place end (named label.now)) (shown_view self.now.reading round.entry.shown.now) made.old made.new) }
@@ -243,12 +240,7 @@ impl<'a> Builder<'a> {
 
     /// Adds the nodes of what a rule says.
     #[cycle(build)]
-    pub(crate) fn build_rule(
-        &self,
-        round: Round<'_>,
-        rule: &Rule,
-        made: &mut Made,
-    ) -> Result<(), NoMemory>
+    pub(crate) fn build_rule(&self, round: Round<'_>, rule: &Rule, made: &mut Made) -> Built
         requires quiet { RuleQuiet self.now.names.now self.now.reading round.names rule.now }
         requires gives { RuleGivesFew self.now.names.now self.now.reading rule.now (length made.old) (shown_view self.now.reading round.shown.now) }
         ensures { OnOk result (AddsRule self.now.names.now self.now.reading rule.now (shown_view self.now.reading round.entry.shown.now) made.old made.new) }
@@ -262,13 +254,7 @@ impl<'a> Builder<'a> {
     /// Adds the nodes of a rule in tail form: a sequence of its items, of what is repeated of it, and of
     /// the word that stops it.
     #[cycle(build)]
-    fn build_tail(
-        &self,
-        round: Round<'_>,
-        place: u32,
-        tail: Tail<'_>,
-        made: &mut Made,
-    ) -> Result<(), NoMemory>
+    fn build_tail(&self, round: Round<'_>, place: u32, tail: Tail<'_>, made: &mut Made) -> Built
         requires within { tail.count ≤ length tail.items.now }
         requires quiet { AllQuiet self.now.names.now self.now.reading round.names (take tail.count tail.items.now) }
         requires gives { TailGivesFew self.now.names.now self.now.reading place (tail_view tail) (length made.old) (shown_view self.now.reading round.shown.now) }
@@ -289,7 +275,7 @@ impl<'a> Builder<'a> {
 
     /// Adds the nodes of what is repeated of a rule in tail form: its word and its items again.
     #[cycle(build)]
-    fn build_turn(&self, round: Round<'_>, tail: Tail<'_>, made: &mut Made) -> Result<(), NoMemory>
+    fn build_turn(&self, round: Round<'_>, tail: Tail<'_>, made: &mut Made) -> Built
         requires within { tail.count ≤ length tail.items.now }
         requires quiet { AllQuiet self.now.names.now self.now.reading round.names (take tail.count tail.items.now) }
         requires gives { TurnGivesFew self.now.names.now self.now.reading (tail_view tail) (length made.old) (shown_view self.now.reading round.shown.now) }

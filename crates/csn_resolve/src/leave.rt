@@ -1,7 +1,7 @@
 ghost use Rattle.std.specs.Prelude.{◌≡◌, ◌≤◌, List, length};
 ghost use Rattle.csn_resolve.specs.Steps.{Step};
 ghost use Rattle.csn_resolve.specs.Counts.{CountSteps, is_zero, is_too_large, size_steps};
-ghost use Rattle.csn_resolve.specs.Walk.{PartLeft, BranchLeft, TurnLeft};
+ghost use Rattle.csn_resolve.specs.Walk.{PartLeft, ItemLeft, BranchLeft, TurnLeft};
 ghost use Rattle.csn_resolve.specs.Going.{Checks, LeafGoes};
 ghost use Rattle.csn_resolve.specs.Views.{count_view, seen_view, tail_view};
 
@@ -21,6 +21,16 @@ impl<'a> Walker<'a> {
     {
         if self.void.pass(part) {
             return Err(refusal(Why::NoString, part.span.start));
+        }
+        Ok(())
+    }
+
+    /// An item or a component is left.
+    pub(crate) fn leave_item(&self, full: bool, item: &Expr) -> Result<(), ResolveFault>
+        ensures { (steps : List Step) → ItemLeft self.now.names.now self.now.reading full item.now steps → Checks steps result }
+    {
+        if full {
+            return self.leave_part(item);
         }
         Ok(())
     }

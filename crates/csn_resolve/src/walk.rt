@@ -5,7 +5,7 @@ ghost use Rattle.csn_grammar.specs.ExprCode.{expr_size, list_size, branch_list_s
 ghost use Rattle.csn_grammar.specs.TailForm.{tail_of};
 ghost use Rattle.csn_resolve.specs.Gives.{start_of};
 ghost use Rattle.csn_resolve.specs.Steps.{Step};
-ghost use Rattle.csn_resolve.specs.Walk.{Walk, ItemsWalk, ComponentsWalk, BranchesWalk, RuleWalk};
+ghost use Rattle.csn_resolve.specs.Walk.{Walk, ItemsWalk, BranchesWalk, RuleWalk};
 ghost use Rattle.csn_resolve.specs.Going.{Goes};
 ghost use Rattle.csn_resolve.specs.Views.{around_view, tail_view};
 ghost use Rattle.csn_resolve.specs.Depths.{deepest};
@@ -22,15 +22,13 @@ use crate::why::Why;
 use csn_desc::Label;
 use csn_grammar::{Branches, Exponent, Expr, Exprs, Form, Rule};
 
+/// How many nodes are begun behind what is walked through.
+type Walked = Result<Begun, ResolveFault>;
+
 impl<'a> Walker<'a> {
     /// Walks through an expression up to its first refusal: how many nodes are begun behind it.
     #[cycle(walk)]
-    pub(crate) fn walk(
-        &self,
-        around: Around<'_>,
-        x: &Expr,
-        begun: Begun,
-    ) -> Result<Begun, ResolveFault>
+    pub(crate) fn walk(&self, around: Around<'_>, x: &Expr, begun: Begun) -> Walked
         requires { expr_size x.now ≤ deepest self.now.names.now }
         ensures { (steps : List Step) → Walk self.now.names.now self.now.reading (around_view self.now.reading around.entry) x.now steps
             → Goes begun.nodes steps result }
@@ -52,7 +50,7 @@ impl<'a> Walker<'a> {
             }
             Form::Seq(items) => {
                 let begun = begin(around, place, begun)?;
-                self.walk_items(inside(around), items, items.len(), begun)
+                self.walk_items(inside(around), items, items.len(), false, begun)
             }
             Form::Choice(branches) => {
                 let begun = begin(around, place, begun)?;
@@ -61,9 +59,9 @@ impl<'a> Walker<'a> {
             Form::Power(part, count) => self.walk_power(around, place, part, count, begun),
             Form::Cut(items) => {
                 let begun = begin(around, place, begun)?;
-                self.walk_components(inside(around), items, begun)
+                self.walk_items(inside(around), items, items.len(), true, begun)
             }
-            Form::Both(left, right) => self.walk_both(around, place, left, right, begun),
+            Form::Both(left, right) => self.walk_both(around, left, right, place, begun),
             Form::Sends(left, right) => {
                 let begun = self.walk(around, left, begun)?;
                 self.walk(around, right, begun)
@@ -71,60 +69,9 @@ impl<'a> Walker<'a> {
         }
     }
 
-    /// Walks through the first `count` items of a sequence, of which each sees those before it.
-    #[cycle(walk)]
-    fn walk_items(
-        &self,
-        around: Around<'_>,
-        items: &Exprs,
-        count: u32,
-        begun: Begun,
-    ) -> Result<Begun, ResolveFault>
-        requires within { count ≤ length items.now }
-        requires part { list_size items.now ≤ deepest self.now.names.now }
-        ensures { (steps : List Step)
-            → ItemsWalk self.now.names.now self.now.reading (around_view self.now.reading around.entry) [] (exprs_of (take count items.now)) steps
-            → Goes begun.nodes steps result }
-    {
-        let mut begun = begun;
-        for at in 0..count {
-            let seen = Seen::Behind(items, at, around.seen);
-            begun = self.walk(behind(around, &seen), items.get(at), begun)?;
-        }
-        Ok(begun)
-    }
-
-    /// Walks through the components of a truncation, of which none may be empty of strings.
-    #[cycle(walk)]
-    fn walk_components(
-        &self,
-        around: Around<'_>,
-        items: &Exprs,
-        begun: Begun,
-    ) -> Result<Begun, ResolveFault>
-        requires { list_size items.now ≤ deepest self.now.names.now }
-        ensures { (steps : List Step)
-            → ComponentsWalk self.now.names.now self.now.reading (around_view self.now.reading around.entry) [] (exprs_of items.now) steps
-            → Goes begun.nodes steps result }
-    {
-        let mut begun = begun;
-        for at in 0..items.len() {
-            let item = items.get(at);
-            let seen = Seen::Behind(items, at, around.seen);
-            begun = self.walk(behind(around, &seen), item, begun)?;
-            self.leave_part(item)?;
-        }
-        Ok(begun)
-    }
-
     /// Walks through alternatives.
     #[cycle(walk)]
-    fn walk_branches(
-        &self,
-        around: Around<'_>,
-        branches: &Branches,
-        begun: Begun,
-    ) -> Result<Begun, ResolveFault>
+    fn walk_branches(&self, around: Around<'_>, branches: &Branches, begun: Begun) -> Walked
         requires { branch_list_size branches.now ≤ deepest self.now.names.now }
         ensures { (steps : List Step)
             → BranchesWalk self.now.names.now self.now.reading (around_view self.now.reading around.entry) (branches_of branches.now) steps
@@ -148,7 +95,7 @@ impl<'a> Walker<'a> {
         part: &Expr,
         count: &Exponent,
         begun: Begun,
-    ) -> Result<Begun, ResolveFault>
+    ) -> Walked
         requires { expr_size part.now + 1 ≤ deepest self.now.names.now }
         ensures { (end : ℕ) (steps : List Step)
             → Walk self.now.names.now self.now.reading (around_view self.now.reading around.entry) (expr place end (power part.now count.now)) steps
@@ -168,11 +115,11 @@ impl<'a> Walker<'a> {
     fn walk_both(
         &self,
         around: Around<'_>,
-        place: u32,
         left: &Expr,
         right: &Expr,
+        place: u32,
         begun: Begun,
-    ) -> Result<Begun, ResolveFault>
+    ) -> Walked
         requires { max (expr_size left.now) (expr_size right.now) + 1 ≤ deepest self.now.names.now }
         ensures { (end : ℕ) (steps : List Step)
             → Walk self.now.names.now self.now.reading (around_view self.now.reading around.entry) (expr place end (both left.now right.now)) steps
@@ -193,13 +140,7 @@ impl<'a> Walker<'a> {
 
     /// Walks through the rule of a name.
     #[cycle(walk)]
-    fn walk_name(
-        &self,
-        around: Around<'_>,
-        place: u32,
-        label: &Label,
-        begun: Begun,
-    ) -> Result<Begun, ResolveFault>
+    fn walk_name(&self, around: Around<'_>, place: u32, label: &Label, begun: Begun) -> Walked
         ensures { (end : ℕ) (steps : List Step)
             → Walk self.now.names.now self.now.reading (around_view self.now.reading around.entry) (expr place end (named label.now)) steps
             → Goes begun.nodes steps result }
@@ -225,12 +166,7 @@ impl<'a> Walker<'a> {
 
     /// Walks through what a rule says.
     #[cycle(walk)]
-    pub(crate) fn walk_rule(
-        &self,
-        around: Around<'_>,
-        rule: &Rule,
-        begun: Begun,
-    ) -> Result<Begun, ResolveFault>
+    pub(crate) fn walk_rule(&self, around: Around<'_>, rule: &Rule, begun: Begun) -> Walked
         requires { expr_size rule.now.body ≤ deepest self.now.names.now }
         ensures { (steps : List Step) → RuleWalk self.now.names.now self.now.reading (around_view self.now.reading around.entry) rule.now steps
             → Goes begun.nodes steps result }
@@ -241,16 +177,37 @@ impl<'a> Walker<'a> {
         }
     }
 
+    /// Walks through the first `count` items of a sequence, of which each sees those before it; or components of
+    /// a truncation, which are to be `full`: none may be empty of strings.
+    #[cycle(walk)]
+    fn walk_items(
+        &self,
+        around: Around<'_>,
+        items: &Exprs,
+        count: u32,
+        full: bool,
+        begun: Begun,
+    ) -> Walked
+        requires within { count ≤ length items.now }
+        requires part { list_size items.now ≤ deepest self.now.names.now }
+        ensures { (steps : List Step)
+            → ItemsWalk self.now.names.now self.now.reading full (around_view self.now.reading around.entry) [] (exprs_of (take count items.now)) steps
+            → Goes begun.nodes steps result }
+    {
+        let mut begun = begun;
+        for at in 0..count {
+            let item = items.get(at);
+            let seen = Seen::Behind(items, at, around.seen);
+            begun = self.walk(behind(around, &seen), item, begun)?;
+            self.leave_item(full, item)?;
+        }
+        Ok(begun)
+    }
+
     /// Walks through a rule in tail form: its items, then braces round its word and its items that are
     /// repeated, then the word that stops it.
     #[cycle(walk)]
-    fn walk_tail(
-        &self,
-        around: Around<'_>,
-        place: u32,
-        tail: Tail<'_>,
-        begun: Begun,
-    ) -> Result<Begun, ResolveFault>
+    fn walk_tail(&self, around: Around<'_>, place: u32, tail: Tail<'_>, begun: Begun) -> Walked
         requires within { tail.count ≤ length tail.items.now }
         requires part { list_size tail.items.now + 1 ≤ deepest self.now.names.now }
         ensures { (rule : RuleV) (steps : List Step)
@@ -260,9 +217,9 @@ impl<'a> Walker<'a> {
     {
         let begun = begin(around, place, begun)?;
         let inner = inside(around);
-        let begun = self.walk_items(inner, tail.items, tail.count, begun)?;
+        let begun = self.walk_items(inner, tail.items, tail.count, false, begun)?;
         let turn = begin_turn(inner, tail.end, begun)?;
-        let begun = self.walk_items(turn.around, tail.items, tail.count, turn.begun)?;
+        let begun = self.walk_items(turn.around, tail.items, tail.count, false, turn.begun)?;
         self.leave_turn(tail)?;
         begin(inner, tail.end.stop.at, begun)
     }

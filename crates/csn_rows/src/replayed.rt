@@ -103,12 +103,17 @@ bits 17
     Ok(())
 }
 
+/// A watcher of bits alone, up to so many.
+fn of_bits(alloc: Global, most: u64) -> Result<Vec<Box<dyn Watcher>>, AllocError> {
+    let mut watchers: Vec<Box<dyn Watcher>> = Vec::new(alloc);
+    watchers.push(Box::new(alloc, BitsWatcher::new(most))?)?;
+    Ok(watchers)
+}
+
 #[test]
 fn a_watcher_that_is_done_reports_no_more(rt: HostRuntime) -> Result<(), Fail> {
     let alloc = rt.alloc();
-    let mut watchers: Vec<Box<dyn Watcher>> = Vec::new(alloc);
-    watchers.push(Box::new(alloc, BitsWatcher::new(9))?)?;
-    let ran = replayed(alloc, b"si1 2B\nsi1 83\n", watchers)?;
+    let ran = replayed(alloc, b"si1 2B\nsi1 83\n", of_bits(alloc, 9)?)?;
     let text = b"ok [#0:. <BAND_INDICATOR>=#0:. 6'43]
 ok [#1:[. <NCH Position>=5'0] <BAND_INDICATOR>=#0:. 1'1]
 bits 16
@@ -144,8 +149,7 @@ fn no_other_command_shows_blocks_to_watchers(rt: HostRuntime) -> Result<(), Fail
         (["segments", "received"], "bad 1 0\n", 1),
         (["replay", "both"], "", 2),
     ] {
-        let mut watchers: Vec<Box<dyn Watcher>> = Vec::new(alloc);
-        watchers.push(Box::new(alloc, BitsWatcher::new(u64::MAX))?)?;
+        let watchers = of_bits(alloc, u64::MAX)?;
         let words = words_of(alloc, &words)?;
         let input = Vec::from_slice(alloc, b"si1 2B\n")?;
         let ran = run_watched(alloc, &words, BTreeMap::new(alloc), input, watchers)?;

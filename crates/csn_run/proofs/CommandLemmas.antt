@@ -33,7 +33,7 @@ one_file row (names_certificate file name reading certificate row' is) = absurd 
 pub two_files : {words : List (List ℕ)} {before after name : List ℕ} {reading : Reading} {files : List (List ℕ)} → IsCompat words before after name reading → NamesFiles words files → files ≡ before ∷ after ∷ []
 two_files row (names_one file name reading row' is) = absurd (not_five (over row') row.words_are)
 two_files {before = before} {after} row (names_pair before' after' name reading row' is) =
-    let same = one_pair row row' in is ∙ ap (λ b. b ∷ after' ∷ []) (sym same.before_is) ∙ ap (λ a. before ∷ a ∷ []) (sym same.after_is)
+    let same = one_pair row row' in is ∙ ap (λ b. b ∷ after' ∷ []) (sym same.file_is) ∙ ap (λ a. before ∷ a ∷ []) (sym same.word_is)
 two_files row (names_certificate file name reading certificate row' is) = absurd (not_compat row row')
 
 -- those of `verify` name the description and the certificate
@@ -41,7 +41,7 @@ pub verify_files : {words : List (List ℕ)} {file name certificate : List ℕ} 
 verify_files row (names_one file name reading row' is) = absurd (not_five (over row') row.words_are)
 verify_files row (names_pair before after name reading row' is) = absurd (not_compat row' row)
 verify_files {file = file} {certificate = certificate} row (names_certificate file' name' reading' certificate' row' is) =
-    let same = one_verify row row' in is ∙ ap (λ f. f ∷ certificate' ∷ []) (sym same.file_is) ∙ ap (λ c. file ∷ c ∷ []) (sym same.certificate_is)
+    let same = one_verify row row' in is ∙ ap (λ f. f ∷ certificate' ∷ []) (sym same.file_is) ∙ ap (λ c. file ∷ c ∷ []) (sym same.word_is)
 
 -- words that name files are four or more, and are a row
 names_long : {words : List (List ℕ)} {files : List (List ℕ)} → NamesFiles words files → 4 ≤ length words

@@ -52,8 +52,8 @@ module _ (known : Known) (words : List (List ℕ)) (files : List ℕ → Option 
   pair_stays {name = name} {reading = reading} row (compared was now line rules others d x held has few small is js (compares_ok takes text e) all) =
       λ before' after' name' was' now' reading' rules' others' row' held' has' has_rules has_others.
       let same = one_pair row row' in
-      let old : was ≡ was' = one_held held (ap files same.before_is ∙ held') in
-      let new : now ≡ now' = one_held has (ap files same.after_is ∙ has') in
+      let old : was ≡ was' = one_held held (ap files same.file_is ∙ held') in
+      let new : now ≡ now' = one_held has (ap files same.word_is ∙ has') in
       let P : List ℕ → Type 0 = λ t. IsCompiled t name reading rules d in
       let Q : List ℕ → Type 0 = λ t. IsCompiled t name reading others x in
       let here = subst P old is in

@@ -1,7 +1,7 @@
 -- A run has one result.
 use Rattle.std.proofs.Common.{◌≡◌, ℕ, ◌≤◌, inl, inr, List, [], ◌∷◌, ◌++◌, length, map, codes, Option, Some, refl, sym, ◌∙◌, ap, subst, arith}
 use Rattle.std.specs.List.{AllByRecursion}
-use Rattle.std.specs.Prelude.{slice_index}
+use Rattle.std.specs.Prelude.{if◌then◌else◌, nat_eq, slice_index}
 use Rattle.csn_catalogue.specs.declared.entry.Entry.{Entry}
 use Rattle.csn_catalogue.specs.declared.entry.Entry.TheVariants.{Downlink}
 use Rattle.csn_catalogue.specs.Entries.{entry_root, all_entries}
@@ -44,21 +44,30 @@ one_reading_word Received Sent e = cc
 one_reading_word Sent Received e = cc
 one_reading_word Sent Sent e = refl
 
--- words name one command, one file, one rule and one reading
-pub record OneRule (command other file file' name name' : List ℕ) (reading reading' : Reading) : Type 0 where
-  pub command_is : command ≡ other
+-- two readings of words name one file, one rule, one reading and one more word: the command or a further file
+pub record OneRow (word word' file file' name name' : List ℕ) (reading reading' : Reading) : Type 0 where
+  pub word_is : word ≡ word'
   pub file_is : file ≡ file'
   pub name_is : name ≡ name'
   pub reading_is : reading ≡ reading'
 
+-- what holds of one reading holds of the other
+pub same_row :
+    {word word' file file' name name' : List ℕ} {reading reading' : Reading} → OneRow word word' file file' name name' reading reading'
+    → (P : (word file name : List ℕ) → Reading → Type 0) → P word file name reading → P word' file' name' reading'
+same_row {word} {word'} {file} {file'} {name} {name'} {reading} {reading'} same P h =
+    let here = subst (λ f. P word f name reading) same.file_is h in
+    let named = subst (λ n. P word file' n reading) same.name_is here in
+    subst (λ w. P w file' name' reading') same.word_is (subst (P word file' name') same.reading_is named)
+
 pub one_rule :
     {words : List (List ℕ)} {command other file file' name name' : List ℕ} {reading reading' : Reading}
     → NamesRule command words file name reading → NamesRule other words file' name' reading'
-    → OneRule command other file file' name name' reading reading'
+    → OneRow command other file file' name name' reading reading'
 one_rule {words} {command} {other} {file} {file'} {name} {name'} {reading} {reading'} row row' =
     let all : command ∷ file ∷ name ∷ word_of reading ∷ [] ≡ other ∷ file' ∷ name' ∷ word_of reading' ∷ [] = sym row.words_are ∙ row'.words_are in
     let read : word_of reading ≡ word_of reading' = cc in
-    record { command_is = cc; file_is = cc; name_is = cc; reading_is = one_reading_word reading reading' read }
+    record { word_is = cc; file_is = cc; name_is = cc; reading_is = one_reading_word reading reading' read }
 
 -- a command over a rule
 pub record OverRule (words : List (List ℕ)) (file name : List ℕ) (reading : Reading) : Type 0 where
@@ -73,23 +82,18 @@ over (inr answer) = record { command = command_word answer.0; row = answer.1 }
 pub answers : {words : List (List ℕ)} {file name : List ℕ} {reading : Reading} (command : RuleCommand) → IsAnswer command words file name reading → OverRule words file name reading
 answers command row = record { command = command_word command; row = row }
 
+-- the command whose word begins with a letter
+abbrev command_of : ℕ → RuleCommand
+command_of letter = if nat_eq letter 115 then Show Text else if nat_eq letter 106 then Show Json else if nat_eq letter 119 then Write Text else Write Json
+
+by_letter : (command : RuleCommand) → command_of (slice_index (command_word command) 0) ≡ command
+by_letter (Show Text) = refl
+by_letter (Show Json) = refl
+by_letter (Write Text) = refl
+by_letter (Write Json) = refl
+
 one_command : (command other : RuleCommand) → command_word command ≡ command_word other → command ≡ other
-one_command (Show Text) (Show Text) e = refl
-one_command (Show Text) (Show Json) e = absurd (let first : 115 ≡ 106 = ap (λ w. slice_index w 0) e in omega (arith, first))
-one_command (Show Text) (Write Text) e = absurd (let first : 115 ≡ 119 = ap (λ w. slice_index w 0) e in omega (arith, first))
-one_command (Show Text) (Write Json) e = absurd (let first : 115 ≡ 117 = ap (λ w. slice_index w 0) e in omega (arith, first))
-one_command (Show Json) (Show Text) e = absurd (let first : 106 ≡ 115 = ap (λ w. slice_index w 0) e in omega (arith, first))
-one_command (Show Json) (Show Json) e = refl
-one_command (Show Json) (Write Text) e = absurd (let first : 106 ≡ 119 = ap (λ w. slice_index w 0) e in omega (arith, first))
-one_command (Show Json) (Write Json) e = absurd (let first : 106 ≡ 117 = ap (λ w. slice_index w 0) e in omega (arith, first))
-one_command (Write Text) (Show Text) e = absurd (let first : 119 ≡ 115 = ap (λ w. slice_index w 0) e in omega (arith, first))
-one_command (Write Text) (Show Json) e = absurd (let first : 119 ≡ 106 = ap (λ w. slice_index w 0) e in omega (arith, first))
-one_command (Write Text) (Write Text) e = refl
-one_command (Write Text) (Write Json) e = absurd (let first : 119 ≡ 117 = ap (λ w. slice_index w 0) e in omega (arith, first))
-one_command (Write Json) (Show Text) e = absurd (let first : 117 ≡ 115 = ap (λ w. slice_index w 0) e in omega (arith, first))
-one_command (Write Json) (Show Json) e = absurd (let first : 117 ≡ 106 = ap (λ w. slice_index w 0) e in omega (arith, first))
-one_command (Write Json) (Write Text) e = absurd (let first : 117 ≡ 119 = ap (λ w. slice_index w 0) e in omega (arith, first))
-one_command (Write Json) (Write Json) e = refl
+one_command command other e = sym (by_letter command) ∙ ap (λ w. command_of (slice_index w 0)) e ∙ by_letter other
 
 one_report : (report other : RuleReport) → report_word report ≡ report_word other → report ≡ other
 one_report Check Check e = refl
@@ -108,7 +112,7 @@ no_report (Write Text) first = omega (arith, first)
 no_report (Write Json) first = omega (arith, first)
 
 pub not_both : {words : List (List ℕ)} {file name file' name' : List ℕ} {reading reading' : Reading} (report : RuleReport) (command : RuleCommand) → IsReport report words file name reading → IsAnswer command words file' name' reading' → ⊥
-not_both report command row row' = no_report command (ap (λ w. slice_index w 0) (sym (one_rule row row').command_is) ∙ reports_begin report)
+not_both report command row row' = no_report command (ap (λ w. slice_index w 0) (sym (one_rule row row').word_is) ∙ reports_begin report)
 
 pub not_migrate : {words : List (List ℕ)} {file name : List ℕ} {reading : Reading} → OverRule words file name reading → IsMigrate words → ⊥
 not_migrate {words} {file} {name} {reading} rule is =
@@ -141,36 +145,24 @@ migrate_alone {words} {first} {second} row is =
     let all : codes "migrate" ∷ [] ≡ first ∷ second ∷ [] = sym row ∙ is in cc
 
 -- words of `compat` name one pair of files, one rule and one reading
-pub record OnePair (before before' after after' name name' : List ℕ) (reading reading' : Reading) : Type 0 where
-  pub before_is : before ≡ before'
-  pub after_is : after ≡ after'
-  pub name_is : name ≡ name'
-  pub reading_is : reading ≡ reading'
-
 pub one_pair :
     {words : List (List ℕ)} {before before' after after' name name' : List ℕ} {reading reading' : Reading}
     → IsCompat words before after name reading → IsCompat words before' after' name' reading'
-    → OnePair before before' after after' name name' reading reading'
+    → OneRow after after' before before' name name' reading reading'
 one_pair {words} {before} {before'} {after} {after'} {name} {name'} {reading} {reading'} row row' =
     let all : codes "compat" ∷ before ∷ after ∷ name ∷ word_of reading ∷ [] ≡ codes "compat" ∷ before' ∷ after' ∷ name' ∷ word_of reading' ∷ [] = sym row.words_are ∙ row'.words_are in
     let read : word_of reading ≡ word_of reading' = cc in
-    record { before_is = cc; after_is = cc; name_is = cc; reading_is = one_reading_word reading reading' read }
+    record { word_is = cc; file_is = cc; name_is = cc; reading_is = one_reading_word reading reading' read }
 
 -- words of `verify` name one file, one rule, one reading and one certificate
-pub record OneVerify (file file' name name' : List ℕ) (reading reading' : Reading) (certificate certificate' : List ℕ) : Type 0 where
-  pub file_is : file ≡ file'
-  pub name_is : name ≡ name'
-  pub reading_is : reading ≡ reading'
-  pub certificate_is : certificate ≡ certificate'
-
 pub one_verify :
     {words : List (List ℕ)} {file file' name name' certificate certificate' : List ℕ} {reading reading' : Reading}
     → IsVerify words file name reading certificate → IsVerify words file' name' reading' certificate'
-    → OneVerify file file' name name' reading reading' certificate certificate'
+    → OneRow certificate certificate' file file' name name' reading reading'
 one_verify {words} {file} {file'} {name} {name'} {certificate} {certificate'} {reading} {reading'} row row' =
     let all : codes "verify" ∷ file ∷ name ∷ word_of reading ∷ certificate ∷ [] ≡ codes "verify" ∷ file' ∷ name' ∷ word_of reading' ∷ certificate' ∷ [] = sym row.words_are ∙ row'.words_are in
     let read : word_of reading ≡ word_of reading' = cc in
-    record { file_is = cc; name_is = cc; reading_is = one_reading_word reading reading' read; certificate_is = cc }
+    record { file_is = cc; name_is = cc; reading_is = one_reading_word reading reading' read; word_is = cc }
 
 -- they are none of `compat`
 pub not_compat : {words : List (List ℕ)} {before after name file name' certificate : List ℕ} {reading reading' : Reading} → IsCompat words before after name reading → IsVerify words file name' reading' certificate → ⊥
@@ -264,8 +256,8 @@ one_list_compiles words files all others (of_catalogue entries reading row is) (
 one_list_compiles words files all others (of_pair before after name' was now reading' row' held' has' fits fits' is') (of_catalogue entries reading row is) = absurd (omega (arith, entries_short row, ap length row'.words_are))
 one_list_compiles words files all others (of_pair before after name was now reading row held has few small is) (of_pair before' after' name' was' now' reading' row' held' has' few' small' is') =
     let same = one_pair row row' in
-    let old = same_rule (one_held held (ap files same.before_is ∙ held')) same.name_is same.reading_is in
-    let new = same_rule (one_held has (ap files same.after_is ∙ has')) same.name_is same.reading_is in
+    let old = same_rule (one_held held (ap files same.file_is ∙ held')) same.name_is same.reading_is in
+    let new = same_rule (one_held has (ap files same.word_is ∙ has')) same.name_is same.reading_is in
     is ∙ ap (λ r. r ∷ rule_of now name reading ∷ []) old ∙ ap (λ r. rule_of was' name' reading' ∷ r ∷ []) new ∙ sym is'
 
 -- where all rules have a job, each has one
@@ -443,7 +435,7 @@ module _ (known : KnownOfTexts) where
     both_fit row (of_catalogue entries reading' row' is) = absurd (omega (arith, entries_short row', ap length row.words_are))
     both_fit row (of_pair before' after' name' was now reading' row' held has few small is) =
         let same = one_pair row row' in
-        record { was = was; now = now; held = ap files same.before_is ∙ held; has = ap files same.after_is ∙ has; few = few; small = small }
+        record { was = was; now = now; held = ap files same.file_is ∙ held; has = ap files same.word_is ∙ has; few = few; small = small }
 
     -- a pair of files that is told has no rule without a job
     pair_or_none :
@@ -480,17 +472,6 @@ module _ (known : KnownOfTexts) where
         let S : DescV → Type 0 = λ y. Compares d' y line e in
         let same = one_compares (subst S new (subst R old compares)) compares' in
         (is ∙ ap (λ l. l ++ 10 ∷ []) same.0 ∙ sym is', same.1)
-
-    one_two :
-        {before before' after after' name name' : List ℕ} {reading reading' : Reading} (w v : List ℕ) (e f : Ended) → IsCompat words before after name reading → IsCompat words before' after' name' reading'
-        → EndsPair files before after name reading w e → EndsPair files before' after' name' reading' v f → Written w e v f
-    one_two {before} {before'} {after} {after'} {name} {name'} {reading} {reading'} w v e f row row' ends ends' =
-        let same = one_pair row row' in
-        let P : List ℕ → Type 0 = λ b. EndsPair files b after name reading w e in
-        let Q : List ℕ → Type 0 = λ a. EndsPair files before' a name reading w e in
-        let R : List ℕ → Type 0 = λ n. EndsPair files before' after' n reading w e in
-        let S : Reading → Type 0 = λ r. EndsPair files before' after' name' r w e in
-        one_pair_ends w v e f (subst S same.reading_is (subst R same.name_is (subst Q same.after_is (subst P same.before_is ends)))) ends'
 
     -- ---- certificates
 
@@ -551,17 +532,6 @@ module _ (known : KnownOfTexts) where
         let same = one_verifies (subst Q (described_once is is') (subst P (one_held held held') told)) told' in
         (all ∙ ap (λ l. l ++ 10 ∷ []) same.0 ∙ sym all', same.1)
 
-    one_certificate_ends :
-        {file file' name name' certificate certificate' : List ℕ} {reading reading' : Reading} (w v : List ℕ) (e f : Ended) → IsVerify words file name reading certificate → IsVerify words file' name' reading' certificate'
-        → EndsVerify files file name reading certificate w e → EndsVerify files file' name' reading' certificate' v f → Written w e v f
-    one_certificate_ends {file} {file'} {name} {name'} {certificate} {certificate'} {reading} {reading'} w v e f row row' ends ends' =
-        let same = one_verify row row' in
-        let P : List ℕ → Type 0 = λ b. EndsVerify files b name reading certificate w e in
-        let Q : List ℕ → Type 0 = λ n. EndsVerify files file' n reading certificate w e in
-        let R : Reading → Type 0 = λ r. EndsVerify files file' name' r certificate w e in
-        let S : List ℕ → Type 0 = λ c. EndsVerify files file' name' reading' c w e in
-        one_verify_ends w v e f (subst S same.certificate_is (subst R same.reading_is (subst Q same.name_is (subst P same.file_is ends)))) ends'
-
     one_before : (w v : List ℕ) (e f : Ended) → EndsBefore words files w e → EndsBefore words files v f → Written w e v f
     one_before w v e f (no_job front rule behind compiles has none) (no_job front' rule' behind' compiles' has' none') =
         let same = one_first front front' rule rule' behind behind' w v e f (one_list_compiles words files _ _ compiles compiles') has has' none none' in
@@ -574,7 +544,7 @@ module _ (known : KnownOfTexts) where
         let same = first_of (one_list_compiles words files _ _ (checked_compiles (inl (report, row)) held fits compiled).0 (checked_compiles (inl (report', row')) held' fits' compiled').0) in
         let P : RuleOf → Type 0 = λ r. IsCompiled r.text r.name r.reading rules d in
         let one = one_compiled (subst P same compiled) compiled' in
-        let kind = one_report report report' (one_rule row row').command_is in
+        let kind = one_report report report' (one_rule row row').word_is in
         let Q : RuleReport → Type 0 = λ r. Reports r d w in
         let R : DescV → Type 0 = λ x. Reports report' x w in
         (one_told report' compiled' (subst R one (subst Q kind is)) is', end ∙ sym end')
@@ -601,7 +571,8 @@ module _ (known : KnownOfTexts) where
     one_before w v e f (of_two before' after' name' reading' row' ends) (reported report file name text reading rules d row held fits compiled is end) = absurd (not_five (over (inl (report, row))) row'.words_are)
     one_before w v e f (soaked entry n rules d counts row fits compiled from is end) (of_two before' after' name' reading' row' ends) = absurd (omega (arith, ap length row.words_are, ap length row'.words_are))
     one_before w v e f (of_two before' after' name' reading' row' ends) (soaked entry n rules d counts row fits compiled from is end) = absurd (omega (arith, ap length row.words_are, ap length row'.words_are))
-    one_before w v e f (of_two before after name reading row ends) (of_two before' after' name' reading' row' ends') = one_two w v e f row row' ends ends'
+    one_before w v e f (of_two before after name reading row ends) (of_two before' after' name' reading' row' ends') =
+        one_pair_ends w v e f (same_row (one_pair row row') (λ a b n r. EndsPair files b a n r w e) ends) ends'
     one_before w v e f (no_job front rule behind compiles has none) (of_certificate file name reading certificate row ends) = absurd (verify_compiles row compiles)
     one_before w v e f (of_certificate file name reading certificate row ends) (no_job front rule behind compiles has none) = absurd (verify_compiles row compiles)
     one_before w v e f (reported report file name text reading rules d row held fits compiled is end) (of_certificate file' name' reading' certificate row' ends) = absurd (not_five (over (inl (report, row))) row'.words_are)
@@ -610,7 +581,8 @@ module _ (known : KnownOfTexts) where
     one_before w v e f (of_certificate file' name' reading' certificate row' ends) (soaked entry n rules d counts row fits compiled from is end) = absurd (omega (arith, ap length row.words_are, ap length row'.words_are))
     one_before w v e f (of_two before after name reading row ends) (of_certificate file' name' reading' certificate row' ends') = absurd (not_compat row row')
     one_before w v e f (of_certificate file' name' reading' certificate row' ends') (of_two before after name reading row ends) = absurd (not_compat row row')
-    one_before w v e f (of_certificate file name reading certificate row ends) (of_certificate file' name' reading' certificate' row' ends') = one_certificate_ends w v e f row row' ends ends'
+    one_before w v e f (of_certificate file name reading certificate row ends) (of_certificate file' name' reading' certificate' row' ends') =
+        one_verify_ends w v e f (same_row (one_verify row row') (λ c d n r. EndsVerify files d n r c w e) ends) ends'
 
     -- ---- which job the words ask for
 
@@ -620,7 +592,7 @@ module _ (known : KnownOfTexts) where
         let P : RuleOf → Type 0 = λ r. HasRules r.text rules in
         let all : rules ≡ rules' = known.one_list text' rules rules' (subst P here compiled.has_rules) compiled'.has_rules in
         let same = one_rule row row' in
-        is ∙ ap (λ c. by_rule c rules name reading) (one_command command command' same.command_is) ∙ ap (λ r. by_rule command' r name reading) all ∙ ap (λ n. by_rule command' rules' n reading) same.name_is ∙ ap (λ r. by_rule command' rules' name' r) same.reading_is ∙ sym is'
+        is ∙ ap (λ c. by_rule c rules name reading) (one_command command command' same.word_is) ∙ ap (λ r. by_rule command' r name reading) all ∙ ap (λ n. by_rule command' rules' n reading) same.name_is ∙ ap (λ r. by_rule command' rules' name' r) same.reading_is ∙ sym is'
     one_job watchers job other (asks_by_rule command file name text reading rules d row held fits compiled is) (asks_migrate row' is') = absurd (not_migrate (answers command row) row')
     one_job watchers job other (asks_by_rule command file name text reading rules d row held fits compiled is) (asks_segments reading' rules' d' row' fits' compiled' is') = absurd (not_two (answers command row) row')
     one_job watchers job other (asks_migrate row' is') (asks_by_rule command file name text reading rules d row held fits compiled is) = absurd (not_migrate (answers command row) row')

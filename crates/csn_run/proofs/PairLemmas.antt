@@ -133,5 +133,5 @@ module _ (words : List (List ℕ)) (pair : PairWords) (row : IsCompat words pair
       inl (ap files (sym first) ∙ lacks)
   lacks_one (Some files) file (comes_second before name text reading row' held fits) lacks =
       let same = one_pair row' row in
-      inr (text, is_description files pair.before.now text (ap files (sym same.before_is) ∙ held) fits, ap files (sym same.after_is) ∙ lacks)
+      inr (text, is_description files pair.before.now text (ap files (sym same.file_is) ∙ held) fits, ap files (sym same.word_is) ∙ lacks)
   lacks_one (Some files) file (comes_certificate description name text reading rules d row' is) lacks = absurd (not_compat row row')

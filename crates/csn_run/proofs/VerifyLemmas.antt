@@ -165,7 +165,7 @@ module _ (words : List (List ℕ)) (rule : RuleWords) (certificate : List ℕ) (
       let P : List ℕ → Type 0 = λ f. IsDescribed files f name text reading rules d in
       let Q : List ℕ → Type 0 = λ n. IsDescribed files rule.file.now n text reading rules d in
       let R : Reading → Type 0 = λ r. IsDescribed files rule.file.now rule.name.now text r rules d in
-      inr (files, text, rules, d, refl, subst R same.reading_is (subst Q same.name_is (subst P same.file_is is)), ap files (sym same.certificate_is) ∙ lacks)
+      inr (files, text, rules, d, refl, subst R same.reading_is (subst Q same.name_is (subst P same.file_is is)), ap files (sym same.word_is) ∙ lacks)
 
   -- a rule that has a description is refused for a fault alone
   described_refused :

@@ -327,12 +327,12 @@ impl Lines {
         requires line { IsFresh self.old }
         requires pending { self.old.pending.items ≡ [] }
         requires refused { self.old.refused ≡ false }
+        ensures read { result ≡ Err Fault.Read → Rose (S.faults input.old) (S.faults input.new) }
+        ensures write { result ≡ Err Fault.Write → Rose (K.faults out.old) (K.faults out.new) }
         ensures ok { OnOk result (AnswersAll (Works (C.work command.old)) closing_of (C.kept command.old)
             (S.left input.old) (S.left input.new) (K.taken out.old) (K.taken out.new) self.new.pending.items self.new.refused) }
         ensures err { IfErr result (λ fault. Stops (Works (C.work command.old)) (C.kept command.old) fault
             (S.left input.old) (S.left input.new) (K.taken out.old) (K.taken out.new) self.new.pending.items) }
-        ensures read { result ≡ Err Fault.Read → Rose (S.faults input.old) (S.faults input.new) }
-        ensures write { result ≡ Err Fault.Write → Rose (K.faults out.old) (K.faults out.new) }
         ensures input { Keeps (S.steady input.old) (S.steady input.new) (S.faults input.old) (S.faults input.new) (result ≡ Err Fault.Read) }
         ensures out { Keeps (K.steady out.old) (K.steady out.new) (K.faults out.old) (K.faults out.new) (result ≡ Err Fault.Write) }
     {

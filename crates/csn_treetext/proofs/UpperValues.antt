@@ -8,11 +8,16 @@ abbrev code : Option ℕ → ℕ
 code None = zero
 code (Some v) = suc v
 
+abbrev decode : ℕ → Option ℕ
+decode zero = None
+decode (suc v) = Some v
+
+decoded : (x : Option ℕ) → decode (code x) ≡ x
+decoded None = refl
+decoded (Some v) = refl
+
 one_option : (a b : Option ℕ) → code a ≡ code b → a ≡ b
-one_option None None e = refl
-one_option None (Some v) e = absurd (omega (arith, e))
-one_option (Some v) None e = absurd (omega (arith, e))
-one_option (Some v) (Some w) e = let same : v ≡ w = omega (arith, e) in ap (λ x. Some x) same
+one_option a b e = sym (decoded a) ∙ ap decode e ∙ decoded b
 
 abbrev below : ℕ → Option ℕ
 below byte = if nat_le 97 byte then None else hex_digit_value byte

@@ -15,7 +15,7 @@ use Rattle.csn_resolve.specs.declared.why.Why.TheVariants.{Undefined, Recursive,
 use Rattle.csn_resolve.specs.Why.{Refusal}
 use Rattle.csn_resolve.specs.Seen.{Frame, Seen}
 use Rattle.csn_resolve.specs.Steps.{Step, begins, refused, refusals_after}
-use Rattle.csn_resolve.specs.Walk.{Around, inside, in_turn, turn_begun, entering, node_at, Walk, ItemsWalk, ComponentsWalk, BranchesWalk, RuleWalk, walk_lits, walk_null, walk_bit, walk_octet, walk_field, walk_rest, walk_built_in, walk_undefined, walk_recursive, walk_name, walk_group, walk_labelled, walk_seq, walk_choice, walk_times, walk_many, walk_cut, walk_window, walk_window_behind, walk_no_window, walk_sends}
+use Rattle.csn_resolve.specs.Walk.{Around, inside, in_turn, turn_begun, entering, node_at, Walk, ItemsWalk, BranchesWalk, RuleWalk, walk_lits, walk_null, walk_bit, walk_octet, walk_field, walk_rest, walk_built_in, walk_undefined, walk_recursive, walk_name, walk_group, walk_labelled, walk_seq, walk_choice, walk_times, walk_many, walk_cut, walk_window, walk_window_behind, walk_no_window, walk_sends}
 use Rattle.csn_resolve.specs.Walk as walk
 use Rattle.csn_resolve.specs.Gives.{Placed, start_of, Gives, ItemsGive, EachGives, RuleGives, gives_lits, gives_null, gives_bit, gives_octet, gives_field, gives_rest, gives_spare_bit, gives_spare_low, gives_padding, gives_seq, gives_choice, gives_only, gives_times, gives_many, gives_cut, gives_window, gives_labelled, gives_name, gives_group, gives_received, gives_sent, items_end, items_next, each_end, each_next, rule_plain, rule_tail}
 use Rattle.csn_resolve.specs.Resolved.{ResolveSteps, asked_unknown, asked_rule, NameGives, AreRefusals, twice_steps}
@@ -189,30 +189,21 @@ module _ (rules : RulesV) (r : Reading) where
     gives_few {a} (walk_seq {s = s} {inner = inner} w p) q (gives_seq g given) =
         node_few a s inner p given (items_few w (rest_of (node_at a s) inner p q) g)
     gives_few {a} (walk_cut {s = s} {inner = inner} w p) q (gives_cut g given) =
-        node_few a s inner p given (components_few w (rest_of (node_at a s) inner p q) g)
+        node_few a s inner p given (items_few w (rest_of (node_at a s) inner p q) g)
     gives_few {a} (walk_choice {s = s} {inner = inner} w p) q (gives_choice xs kept two g given) =
         node_few a s inner p given (each_few w (rest_of (node_at a s) inner p q) kept g)
     gives_few {a} (walk_choice {s = s} {inner = inner} w p) q (gives_only kept g) =
         omega (arith, begun_in (node_at a s) inner p, only_few w (rest_of (node_at a s) inner p q) kept refl g)
 
     items_few :
-        {a : Around} {frame : Frame ExprV} {xs : ExprsV} {steps : List Step} {at : ℕ} {other : Frame ℕ}
+        {full : Bool} {a : Around} {frame : Frame ExprV} {xs : ExprsV} {steps : List Step} {at : ℕ} {other : Frame ℕ}
         {seen : Seen ℕ} {parts : List ℕ} {nodes : List Placed}
-        → ItemsWalk rules r a frame xs steps → Quiet steps → ItemsGive rules r xs at other seen parts nodes
+        → ItemsWalk rules r full a frame xs steps → Quiet steps → ItemsGive rules r xs at other seen parts nodes
         → length nodes ≤ begun steps
     items_few (walk.items_end p) q (items_end none end) = omega (arith, ap length end)
-    items_few (walk.items_next {first = steps} {rest = more} w others p) q (items_next first rest g later now given) =
-        both_few first rest steps more p given (gives_few w (first_of steps more p q) g) (items_few others (rest_of steps more p q) later)
-
-    components_few :
-        {a : Around} {frame : Frame ExprV} {xs : ExprsV} {steps : List Step} {at : ℕ} {other : Frame ℕ}
-        {seen : Seen ℕ} {parts : List ℕ} {nodes : List Placed}
-        → ComponentsWalk rules r a frame xs steps → Quiet steps → ItemsGive rules r xs at other seen parts nodes
-        → length nodes ≤ begun steps
-    components_few (walk.components_end p) q (items_end none end) = omega (arith, ap length end)
-    components_few (walk.components_next {first = steps} {left = left} {rest = more} w l others p) q (items_next first rest g later now given) =
+    items_few (walk.items_next {first = steps} {rest = more} left w l others p) q (items_next first rest g later now given) =
         both_few first rest steps (left ++ more) p given (gives_few w (first_of steps (left ++ more) p q) g)
-        (rest_few rest left more (components_few others (rest_of left more refl (rest_of steps (left ++ more) p q)) later))
+        (rest_few rest left more (items_few others (rest_of left more refl (rest_of steps (left ++ more) p q)) later))
 
     each_few :
         {a : Around} {bs : BranchesV} {steps : List Step} {xs : List ExprV} {at : ℕ} {seen : Seen ℕ} {parts : List ℕ}

@@ -6,7 +6,7 @@ use Rattle.csn_desc.specs.declared.reading.Reading.{Reading}
 use Rattle.csn_desc.specs.declared.reading.Reading.TheVariants.{Received, Sent}
 use Rattle.csn_desc.specs.declared.node.Node.TheVariants.{Times, Window}
 use Rattle.csn_grammar.specs.declared.rules.Rule.{Rule}
-use Rattle.csn_grammar.specs.ExprV.{ExprV, expr, name, choice, sends, ExprsV, BranchesV, branch}
+use Rattle.csn_grammar.specs.ExprV.{ExprV, expr, name, choice, sends, ExprsV, item, BranchesV, branch}
 use Rattle.csn_grammar.specs.RulesV.{RulesV}
 use Rattle.csn_grammar.specs.Names.{same_name, is_built_in, built_in_names}
 use Rattle.csn_grammar.specs.Forms.{window_of}
@@ -17,7 +17,7 @@ use Rattle.csn_resolve.specs.Seen.{Frame, Seen, with_labelled, inner_of}
 use Rattle.csn_resolve.specs.Gives.{Placed, placed, Gives, ItemsGive, EachGives, RuleGives, start_of, gives_lits, gives_null, gives_bit, gives_octet, gives_field, gives_rest, gives_spare_bit, gives_spare_low, gives_padding, gives_seq, gives_choice, gives_only, gives_times, gives_many, gives_cut, gives_window, gives_labelled, gives_name, gives_group, gives_received, gives_sent, items_end, items_next, each_end, each_next, rule_plain, rule_tail}
 use Rattle.csn_resolve.specs.declared.why.Why.TheVariants.{Undefined, Recursive, IntersectionForm}
 use Rattle.csn_resolve.specs.Steps.{Step, refused}
-use Rattle.csn_resolve.specs.Walk.{Around, is_among, inside, in_turn, turn_begun, behind, node_at, entering, Walk, ItemsWalk, ComponentsWalk, BranchesWalk, RuleWalk, walk_lits, walk_null, walk_bit, walk_octet, walk_field, walk_rest, walk_built_in, walk_undefined, walk_recursive, walk_name, walk_group, walk_labelled, walk_seq, walk_choice, walk_times, walk_many, walk_cut, walk_window, walk_window_behind, walk_no_window, walk_sends}
+use Rattle.csn_resolve.specs.Walk.{Around, is_among, inside, in_turn, turn_begun, behind, node_at, entering, ItemLeft, Walk, ItemsWalk, BranchesWalk, RuleWalk, walk_lits, walk_null, walk_bit, walk_octet, walk_field, walk_rest, walk_built_in, walk_undefined, walk_recursive, walk_name, walk_group, walk_labelled, walk_seq, walk_choice, walk_times, walk_many, walk_cut, walk_window, walk_window_behind, walk_no_window, walk_sends}
 use Rattle.csn_resolve.specs.Walk as walk
 use Rattle.csn_resolve.specs.Resolved.{ResolveSteps, asked_unknown, asked_rule, NameGives, AreRefusals, twice_steps}
 use Rattle.csn_resolve.proofs.Walking.Quiet.{Quiet, first_of, rest_of, quiet_from, SameFrame, SameSeen, same_with, count_given, not_refused}
@@ -130,6 +130,13 @@ module _ (rules : RulesV) (r : Reading) where
   tail_given rule tail at seen parts turn_parts items turn is first second =
       (_, rule_tail tail (suc at + length items) (suc at + length items + 3 + length turn) parts turn_parts items turn is first refl second refl refl)
 
+  -- no item of a sequence is empty of strings where the sequence is not, and no component is
+  item_full :
+      (full : Bool) (x : ExprV) (xs : ExprsV) (left : List Step) → ItemLeft rules r full x left → Quiet left
+      → (full ≡ false → ¬ SomeVoid rules r (item x xs)) → ¬ Void rules r x
+  item_full false x xs left l q none = λ v. none refl (void_here v)
+  item_full true x xs left l q none = not_refused l q
+
   -- ---- all forms
 
   mutual
@@ -157,7 +164,7 @@ module _ (rules : RulesV) (r : Reading) where
         let nodes = given h (rest_of (node_at a s) inner p q) (λ v. full (void_labelled v)) (suc at) seen same in
         (_, gives_labelled nodes.1 refl)
     given {a} (walk_seq {s = s} {inner = inner} h p) q full at seen same =
-        let nodes = items_given h (rest_of (node_at a s) inner p q) (λ v. full (void_seq v)) (suc at) [] seen tt same in
+        let nodes = items_given h (rest_of (node_at a s) inner p q) (λ is v. full (void_seq v)) (suc at) [] seen tt same in
         (_, gives_seq nodes.2 refl)
     given {a} (walk_choice {s = s} {e = e} {bs = bs} {inner = inner} h p) q full at seen same =
         let kept = branches_given h (rest_of (node_at a s) inner p q) in
@@ -173,7 +180,7 @@ module _ (rules : RulesV) (r : Reading) where
         let nodes = given h (first_of inner left refl after) (not_refused l (rest_of inner left refl after)) (suc at) seen same in
         (_, gives_many not nodes.1 refl)
     given {a} (walk_cut {s = s} {inner = inner} h p) q full at seen same =
-        let nodes = components_given h (rest_of (node_at a s) inner p q) (suc at) [] seen tt same in
+        let nodes = items_given h (rest_of (node_at a s) inner p q) (λ is. absurd (cc)) (suc at) [] seen tt same in
         (_, gives_cut nodes.2 refl)
     given {a} (walk_window {s = s} {x = x} {y = y} {counts = counts} {inner = inner} w is c h p) q full at seen same =
         let after = rest_of (node_at a s) (counts ++ inner) p q in
@@ -194,29 +201,16 @@ module _ (rules : RulesV) (r : Reading) where
         (λ x_full. given h (first_of left right p q) x_full) (λ y_full. given h' (rest_of left right p q) y_full) at seen same
 
     items_given :
-        {a : Around} {frame : Frame ExprV} {xs : ExprsV} {steps : List Step}
-        → ItemsWalk rules r a frame xs steps → Quiet steps → ¬ SomeVoid rules r xs
+        {full : Bool} {a : Around} {frame : Frame ExprV} {xs : ExprsV} {steps : List Step}
+        → ItemsWalk rules r full a frame xs steps → Quiet steps → (full ≡ false → ¬ SomeVoid rules r xs)
         → (at : ℕ) (other : Frame ℕ) (seen : Seen ℕ) → SameFrame frame other → SameSeen a.seen seen
         → (parts : List ℕ) × (nodes : List Placed) × ItemsGive rules r xs at other seen parts nodes
-    items_given (walk.items_end p) q full at other seen alike same = (_, _, items_end refl refl)
-    items_given {frame = frame} (walk.items_next {x = x} {first = first} {rest = rest} h more p) q full at other seen alike same =
-        let nodes = given h (first_of first rest p q) (λ v. full (void_here v)) at (other ∷ seen) (alike, same) in
-        let later =
-        items_given more (rest_of first rest p q) (λ v. full (void_later v)) (at + length nodes.0)
-        (with_labelled (label_of r x) at other) seen (same_with (label_of r x) (inner_of r x) at frame other alike) same in
-        (_, _, items_next nodes.0 later.1 nodes.1 later.2 refl refl)
-
-    components_given :
-        {a : Around} {frame : Frame ExprV} {xs : ExprsV} {steps : List Step}
-        → ComponentsWalk rules r a frame xs steps → Quiet steps
-        → (at : ℕ) (other : Frame ℕ) (seen : Seen ℕ) → SameFrame frame other → SameSeen a.seen seen
-        → (parts : List ℕ) × (nodes : List Placed) × ItemsGive rules r xs at other seen parts nodes
-    components_given (walk.components_end p) q at other seen alike same = (_, _, items_end refl refl)
-    components_given {frame = frame} (walk.components_next {x = x} {first = first} {left = left} {rest = rest} h l more p) q at other seen alike same =
+    items_given (walk.items_end p) q none at other seen alike same = (_, _, items_end refl refl)
+    items_given {full} {frame = frame} (walk.items_next {x = x} {xs = xs} {first = first} {rest = rest} left h l more p) q none at other seen alike same =
         let after = rest_of first (left ++ rest) p q in
-        let nodes = given h (first_of first (left ++ rest) p q) (not_refused l (first_of left rest refl after)) at (other ∷ seen) (alike, same) in
+        let nodes = given h (first_of first (left ++ rest) p q) (item_full full x xs left l (first_of left rest refl after) none) at (other ∷ seen) (alike, same) in
         let later =
-        components_given more (rest_of left rest refl after) (at + length nodes.0)
+        items_given more (rest_of left rest refl after) (λ is v. none is (void_later v)) (at + length nodes.0)
         (with_labelled (label_of r x) at other) seen (same_with (label_of r x) (inner_of r x) at frame other alike) same in
         (_, _, items_next nodes.0 later.1 nodes.1 later.2 refl refl)
 
@@ -240,8 +234,8 @@ module _ (rules : RulesV) (r : Reading) where
         let after = rest_of (node_at a (start_of rule.body)) (items ++ (begun ++ (turn ++ (left ++ stop)))) p q in
         let in_turns = rest_of begun (turn ++ (left ++ stop)) refl (rest_of items (begun ++ (turn ++ (left ++ stop))) refl after) in
         let items_full = not_refused l (first_of left stop refl (rest_of turn (left ++ stop) refl in_turns)) in
-        let first = items_given i (first_of items (begun ++ (turn ++ (left ++ stop))) refl after) items_full (suc at) [] seen tt same in
-        let second = items_given t (first_of turn (left ++ stop) refl in_turns) items_full (suc at + length first.1 + 3) [] seen tt same in
+        let first = items_given i (first_of items (begun ++ (turn ++ (left ++ stop))) refl after) (λ is. items_full) (suc at) [] seen tt same in
+        let second = items_given t (first_of turn (left ++ stop) refl in_turns) (λ is. items_full) (suc at + length first.1 + 3) [] seen tt same in
         tail_given rule tail at seen first.0 second.0 first.1 second.1 is first.2 second.2
 
   name_given :

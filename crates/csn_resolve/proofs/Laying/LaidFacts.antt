@@ -1,5 +1,5 @@
 -- The nodes that a named rule gives are well formed, where it is not refused on the walk.
-use Rattle.std.proofs.Common.{◌≡◌, ℕ, suc, ◌+◌, true, false, List, [], ◌∷◌, ◌++◌, length, length-append, inl, inr, refl, sym, ◌∙◌, ap, subst, arith}
+use Rattle.std.proofs.Common.{◌≡◌, ℕ, suc, ◌+◌, Bool, true, false, List, [], ◌∷◌, ◌++◌, length, length-append, inl, inr, refl, sym, ◌∙◌, ap, subst, arith}
 use Rattle.std.proofs.lemmas.List.{length-map}
 use Rattle.csn_desc.specs.declared.reading.Reading.{Reading}
 use Rattle.csn_desc.specs.declared.symbol.Symbol.TheVariants.{Zero, Low}
@@ -18,7 +18,7 @@ use Rattle.csn_grammar.proofs.VoidFacts.{no_rule, same_window, same_rule}
 use Rattle.csn_resolve.specs.declared.why.Why.TheVariants.{Undefined, Recursive, IntersectionForm}
 use Rattle.csn_resolve.specs.Seen.{Frame, Seen}
 use Rattle.csn_resolve.specs.Steps.{Step, begins, refused}
-use Rattle.csn_resolve.specs.Walk.{Around, inside, putting_in, behind, outermost, in_turn, turn_begun, entering, node_at, Walk, ItemsWalk, ComponentsWalk, BranchesWalk, RuleWalk, walk_lits, walk_null, walk_bit, walk_octet, walk_field, walk_rest, walk_built_in, walk_undefined, walk_recursive, walk_name, walk_group, walk_labelled, walk_seq, walk_choice, walk_times, walk_many, walk_cut, walk_window, walk_window_behind, walk_no_window, walk_sends}
+use Rattle.csn_resolve.specs.Walk.{Around, inside, putting_in, behind, outermost, in_turn, turn_begun, entering, node_at, Walk, ItemsWalk, BranchesWalk, RuleWalk, walk_lits, walk_null, walk_bit, walk_octet, walk_field, walk_rest, walk_built_in, walk_undefined, walk_recursive, walk_name, walk_group, walk_labelled, walk_seq, walk_choice, walk_times, walk_many, walk_cut, walk_window, walk_window_behind, walk_no_window, walk_sends}
 use Rattle.csn_resolve.specs.Walk as walk
 use Rattle.csn_resolve.specs.Gives.{Placed, placed, start_of, count_at, Gives, ItemsGive, EachGives, RuleGives, gives_lits, gives_null, gives_bit, gives_octet, gives_field, gives_rest, gives_spare_bit, gives_spare_low, gives_padding, gives_seq, gives_choice, gives_only, gives_times, gives_many, gives_cut, gives_window, gives_labelled, gives_name, gives_group, gives_received, gives_sent, items_end, items_next, each_end, each_next, rule_plain, rule_tail}
 use Rattle.csn_resolve.specs.Resolved.{ResolveSteps, asked_unknown, asked_rule, NameGives, AreRefusals, nodes_of, twice_steps}
@@ -135,9 +135,9 @@ module _ (all : List Node) (rules : RulesV) (r : Reading) where
           node_laid all (Window v.width.unit count (suc at)) at s _ inner given h node.0 (width_unit x v.width is (ap (λ z. z.width) same), counted) refl (one_inside all at inner part)
       gives_laid {a} {at = at} {seen = seen} {shown = shown} (walk_window_behind {s = s} {x = x} {y = y} {counts = counts} {inner = steps} w none is k c p) q shape (gives_window {inner = inner} v count window at_count g given) h within =
           let same : v ≡ record { width = w; part = x } = same_window x y window (right_window x y w none is) in
+          let after = rest_of (node_at a s) (steps ++ counts) p q in
           let P : WindowV → Type 0 = λ z. Gives rules r z.part (suc at) seen inner in
           let node = node_inside all rules r s (first_of (node_at a s) (steps ++ counts) p q) within in
-          let after = rest_of (node_at a s) (steps ++ counts) p q in
           let counted = count_shown all rules r shown seen within.sees c (rest_of steps counts refl after) (ap (λ z. count_at seen z.width.count) (sym same) ∙ at_count) in
           let part = gives_laid k (first_of steps counts refl after) shape.0 (subst P same g) (inner_holds all (Window v.width.unit count (suc at)) at s _ inner given h) node.1 in
           node_laid all (Window v.width.unit count (suc at)) at s _ inner given h node.0 (width_unit y v.width is (ap (λ z. z.width) same), counted) refl (one_inside all at inner part)
@@ -155,7 +155,7 @@ module _ (all : List Node) (rules : RulesV) (r : Reading) where
       gives_laid {a} {at = at} (walk_cut {s = s} {inner = steps} w p) q shape (gives_cut {inner = inner} {parts = parts} g given) h within =
           let node = node_inside all rules r s (first_of (node_at a s) steps p q) within in
           node_laid all (Trunc parts) at s _ inner given h node.0 tt (omega (arith, items_count g, shape.0))
-          (components_laid w (rest_of (node_at a s) steps p q) shape.1 g (inner_holds all (Trunc parts) at s _ inner given h) tt node.1)
+          (items_laid w (rest_of (node_at a s) steps p q) shape.1 g (inner_holds all (Trunc parts) at s _ inner given h) tt node.1)
       gives_laid {a} {at = at} (walk_choice {s = s} {inner = steps} w p) q shape (gives_choice {inner = inner} {parts = parts} xs kept two g given) h within =
           let node = node_inside all rules r s (first_of (node_at a s) steps p q) within in
           node_laid all (Choice parts) at s _ inner given h node.0 tt (omega (arith, each_count g, two))
@@ -165,37 +165,19 @@ module _ (all : List Node) (rules : RulesV) (r : Reading) where
           only_laid w (rest_of (node_at a s) steps p q) shape.1 kept refl g h around
 
       items_laid :
-          {a : Around} {frame : Frame ExprV} {xs : ExprsV} {steps : List Step} {at round : ℕ} {other : Frame ℕ}
+          {full : Bool} {a : Around} {frame : Frame ExprV} {xs : ExprsV} {steps : List Step} {at round : ℕ} {other : Frame ℕ}
           {seen : Seen ℕ} {shown parts : List ℕ} {nodes : List Placed}
-          → ItemsWalk rules r a frame xs steps → Quiet steps → ItemsShaped xs
+          → ItemsWalk rules r full a frame xs steps → Quiet steps → ItemsShaped xs
           → ItemsGive rules r xs at other seen parts nodes → Holds all at nodes
           → FrameShown all rules r shown frame other → IsInside all rules r a seen shown round
           → PartsLaid all true shown round parts at (at + length nodes)
       items_laid (walk.items_end p) q shape (items_end none end) h alike within =
           parts_along all (sym none) (laid_end (omega (arith, ap length end)))
-      items_laid {frame = frame} {at = at} {other = other} {shown = shown} (walk.items_next {x = x} {first = steps} {rest = more} w others p) q shape (items_next first rest g later now given) h alike within =
-          let here = holds_along all at given h in
-          let first_here = holds_first all at first rest here in
-          let one = gives_laid w (first_of steps more p q) shape.0 g first_here (record { few = within.few; within = within.within; sees = (alike, within.sees) }) in
-          let behind_it = items_laid others (rest_of steps more p q) shape.1 later (holds_rest all at first rest here)
-          (item_shown all rules r x at shown frame other g first_here alike) (more_inside all rules r (still_shown all at shown) within) in
-          parts_along all (sym now) (laid_next (at + length first) refl one
-          (parts_to all (omega (arith, ap length given, length-append first rest)) behind_it))
-
-      components_laid :
-          {a : Around} {frame : Frame ExprV} {xs : ExprsV} {steps : List Step} {at round : ℕ} {other : Frame ℕ}
-          {seen : Seen ℕ} {shown parts : List ℕ} {nodes : List Placed}
-          → ComponentsWalk rules r a frame xs steps → Quiet steps → ItemsShaped xs
-          → ItemsGive rules r xs at other seen parts nodes → Holds all at nodes
-          → FrameShown all rules r shown frame other → IsInside all rules r a seen shown round
-          → PartsLaid all true shown round parts at (at + length nodes)
-      components_laid (walk.components_end p) q shape (items_end none end) h alike within =
-          parts_along all (sym none) (laid_end (omega (arith, ap length end)))
-      components_laid {frame = frame} {at = at} {other = other} {shown = shown} (walk.components_next {x = x} {first = steps} {left = left} {rest = more} w l others p) q shape (items_next first rest g later now given) h alike within =
+      items_laid {frame = frame} {at = at} {other = other} {shown = shown} (walk.items_next {x = x} {first = steps} {rest = more} left w l others p) q shape (items_next first rest g later now given) h alike within =
           let here = holds_along all at given h in
           let first_here = holds_first all at first rest here in
           let one = gives_laid w (first_of steps (left ++ more) p q) shape.0 g first_here (record { few = within.few; within = within.within; sees = (alike, within.sees) }) in
-          let behind_it = components_laid others (rest_of left more refl (rest_of steps (left ++ more) p q)) shape.1 later (holds_rest all at first rest here)
+          let behind_it = items_laid others (rest_of left more refl (rest_of steps (left ++ more) p q)) shape.1 later (holds_rest all at first rest here)
           (item_shown all rules r x at shown frame other g first_here alike) (more_inside all rules r (still_shown all at shown) within) in
           parts_along all (sym now) (laid_next (at + length first) refl one
           (parts_to all (omega (arith, ap length given, length-append first rest)) behind_it))

@@ -19,7 +19,7 @@ use Rattle.csn_resolve.specs.Seen.{Frame, Seen, with_labelled, inner_of}
 use Rattle.csn_resolve.specs.Gives.{start_of}
 use Rattle.csn_resolve.specs.Steps.{Step, refused}
 use Rattle.csn_resolve.specs.Counts.{CountSteps}
-use Rattle.csn_resolve.specs.Walk.{Around, inside, putting_in, behind, in_turn, is_among, entering, node_at, turn_begun, PartLeft, BranchLeft, TurnLeft, Walk, ItemsWalk, ComponentsWalk, BranchesWalk, RuleWalk, walk_lits, walk_null, walk_bit, walk_octet, walk_field, walk_rest, walk_built_in, walk_undefined, walk_recursive, walk_name, walk_group, walk_labelled, walk_seq, walk_choice, walk_times, walk_many, walk_cut, walk_window, walk_window_behind, walk_no_window, walk_sends, items_end, items_next, components_end, components_next, branches_end, branches_next, rule_plain, rule_tail}
+use Rattle.csn_resolve.specs.Walk.{Around, inside, putting_in, behind, in_turn, is_among, entering, node_at, turn_begun, PartLeft, ItemLeft, BranchLeft, TurnLeft, Walk, ItemsWalk, BranchesWalk, RuleWalk, walk_lits, walk_null, walk_bit, walk_octet, walk_field, walk_rest, walk_built_in, walk_undefined, walk_recursive, walk_name, walk_group, walk_labelled, walk_seq, walk_choice, walk_times, walk_many, walk_cut, walk_window, walk_window_behind, walk_no_window, walk_sends, items_end, items_next, branches_end, branches_next, rule_plain, rule_tail}
 use Rattle.csn_resolve.specs.Going.{gone, way, Stops, NumberGoes, LeafGoes}
 use Rattle.csn_resolve.proofs.Walking.GoingFacts.{stops-later, stops-same, stops-second, way-on, way-third}
 use Rattle.csn_resolve.proofs.Giving.Once.{same_tail}
@@ -56,13 +56,13 @@ module _ (rules : RulesV) (r : Reading) where
   pub group-steps : {a : Around} {s e : ℕ} {x : ExprV} {steps : List Step} → Walk rules r a (expr s e (group x)) steps → GoesIn (entering a s) (Walk rules r (inside a) x) steps
   group-steps (walk_group h p) = (_, h, p)
 
-  pub seq-steps : {a : Around} {s e : ℕ} {xs : ExprsV} {steps : List Step} → Walk rules r a (expr s e (seq xs)) steps → GoesIn (node_at a s) (ItemsWalk rules r (inside a) [] xs) steps
+  pub seq-steps : {a : Around} {s e : ℕ} {xs : ExprsV} {steps : List Step} → Walk rules r a (expr s e (seq xs)) steps → GoesIn (node_at a s) (ItemsWalk rules r false (inside a) [] xs) steps
   seq-steps (walk_seq h p) = (_, h, p)
 
   pub choice-steps : {a : Around} {s e : ℕ} {bs : BranchesV} {steps : List Step} → Walk rules r a (expr s e (choice bs)) steps → GoesIn (node_at a s) (BranchesWalk rules r (inside a) bs) steps
   choice-steps (walk_choice h p) = (_, h, p)
 
-  pub cut-steps : {a : Around} {s e : ℕ} {xs : ExprsV} {steps : List Step} → Walk rules r a (expr s e (cut xs)) steps → GoesIn (node_at a s) (ComponentsWalk rules r (inside a) [] xs) steps
+  pub cut-steps : {a : Around} {s e : ℕ} {xs : ExprsV} {steps : List Step} → Walk rules r a (expr s e (cut xs)) steps → GoesIn (node_at a s) (ItemsWalk rules r true (inside a) [] xs) steps
   cut-steps (walk_cut h p) = (_, h, p)
 
   pub sends-steps :
@@ -165,25 +165,16 @@ module _ (rules : RulesV) (r : Reading) where
   no-window-steps none none' (walk_window_behind w none'' is h c p) = absurd (no_none is none')
   no-window-steps none none' (walk_no_window p q h g steps) = (_, steps)
 
-  -- ---- items, components, alternatives, rules
+  -- ---- items, alternatives, rules
 
-  pub items-end-steps : {a : Around} {frame : Frame ExprV} {steps : List Step} → ItemsWalk rules r a frame no_item steps → steps ≡ []
+  pub items-end-steps : {full : Bool} {a : Around} {frame : Frame ExprV} {steps : List Step} → ItemsWalk rules r full a frame no_item steps → steps ≡ []
   items-end-steps (items_end p) = p
 
   pub items-next-steps :
-      {a : Around} {frame : Frame ExprV} {x : ExprV} {xs : ExprsV} {steps : List Step} → ItemsWalk rules r a frame (item x xs) steps
-      → (first : List Step) × (rest : List Step) × Walk rules r (behind frame a) x first
-      × ItemsWalk rules r a (with_labelled (label_of r x) (inner_of r x) frame) xs rest × (steps ≡ first ++ rest)
-  items-next-steps (items_next h more p) = (_, _, h, more, p)
-
-  pub components-end-steps : {a : Around} {frame : Frame ExprV} {steps : List Step} → ComponentsWalk rules r a frame no_item steps → steps ≡ []
-  components-end-steps (components_end p) = p
-
-  pub components-next-steps :
-      {a : Around} {frame : Frame ExprV} {x : ExprV} {xs : ExprsV} {steps : List Step} → ComponentsWalk rules r a frame (item x xs) steps
-      → (first : List Step) × (left : List Step) × (rest : List Step) × Walk rules r (behind frame a) x first × PartLeft rules r x left
-      × ComponentsWalk rules r a (with_labelled (label_of r x) (inner_of r x) frame) xs rest × (steps ≡ first ++ (left ++ rest))
-  components-next-steps (components_next h left more p) = (_, _, _, h, left, more, p)
+      {full : Bool} {a : Around} {frame : Frame ExprV} {x : ExprV} {xs : ExprsV} {steps : List Step} → ItemsWalk rules r full a frame (item x xs) steps
+      → (first : List Step) × (left : List Step) × (rest : List Step) × Walk rules r (behind frame a) x first × ItemLeft rules r full x left
+      × ItemsWalk rules r full a (with_labelled (label_of r x) (inner_of r x) frame) xs rest × (steps ≡ first ++ (left ++ rest))
+  items-next-steps (items_next left h none more p) = (_, left, _, h, none, more, p)
 
   pub branches-end-steps : {a : Around} {steps : List Step} → BranchesWalk rules r a no_branch steps → steps ≡ []
   branches-end-steps (branches_end p) = p
@@ -201,8 +192,8 @@ module _ (rules : RulesV) (r : Reading) where
   -- the steps through a rule in tail form, from its node at `place` on, where `inner` stands inside it
   abbrev pub TailSteps : Around → ℕ → Around → TailV → List Step → Type 0
   TailSteps a place inner tail steps =
-      (items : List Step) × (turn : List Step) × (left : List Step) × ItemsWalk rules r inner [] tail.items items
-      × ItemsWalk rules r (in_turn inner) [] tail.items turn × TurnLeft rules r tail left
+      (items : List Step) × (turn : List Step) × (left : List Step) × ItemsWalk rules r false inner [] tail.items items
+      × ItemsWalk rules r false (in_turn inner) [] tail.items turn × TurnLeft rules r tail left
       × (steps ≡ node_at a place ++ (items ++ (turn_begun inner tail.end ++ (turn ++ (left ++ node_at inner tail.end.stop.at)))))
 
   pub tail-steps :
@@ -211,8 +202,8 @@ module _ (rules : RulesV) (r : Reading) where
   tail-steps tail at (rule_plain none h) = absurd (no_none at none)
   tail-steps {a} {rule} tail at (rule_tail {items = items} {turn = turn} {left = lefts} other is i t left p) =
       let same : other ≡ tail = same_tail rule is at in
-      let Items : TailV → Type 0 = λ z. ItemsWalk rules r (inside a) [] z.items items in
-      let Turn : TailV → Type 0 = λ z. ItemsWalk rules r (in_turn (inside a)) [] z.items turn in
+      let Items : TailV → Type 0 = λ z. ItemsWalk rules r false (inside a) [] z.items items in
+      let Turn : TailV → Type 0 = λ z. ItemsWalk rules r false (in_turn (inside a)) [] z.items turn in
       let Left : TailV → Type 0 = λ z. TurnLeft rules r z lefts in
       (items, turn, lefts, subst Items same i, subst Turn same t, subst Left same left, cc)
 
@@ -229,14 +220,9 @@ module _ (rules : RulesV) (r : Reading) where
   branches-in {bs = bs} {steps = steps} p h = let Q : Around → Type 0 = λ z. BranchesWalk rules r z bs steps in subst Q (sym p) h
 
   pub items-like :
-      {a b : Around} {frame other : Frame ExprV} {xs ys : ExprsV} {steps : List Step} → b ≡ a → other ≡ frame → xs ≡ ys
-      → ItemsWalk rules r a frame xs steps → ItemsWalk rules r b other ys steps
+      {full : Bool} {a b : Around} {frame other : Frame ExprV} {xs ys : ExprsV} {steps : List Step} → b ≡ a → other ≡ frame → xs ≡ ys
+      → ItemsWalk rules r full a frame xs steps → ItemsWalk rules r full b other ys steps
   items-like p q e h = rw (p, q, ← e) h
-
-  pub components-like :
-      {a b : Around} {frame other : Frame ExprV} {xs ys : ExprsV} {steps : List Step} → b ≡ a → other ≡ frame → xs ≡ ys
-      → ComponentsWalk rules r a frame xs steps → ComponentsWalk rules r b other ys steps
-  components-like p q e h = rw (p, q, ← e) h
 
   pub branches-as :
       {a : Around} {bs cs : BranchesV} {steps : List Step} → bs ≡ cs → BranchesWalk rules r a bs steps → BranchesWalk rules r a cs steps

@@ -16,10 +16,10 @@ use Rattle.csn_resolve.specs.Seen.{Frame, Seen}
 use Rattle.csn_resolve.specs.Gives.{start_of, count_at}
 use Rattle.csn_resolve.specs.Steps.{Step, begins, refused, refused_if, Quiet}
 use Rattle.csn_resolve.specs.Counts.{is_zero, is_too_large, size_steps, CountSteps, count_number, count_unknown, count_wide, count_narrow}
-use Rattle.csn_resolve.specs.Walk.{Around, inside, putting_in, behind, entering, node_at, turn_begun, Walk, ItemsWalk, ComponentsWalk, BranchesWalk, RuleWalk, walk_field, walk_rest, walk_built_in, walk_undefined, walk_recursive, walk_name, walk_times, walk_many}
+use Rattle.csn_resolve.specs.Walk.{Around, inside, putting_in, behind, entering, node_at, turn_begun, Walk, ItemsWalk, BranchesWalk, RuleWalk, walk_field, walk_rest, walk_built_in, walk_undefined, walk_recursive, walk_name, walk_times, walk_many}
 use Rattle.csn_resolve.specs.Made.{QuietAt, AllQuiet, BranchesQuiet, RuleQuiet}
 use Rattle.csn_resolve.proofs.Walking.Quiet.{first_of, rest_of, quiet_along}
-use Rattle.csn_resolve.proofs.Walking.Inversion.{labelled-steps, group-steps, seq-steps, choice-steps, cut-steps, sends-steps, window-steps, window-behind-steps, items-next-steps, components-next-steps, branches-next-steps, plain-steps, tail-steps}
+use Rattle.csn_resolve.proofs.Walking.Inversion.{labelled-steps, group-steps, seq-steps, choice-steps, cut-steps, sends-steps, window-steps, window-behind-steps, items-next-steps, branches-next-steps, plain-steps, tail-steps}
 use Rattle.csn_resolve.proofs.Basics.Bools.{no_both}
 use Rattle.csn_resolve.proofs.Basics.Options.{no_none}
 use Rattle.csn_resolve.proofs.Basics.Windows.{Sides, left_wide, right_wide}
@@ -108,24 +108,14 @@ module _ (rules : RulesV) (r : Reading) where
   -- ---- items and alternatives
 
   items-quiet :
-      (xs : List ExprV) {names : ℕ} {a : Around} {frame : Frame ExprV} {steps : List Step} → names ≤ a.depth → a.depth ≤ 64
-      → ItemsWalk rules r a frame (exprs_of xs) steps → Quiet steps → AllQuiet rules r names xs
+      (xs : List ExprV) {names : ℕ} {full : Bool} {a : Around} {frame : Frame ExprV} {steps : List Step} → names ≤ a.depth → a.depth ≤ 64
+      → ItemsWalk rules r full a frame (exprs_of xs) steps → Quiet steps → AllQuiet rules r names xs
   items-quiet [] below few h q = tt
   items-quiet (x ∷ xs) {a = a} {frame = frame} below few h q =
-      let parts = items-next-steps rules r h in (
-        record { around = behind frame a; steps = parts.0; walk = parts.2; quiet = first_of parts.0 parts.1 parts.4 q; below = below; shallow = few },
-        items-quiet xs below few parts.3 (rest_of parts.0 parts.1 parts.4 q),
-      )
-
-  components-quiet :
-      (xs : List ExprV) {names : ℕ} {a : Around} {frame : Frame ExprV} {steps : List Step} → names ≤ a.depth → a.depth ≤ 64
-      → ComponentsWalk rules r a frame (exprs_of xs) steps → Quiet steps → AllQuiet rules r names xs
-  components-quiet [] below few h q = tt
-  components-quiet (x ∷ xs) {a = a} {frame = frame} below few h q =
-      let parts = components-next-steps rules r h in
+      let parts = items-next-steps rules r h in
       let after = rest_of parts.0 (parts.1 ++ parts.2) parts.6 q in (
         record { around = behind frame a; steps = parts.0; walk = parts.3; quiet = first_of parts.0 (parts.1 ++ parts.2) parts.6 q; below = below; shallow = few },
-        components-quiet xs below few parts.5 (rest_of parts.1 parts.2 refl after),
+        items-quiet xs below few parts.5 (rest_of parts.1 parts.2 refl after),
       )
 
   branches-quiet :
@@ -149,7 +139,7 @@ module _ (rules : RulesV) (r : Reading) where
   quiet-cut {s = s} xs h =
       let parts = cut-steps rules r h.walk in
       let there = inside-node s h.around parts.0 h.below h.shallow parts.2 h.quiet in
-      components-quiet xs {a = inside h.around} there.0 there.1 parts.1 there.2
+      items-quiet xs {a = inside h.around} there.0 there.1 parts.1 there.2
 
   pub quiet-choice :
       {names s e : ℕ} (bs : List BranchV) → QuietAt rules r names (expr s e (choice (branches_of bs))) → BranchesQuiet rules r names bs
@@ -273,7 +263,7 @@ module _ (rules : RulesV) (r : Reading) where
       let rest = turn_begun (inside h.around) tail.end ++ (parts.1 ++ (parts.2 ++ node_at (inside h.around) tail.end.stop.at)) in
       let shallow = node-shallow h.around (start_of rule.body) (parts.0 ++ rest) h.shallow parts.6 h.quiet in
       let below = h.below in
-      let Same : ExprsV → Type 0 = λ z. ItemsWalk rules r (inside h.around) [] z parts.0 in
+      let Same : ExprsV → Type 0 = λ z. ItemsWalk rules r false (inside h.around) [] z parts.0 in
       items-quiet xs {a = inside h.around} (omega (arith, below)) (omega (arith, shallow)) (subst Same are parts.3)
       (first_of parts.0 rest refl (rest_of (node_at h.around (start_of rule.body)) (parts.0 ++ rest) parts.6 h.quiet))
 

@@ -18,7 +18,7 @@ use Rattle.csn_resolve.specs.Why.{Refusal}
 use Rattle.csn_resolve.specs.Gives.{start_of}
 use Rattle.csn_resolve.specs.Steps.{Step}
 use Rattle.csn_resolve.specs.Counts.{Narrow, CountSteps, count_number, count_unknown, count_wide, count_narrow}
-use Rattle.csn_resolve.specs.Walk.{Around, inside, in_turn, putting_in, outermost, behind, is_among, PartLeft, BranchLeft, TurnLeft, is_refused, is_accepted, left_plain, left_error, left_sendable, Walk, ItemsWalk, ComponentsWalk, BranchesWalk, RuleWalk, walk_lits, walk_null, walk_bit, walk_octet, walk_field, walk_rest, walk_built_in, walk_undefined, walk_recursive, walk_name, walk_group, walk_labelled, walk_seq, walk_choice, walk_times, walk_many, walk_cut, walk_window, walk_window_behind, walk_no_window, walk_sends, items_end, items_next, components_end, components_next, branches_end, branches_next, rule_plain, rule_tail}
+use Rattle.csn_resolve.specs.Walk.{Around, inside, in_turn, putting_in, outermost, behind, is_among, PartLeft, ItemLeft, BranchLeft, TurnLeft, is_refused, is_accepted, left_plain, left_error, left_sendable, Walk, ItemsWalk, BranchesWalk, RuleWalk, walk_lits, walk_null, walk_bit, walk_octet, walk_field, walk_rest, walk_built_in, walk_undefined, walk_recursive, walk_name, walk_group, walk_labelled, walk_seq, walk_choice, walk_times, walk_many, walk_cut, walk_window, walk_window_behind, walk_no_window, walk_sends, items_end, items_next, branches_end, branches_next, rule_plain, rule_tail}
 use Rattle.csn_resolve.specs.Resolved.{asked_unknown, asked_rule, AreRefusals}
 use Rattle.csn_resolve.proofs.Emptiness.VoidDecided.{void_decided, some_void_decided}
 use Rattle.csn_resolve.proofs.Emptiness.NarrowDecided.{narrow_decided}
@@ -59,6 +59,10 @@ module _ (rules : RulesV) (r : Reading) where
       by : Void rules r x ⊎ (¬ Void rules r x) → (steps : List Step) × PartLeft rules r x steps
       by (inl v) = (_, is_refused v refl)
       by (inr full) = (_, is_accepted full refl)
+
+  item_left : (full : Bool) (x : ExprV) → (steps : List Step) × ItemLeft rules r full x steps
+  item_left false x = ([], refl)
+  item_left true x = part_left x
 
   branch_left : (error : Bool) (x : ExprV) → (steps : List Step) × BranchLeft rules r error x steps
   branch_left false x = (_, left_plain refl)
@@ -157,32 +161,23 @@ module _ (rules : RulesV) (r : Reading) where
       form_walked s e (name n) a same = by_name a s e n (is_built_in n) same refl
       form_walked s e (labelled label x) a same = let inner = walked x (inside a) same in (_, walk_labelled inner.1 refl)
       form_walked s e (group x) a same = let inner = walked x (inside a) same in (_, walk_group inner.1 refl)
-      form_walked s e (seq xs) a same = let inner = items_walked xs [] (inside a) same in (_, walk_seq inner.1 refl)
+      form_walked s e (seq xs) a same = let inner = items_walked false xs [] (inside a) same in (_, walk_seq inner.1 refl)
       form_walked s e (choice bs) a same = let inner = branches_walked bs (inside a) same in (_, walk_choice inner.1 refl)
       form_walked s e (power x k) a same = by_power a s e x k (walked x (inside a) same)
-      form_walked s e (cut xs) a same = let inner = components_walked xs [] (inside a) same in (_, walk_cut inner.1 refl)
+      form_walked s e (cut xs) a same = let inner = items_walked true xs [] (inside a) same in (_, walk_cut inner.1 refl)
       form_walked s e (both x y) a same =
           by_sides a s e x y (width_of x) (width_of y) refl refl (walked x (inside a) same) (walked y (inside a) same)
       form_walked s e (sends x y) a same =
           let left = walked x a same in let right = walked y a same in (_, walk_sends left.1 right.1 refl)
 
       items_walked :
-          (xs : ExprsV) (frame : Frame ExprV) (a : Around)
-          → a.names ≡ names → (steps : List Step) × ItemsWalk rules r a frame xs steps
-      items_walked no_item frame a same = (_, items_end refl)
-      items_walked (item x xs) frame a same =
-          let first = walked x (behind frame a) same in
-          let rest = items_walked xs (with_labelled (label_of r x) (inner_of r x) frame) a same in
-          (_, items_next first.1 rest.1 refl)
-
-      components_walked :
-          (xs : ExprsV) (frame : Frame ExprV) (a : Around) → a.names ≡ names
-          → (steps : List Step) × ComponentsWalk rules r a frame xs steps
-      components_walked no_item frame a same = (_, components_end refl)
-      components_walked (item x xs) frame a same =
-          let first = walked x (behind frame a) same in let left = part_left x in
-          let rest = components_walked xs (with_labelled (label_of r x) (inner_of r x) frame) a same in
-          (_, components_next first.1 left.1 rest.1 refl)
+          (full : Bool) (xs : ExprsV) (frame : Frame ExprV) (a : Around)
+          → a.names ≡ names → (steps : List Step) × ItemsWalk rules r full a frame xs steps
+      items_walked full no_item frame a same = (_, items_end refl)
+      items_walked full (item x xs) frame a same =
+          let first = walked x (behind frame a) same in let left = item_left full x in
+          let rest = items_walked full xs (with_labelled (label_of r x) (inner_of r x) frame) a same in
+          (_, items_next left.0 first.1 left.1 rest.1 refl)
 
       branches_walked :
           (bs : BranchesV) (a : Around)
@@ -199,8 +194,8 @@ module _ (rules : RulesV) (r : Reading) where
         by_tail : (o : Option TailV) → tail_of rule ≡ o → RuleWalked a rule
         by_tail None is = let inner = walked rule.body a same in (_, rule_plain is inner.1)
         by_tail (Some tail) is =
-            let items = items_walked tail.items [] (inside a) same in
-            let turn = items_walked tail.items [] (in_turn (inside a)) same in
+            let items = items_walked false tail.items [] (inside a) same in
+            let turn = items_walked false tail.items [] (in_turn (inside a)) same in
             let left = turn_left tail in
             (_, rule_tail tail is items.1 turn.1 left.1 refl)
 

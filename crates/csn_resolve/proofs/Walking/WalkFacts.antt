@@ -1,5 +1,5 @@
 -- What the private functions that walk pass on, in terms of the walk.
-use Rattle.std.proofs.Common.{◌≡◌, ℕ, zero, suc, ◌+◌, List, [], ◌∷◌, take, drop, slice_get, Some, refl, sym, ◌∙◌, ap, subst, arith}
+use Rattle.std.proofs.Common.{◌≡◌, ℕ, zero, suc, ◌+◌, Bool, List, [], ◌∷◌, take, drop, slice_get, Some, refl, sym, ◌∙◌, ap, subst, arith}
 use Rattle.std.specs.Borrow.{Bor}
 use Rattle.csn_desc.specs.declared.reading.Reading.{Reading}
 use Rattle.csn_grammar.specs.declared.rules.Rule.{Rule}
@@ -12,11 +12,11 @@ use Rattle.csn_resolve.specs.declared.begun.Around as b
 use Rattle.csn_resolve.specs.Seen as seen
 use Rattle.csn_resolve.specs.Seen.{Frame}
 use Rattle.csn_resolve.specs.Steps.{Step}
-use Rattle.csn_resolve.specs.Walk.{Around, putting_in, behind, outermost, Walk, ItemsWalk, ComponentsWalk, BranchesWalk, BranchLeft, RuleWalk}
+use Rattle.csn_resolve.specs.Walk.{Around, putting_in, behind, outermost, Walk, ItemsWalk, BranchesWalk, BranchLeft, RuleWalk}
 use Rattle.csn_resolve.specs.Views.{entered_view, frame_after, seen_view, around_view}
 use Rattle.csn_resolve.proofs.Basics.Parts.{drop_at}
 use Rattle.csn_resolve.proofs.Naming.ViewFacts.{entered-Rule, entered-Nothing, seen-Behind, seen-Nothing}
-use Rattle.csn_resolve.proofs.Walking.Inversion.{items-like, components-like, branches-as}
+use Rattle.csn_resolve.proofs.Walking.Inversion.{items-like, branches-as}
 
 module _ (rules : RulesV) (r : Reading) where
   pub behind-in :
@@ -52,14 +52,9 @@ module _ (rules : RulesV) (r : Reading) where
       subst Q empty (subst P names h)
 
   pub items-at :
-      {a : Around} {frame : Frame ExprV} (xs : List ExprV) (at : ℕ) (x : ExprV) {steps : List Step} → slice_get xs at ≡ Some x
-      → ItemsWalk rules r a frame (exprs_of (drop at xs)) steps → ItemsWalk rules r a frame (item x (exprs_of (drop (at + 1) xs))) steps
+      {full : Bool} {a : Around} {frame : Frame ExprV} (xs : List ExprV) (at : ℕ) (x : ExprV) {steps : List Step} → slice_get xs at ≡ Some x
+      → ItemsWalk rules r full a frame (exprs_of (drop at xs)) steps → ItemsWalk rules r full a frame (item x (exprs_of (drop (at + 1) xs))) steps
   items-at xs at x here h = items-like rules r refl refl (ap exprs_of (drop_at xs at x here)) h
-
-  pub components-at :
-      {a : Around} {frame : Frame ExprV} (xs : List ExprV) (at : ℕ) (x : ExprV) {steps : List Step} → slice_get xs at ≡ Some x
-      → ComponentsWalk rules r a frame (exprs_of (drop at xs)) steps → ComponentsWalk rules r a frame (item x (exprs_of (drop (at + 1) xs))) steps
-  components-at xs at x here h = components-like rules r refl refl (ap exprs_of (drop_at xs at x here)) h
 
   pub branches-at :
       {a : Around} (bs : List BranchV) (at : ℕ) (c : BranchV) {steps : List Step} → slice_get bs at ≡ Some c

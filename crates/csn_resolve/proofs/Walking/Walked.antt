@@ -1,5 +1,5 @@
 -- The walk through an expression has one list of steps, and a named rule one list of refusals.
-use Rattle.std.proofs.Common.{◌≡◌, ℕ, Bool, List, [], ◌∷◌, sym, ◌∙◌, ap, subst, arith, Option, Some, None}
+use Rattle.std.proofs.Common.{◌≡◌, ℕ, Bool, true, false, List, [], ◌∷◌, sym, ◌∙◌, ap, subst, arith, Option, Some, None}
 use Rattle.csn_desc.specs.declared.reading.Reading.{Reading}
 use Rattle.csn_desc.specs.Nodes.{DescV}
 use Rattle.csn_grammar.specs.declared.exponent.Exponent.{Exponent}
@@ -17,7 +17,7 @@ use Rattle.csn_desc.specs.Overfull.{IsFirstOverfull}
 use Rattle.csn_resolve.specs.Resolved.{ResolveSteps, asked_unknown, asked_rule, nodes_of, AreRefusals, IsRefused, refused_on_walk, refused_at_last, IsResolved}
 use Rattle.csn_resolve.specs.Counts.{Narrow, CountSteps, count_number, count_unknown, count_wide, count_narrow}
 use Rattle.csn_resolve.specs.Gives.{Placed, start_of}
-use Rattle.csn_resolve.specs.Walk.{Around, inside, in_turn, putting_in, outermost, PartLeft, BranchLeft, TurnLeft, is_refused, is_accepted, left_plain, left_error, left_sendable, Walk, ItemsWalk, ComponentsWalk, BranchesWalk, RuleWalk, walk_lits, walk_null, walk_bit, walk_octet, walk_field, walk_rest, walk_built_in, walk_undefined, walk_recursive, walk_name, walk_group, walk_labelled, walk_seq, walk_choice, walk_times, walk_many, walk_cut, walk_window, walk_window_behind, walk_no_window, walk_sends, items_end, items_next, components_end, components_next, branches_end, branches_next, rule_plain, rule_tail, Refuses}
+use Rattle.csn_resolve.specs.Walk.{Around, inside, in_turn, putting_in, outermost, PartLeft, ItemLeft, BranchLeft, TurnLeft, is_refused, is_accepted, left_plain, left_error, left_sendable, Walk, ItemsWalk, BranchesWalk, RuleWalk, walk_lits, walk_null, walk_bit, walk_octet, walk_field, walk_rest, walk_built_in, walk_undefined, walk_recursive, walk_name, walk_group, walk_labelled, walk_seq, walk_choice, walk_times, walk_many, walk_cut, walk_window, walk_window_behind, walk_no_window, walk_sends, items_end, items_next, branches_end, branches_next, rule_plain, rule_tail, Refuses}
 use Rattle.csn_resolve.proofs.Giving.Once.{same_tail, name_once}
 use Rattle.csn_resolve.proofs.Basics.Bools.{no_both}
 
@@ -73,6 +73,12 @@ module _ (rules : RulesV) (r : Reading) where
       let P : ExprV → Type 0 = λ z. Narrow rules r z in
       absurd (wide (subst P (same_seen seen label is is') narrow))
   count_once (count_narrow x is narrow p) (count_narrow y is' narrow' q) = cc
+
+  item_left_once :
+      (full : Bool) (x : ExprV) {steps others : List Step}
+      → ItemLeft rules r full x steps → ItemLeft rules r full x others → steps ≡ others
+  item_left_once false x p q = p ∙ sym q
+  item_left_once true x left left' = refuses_once left left'
 
   branch_left_once :
       {error : Bool} {x : ExprV} {steps others : List Step}
@@ -131,7 +137,7 @@ module _ (rules : RulesV) (r : Reading) where
     walk_once (walk_labelled h p) (walk_labelled g q) = let inner = walk_once h g in cc
     walk_once (walk_seq h p) (walk_seq g q) = let inner = items_walk_once h g in cc
     walk_once (walk_choice h p) (walk_choice g q) = let inner = branches_walk_once h g in cc
-    walk_once (walk_cut h p) (walk_cut g q) = let inner = components_walk_once h g in cc
+    walk_once (walk_cut h p) (walk_cut g q) = let inner = items_walk_once h g in cc
     walk_once {a} (walk_window {x = x} w is c h p) (walk_window {counts = counts} v is' d g q) =
         let Q : WidthV → Type 0 = λ z. CountSteps rules r a.seen (start_of x) z.count counts in
         let count = count_once c (subst Q (same_width x is' is) d) in let inner = walk_once h g in cc
@@ -149,19 +155,12 @@ module _ (rules : RulesV) (r : Reading) where
     walk_once (walk_sends h h' p) (walk_sends g g' q) = let left = walk_once h g in let right = walk_once h' g' in cc
 
     items_walk_once :
-        {a : Around} {frame : Frame ExprV} {xs : ExprsV} {steps others : List Step}
-        → ItemsWalk rules r a frame xs steps → ItemsWalk rules r a frame xs others → steps ≡ others
+        {full : Bool} {a : Around} {frame : Frame ExprV} {xs : ExprsV} {steps others : List Step}
+        → ItemsWalk rules r full a frame xs steps → ItemsWalk rules r full a frame xs others → steps ≡ others
     items_walk_once (items_end p) (items_end q) = p ∙ sym q
-    items_walk_once (items_next h more p) (items_next g gmore q) =
-        let first = walk_once h g in let rest = items_walk_once more gmore in cc
-
-    components_walk_once :
-        {a : Around} {frame : Frame ExprV} {xs : ExprsV} {steps others : List Step}
-        → ComponentsWalk rules r a frame xs steps → ComponentsWalk rules r a frame xs others → steps ≡ others
-    components_walk_once (components_end p) (components_end q) = p ∙ sym q
-    components_walk_once (components_next h left more p) (components_next g left' gmore q) =
-        let first = walk_once h g in let lefts = refuses_once left left' in
-        let rest = components_walk_once more gmore in cc
+    items_walk_once {full} (items_next {x = x} _ h left more p) (items_next _ g left' gmore q) =
+        let first = walk_once h g in let lefts = item_left_once full x left left' in
+        let rest = items_walk_once more gmore in cc
 
     branches_walk_once :
         {a : Around} {bs : BranchesV} {steps others : List Step}
@@ -179,8 +178,8 @@ module _ (rules : RulesV) (r : Reading) where
     rule_walk_once (rule_tail tail is i t left p) (rule_plain is' g) = cc
     rule_walk_once {a} {rule} (rule_tail tail is i t left p) (rule_tail {items = items} {turn = turn} {left = lefts} tail' is' i' t' left' q) =
         let same : tail' ≡ tail = same_tail rule is' is in
-        let Items : TailV → Type 0 = λ z. ItemsWalk rules r (inside a) [] z.items items in
-        let Turn : TailV → Type 0 = λ z. ItemsWalk rules r (in_turn (inside a)) [] z.items turn in
+        let Items : TailV → Type 0 = λ z. ItemsWalk rules r false (inside a) [] z.items items in
+        let Turn : TailV → Type 0 = λ z. ItemsWalk rules r false (in_turn (inside a)) [] z.items turn in
         let Left : TailV → Type 0 = λ z. TurnLeft rules r z lefts in
         let first = items_walk_once i (subst Items same i') in
         let second = items_walk_once t (subst Turn same t') in

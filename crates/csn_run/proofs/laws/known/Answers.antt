@@ -5,20 +5,20 @@ returns c =
     record {
       of_lines = record { spells_one = c.spells_one_block.ensures; fault_or_block = c.fault_or_block.ensures };
       of_texts = record {
+        one_list = c.one_list_of_rules.ensures;
+        answered = c.names_are_answered.ensures;
         decided = c.texts_are_decided.ensures.decided;
         apart = c.texts_are_decided.ensures.apart;
         one_place = c.texts_are_decided.ensures.place;
-        one_list = c.one_list_of_rules.ensures;
         shaped = c.rules_of_texts_are_shaped.ensures.shaped;
         labelled = c.rules_of_texts_are_shaped.ensures.labelled;
-        answered = c.names_are_answered.ensures;
         refused_once = c.refusals_are_one.ensures.first;
         refused_or_resolved = c.refusals_are_one.ensures.or_resolved;
         resolved_once = c.descriptions_are_one.ensures.name;
-        descriptions = c.resolved_are_descriptions.ensures;
         first_is_one = c.first_conflict_is_one.ensures.one;
         no_conflict = c.first_conflict_is_one.ensures.not_certified;
         one_certificate = c.certificates_are_one.ensures.text;
+        descriptions = c.resolved_are_descriptions.ensures;
         of_one_certificate = c.texts_are_of_one_certificate.ensures.certificate;
         one_fault = c.first_fault_is_one.ensures.one;
         no_fault = c.first_fault_is_one.ensures.none;

@@ -55,12 +55,24 @@ pub returns-in-Migrate-clause-ends : goal.returns-in-Migrate-clause-ends
 returns-in-Migrate-clause-ends g c = λ words row.
     lines_end Watches (Works renewing) nothing_kept words (g.B.Shelf.files c.args.shelf.now) _ migrating _ _ _ _ _ _ _ (asked_migrate words (g.B.Shelf.files c.args.shelf.now) _ (rw c.in-Migrate.is at row)) (alone_follows _ _ (λ line answer h. h)) watches_close refl c.answer_lines.ensures.ok c.answer_lines.ensures.err
 
+pub returns-in-Migrate-clause-fetched : goal.returns-in-Migrate-clause-fetched
+returns-in-Migrate-clause-fetched g c = λ words files row names. absurd (no_files (omega (arith, ap length (rw c.in-Migrate.is at row))) names)
+
+pub returns-in-Migrate-clause-missing : goal.returns-in-Migrate-clause-missing
+returns-in-Migrate-clause-missing g c = λ words file row comes lacks. absurd (comes_to_none words file _ (omega (arith, ap length (rw c.in-Migrate.is at row))) comes)
+
 pub returns-in-Segments-clause-ends : goal.returns-in-Segments-clause-ends
 returns-in-Segments-clause-ends g c = λ words row. c.answer_segments.ensures.ends words _ _ (rw c.in-Segments.is at row)
 
 pub returns-in-Segments-clause-touches : goal.returns-in-Segments-clause-touches
 returns-in-Segments-clause-touches g c = λ words row.
     reads_too words (g.B.Shelf.files c.args.shelf.now) _ (two_read (rw c.in-Segments.is at row)) (c.answer_segments.ensures.touches words (g.B.Shelf.files c.args.shelf.now) _ (rw c.in-Segments.is at row))
+
+pub returns-in-Segments-clause-fetched : goal.returns-in-Segments-clause-fetched
+returns-in-Segments-clause-fetched g c = λ words files row names. absurd (no_files (omega (arith, ap length (rw c.in-Segments.is at row))) names)
+
+pub returns-in-Segments-clause-missing : goal.returns-in-Segments-clause-missing
+returns-in-Segments-clause-missing g c = λ words file row comes lacks. absurd (comes_to_none words file _ (omega (arith, ap length (rw c.in-Segments.is at row))) comes)
 
 pub returns-in-Replay-clause-ends : goal.returns-in-Replay-clause-ends
 returns-in-Replay-clause-ends g c = λ words row. c.answer_replay.ensures.ends words _ (rw c.in-Replay.is at row)
@@ -69,26 +81,14 @@ pub returns-in-Replay-clause-touches : goal.returns-in-Replay-clause-touches
 returns-in-Replay-clause-touches g c = λ words row.
     reads_too words (g.B.Shelf.files c.args.shelf.now) _ (two_read (rw c.in-Replay.is at row)) (c.answer_replay.ensures.touches words (g.B.Shelf.files c.args.shelf.now) (rw c.in-Replay.is at row))
 
-pub returns-in-Soak-clause-ends : goal.returns-in-Soak-clause-ends
-returns-in-Soak-clause-ends g c = λ words row. c.soak_entry.ensures.ends words _ (rw c.in-Soak.is at row) _ _ _
-
-pub returns-in-Migrate-clause-fetched : goal.returns-in-Migrate-clause-fetched
-returns-in-Migrate-clause-fetched g c = λ words files row names. absurd (no_files (omega (arith, ap length (rw c.in-Migrate.is at row))) names)
-
-pub returns-in-Migrate-clause-missing : goal.returns-in-Migrate-clause-missing
-returns-in-Migrate-clause-missing g c = λ words file row comes lacks. absurd (comes_to_none words file _ (omega (arith, ap length (rw c.in-Migrate.is at row))) comes)
-
-pub returns-in-Segments-clause-fetched : goal.returns-in-Segments-clause-fetched
-returns-in-Segments-clause-fetched g c = λ words files row names. absurd (no_files (omega (arith, ap length (rw c.in-Segments.is at row))) names)
-
-pub returns-in-Segments-clause-missing : goal.returns-in-Segments-clause-missing
-returns-in-Segments-clause-missing g c = λ words file row comes lacks. absurd (comes_to_none words file _ (omega (arith, ap length (rw c.in-Segments.is at row))) comes)
-
 pub returns-in-Replay-clause-fetched : goal.returns-in-Replay-clause-fetched
 returns-in-Replay-clause-fetched g c = λ words files row names. absurd (no_files (omega (arith, ap length (rw c.in-Replay.is at row))) names)
 
 pub returns-in-Replay-clause-missing : goal.returns-in-Replay-clause-missing
 returns-in-Replay-clause-missing g c = λ words file row comes lacks. absurd (comes_to_none words file _ (omega (arith, ap length (rw c.in-Replay.is at row))) comes)
+
+pub returns-in-Soak-clause-ends : goal.returns-in-Soak-clause-ends
+returns-in-Soak-clause-ends g c = λ words row. c.soak_entry.ensures.ends words _ (rw c.in-Soak.is at row) _ _ _
 
 pub returns-in-Soak-clause-fetched : goal.returns-in-Soak-clause-fetched
 returns-in-Soak-clause-fetched g c = λ words files row names. absurd (no_files (omega (arith, ap length (rw c.in-Soak.is at row).words_are)) names)
@@ -115,8 +115,8 @@ returns-in-Compat-clause-missing g c = λ words file row comes lacks.
     let m = c.compare_files.ensures.missing words file (rw c.in-Compat.is at row) comes lacks in
     (m.0, refl, refl, m.1)
 
-pub returns-in-Verify-clause-ends : goal.returns-in-Verify-clause-ends
-returns-in-Verify-clause-ends g c = λ words row. c.verify_file.ensures.ends words (rw c.in-Verify.is at row) _ _ _
+pub returns-in-Verify-clause-fetched : goal.returns-in-Verify-clause-fetched
+returns-in-Verify-clause-fetched g c = λ words files row names. fetches_same (g.B.Shelf.fetch_gives) _ _ (verify_files (rw c.in-Verify.is at row) names) c.verify_file.ensures.fetched
 
 pub returns-in-Verify-clause-read : goal.returns-in-Verify-clause-read
 returns-in-Verify-clause-read g c = λ e words row. inr (c.verify_file.ensures.read e words (rw c.in-Verify.is at row))
@@ -126,10 +126,10 @@ returns-in-Verify-clause-no_file g c = λ words row none.
     let rule = c.in-Verify.rule in
     absurd (none rule.file.now ([], c.in-Verify.certificate.now ∷ [], names_certificate rule.file.now rule.name.now rule.reading c.in-Verify.certificate.now (rw c.in-Verify.is at row) refl))
 
-pub returns-in-Verify-clause-fetched : goal.returns-in-Verify-clause-fetched
-returns-in-Verify-clause-fetched g c = λ words files row names. fetches_same (g.B.Shelf.fetch_gives) _ _ (verify_files (rw c.in-Verify.is at row) names) c.verify_file.ensures.fetched
-
 pub returns-in-Verify-clause-missing : goal.returns-in-Verify-clause-missing
 returns-in-Verify-clause-missing g c = λ words file row comes lacks.
     let m = c.verify_file.ensures.missing words file (rw c.in-Verify.is at row) comes lacks in
     (m.0, refl, refl, m.1)
+
+pub returns-in-Verify-clause-ends : goal.returns-in-Verify-clause-ends
+returns-in-Verify-clause-ends g c = λ words row. c.verify_file.ensures.ends words (rw c.in-Verify.is at row) _ _ _

@@ -7,46 +7,6 @@ use Rattle.csn_encode.proofs.Steps.{node_adds, node_misses, field_keeps, times_k
 use Rattle.csn_encode.proofs.draft.Draft.+write.Goals.{parts-then-len-from, parts-else-len-from}
 use Rattle.csn_encode.proofs.draft.Draft.+write.Goals as goal
 
-pub write-returns-in-Lits-clause-added : goal.write-returns-in-Lits-clause-added
-write-returns-in-Lits-clause-added g t c =
-    on_ok c.literal.result (λ h v s. node_adds c.args.plan.now (c.node.ensures.node ∙ ap (λ n. Some n) c.in-Lits.is) (h c.args.plan.now v)) c.literal.ensures.added
-
-pub write-returns-in-Lits-clause-missed : goal.write-returns-in-Lits-clause-missed
-write-returns-in-Lits-clause-missed g t c =
-    if_misfit c.literal.result (λ why h v s. node_misses c.args.plan.now (c.node.ensures.node ∙ ap (λ n. Some n) c.in-Lits.is) (h c.args.plan.now v)) c.literal.ensures.missed
-
-pub write-returns-in-Rest-clause-added : goal.write-returns-in-Rest-clause-added
-write-returns-in-Rest-clause-added g t c =
-    on_ok c.rest.result (λ h v s. node_adds c.args.plan.now (c.node.ensures.node ∙ ap (λ n. Some n) c.in-Rest.is) (h c.args.plan.now v)) c.rest.ensures.added
-
-pub write-returns-in-Rest-clause-missed : goal.write-returns-in-Rest-clause-missed
-write-returns-in-Rest-clause-missed g t c =
-    if_misfit c.rest.result (λ why h v s. node_misses c.args.plan.now (c.node.ensures.node ∙ ap (λ n. Some n) c.in-Rest.is) (h c.args.plan.now v)) c.rest.ensures.missed
-
-pub write-returns-in-Null-clause-added : goal.write-returns-in-Null-clause-added
-write-returns-in-Null-clause-added g t c =
-    on_ok c.null.result (λ h v s. node_adds c.args.plan.now (c.node.ensures.node ∙ ap (λ n. Some n) c.in-Null.is) (h c.args.plan.now v)) c.null.ensures.added
-
-pub write-returns-in-Null-clause-missed : goal.write-returns-in-Null-clause-missed
-write-returns-in-Null-clause-missed g t c =
-    if_misfit c.null.result (λ why h v s. node_misses c.args.plan.now (c.node.ensures.node ∙ ap (λ n. Some n) c.in-Null.is) (h c.args.plan.now v)) c.null.ensures.missed
-
-pub write-returns-in-Spare-clause-added : goal.write-returns-in-Spare-clause-added
-write-returns-in-Spare-clause-added g t c =
-    on_ok c.spare.result (λ h v s. node_adds c.args.plan.now (c.node.ensures.node ∙ ap (λ n. Some n) c.in-Spare.is) (h c.args.plan.now v (sym c.reading.ensures))) c.spare.ensures.added
-
-pub write-returns-in-Spare-clause-missed : goal.write-returns-in-Spare-clause-missed
-write-returns-in-Spare-clause-missed g t c =
-    if_misfit c.spare.result (λ why h v s. node_misses c.args.plan.now (c.node.ensures.node ∙ ap (λ n. Some n) c.in-Spare.is) (h c.args.plan.now v (sym c.reading.ensures))) c.spare.ensures.missed
-
-pub write-returns-in-Pad-clause-added : goal.write-returns-in-Pad-clause-added
-write-returns-in-Pad-clause-added g t c =
-    on_ok c.padding.result (λ h v s. node_adds c.args.plan.now (c.node.ensures.node ∙ ap (λ n. Some n) c.in-Pad.is) (h c.args.plan.now v (sym c.reading-in-Pad.ensures))) c.padding.ensures.added
-
-pub write-returns-in-Pad-clause-missed : goal.write-returns-in-Pad-clause-missed
-write-returns-in-Pad-clause-missed g t c =
-    if_misfit c.padding.result (λ why h v s. node_misses c.args.plan.now (c.node.ensures.node ∙ ap (λ n. Some n) c.in-Pad.is) (h c.args.plan.now v (sym c.reading-in-Pad.ensures))) c.padding.ensures.missed
-
 pub write-count_of-requires : goal.write-count_of-requires
 write-count_of-requires g t c =
     (c.args.plan.now, c.requires.0, field_keeps c.args.plan.now (c.node.ensures.node ∙ ap (λ n. Some n) c.in-Field.is) c.requires.1)
@@ -59,81 +19,121 @@ pub write-count_of-requires-in-Window : goal.write-count_of-requires-in-Window
 write-count_of-requires-in-Window g t c =
     (c.args.plan.now, c.requires.0, window_keeps c.args.plan.now (c.node.ensures.node ∙ ap (λ n. Some n) c.in-Window.is) c.requires.1)
 
-pub write-returns-in-Field-clause-added : goal.write-returns-in-Field-clause-added
-write-returns-in-Field-clause-added g t c =
-    on_ok c.field.result (λ h v s. node_adds c.args.plan.now (c.node.ensures.node ∙ ap (λ n. Some n) c.in-Field.is) (h c.args.plan.now v c.in-Field.unit c.in-Field.count c.count_of.result (c.count_of.ensures.count c.args.plan.now v (field_keeps c.args.plan.now (c.node.ensures.node ∙ ap (λ n. Some n) c.in-Field.is) s)) (ap (λ k. k * c.count_of.result) c.from.ensures))) c.field.ensures.added
-
-pub write-returns-in-Field-clause-missed : goal.write-returns-in-Field-clause-missed
-write-returns-in-Field-clause-missed g t c =
-    if_misfit c.field.result (λ why h v s. node_misses c.args.plan.now (c.node.ensures.node ∙ ap (λ n. Some n) c.in-Field.is) (h c.args.plan.now v c.in-Field.unit c.in-Field.count c.count_of.result (c.count_of.ensures.count c.args.plan.now v (field_keeps c.args.plan.now (c.node.ensures.node ∙ ap (λ n. Some n) c.in-Field.is) s)) (ap (λ k. k * c.count_of.result) c.from.ensures))) c.field.ensures.missed
-
-pub write-returns-in-Seq-clause-added : goal.write-returns-in-Seq-clause-added
-write-returns-in-Seq-clause-added g t c =
-    on_ok c.sequence.result (λ h v s. node_adds c.args.plan.now (c.node.ensures.node ∙ ap (λ n. Some n) c.in-Seq.is) (h v (stands_at_parts c.args.plan.now (Seq c.in-Seq.parts) (c.node.ensures.node ∙ ap (λ n. Some n) c.in-Seq.is) refl refl s))) c.sequence.ensures.added
-
-pub write-returns-in-Seq-clause-missed : goal.write-returns-in-Seq-clause-missed
-write-returns-in-Seq-clause-missed g t c =
-    if_misfit c.sequence.result (λ why h v s. node_misses c.args.plan.now (c.node.ensures.node ∙ ap (λ n. Some n) c.in-Seq.is) (h v (stands_at_parts c.args.plan.now (Seq c.in-Seq.parts) (c.node.ensures.node ∙ ap (λ n. Some n) c.in-Seq.is) refl refl s))) c.sequence.ensures.missed
-
-pub write-returns-in-Choice-clause-added : goal.write-returns-in-Choice-clause-added
-write-returns-in-Choice-clause-added g t c =
-    on_ok c.choice.result (λ h v s. node_adds c.args.plan.now (c.node.ensures.node ∙ ap (λ n. Some n) c.in-Choice.is) (h v (stands_at_parts c.args.plan.now (Choice c.in-Choice.parts) (c.node.ensures.node ∙ ap (λ n. Some n) c.in-Choice.is) refl refl s))) c.choice.ensures.added
-
-pub write-returns-in-Choice-clause-missed : goal.write-returns-in-Choice-clause-missed
-write-returns-in-Choice-clause-missed g t c =
-    if_misfit c.choice.result (λ why h v s. node_misses c.args.plan.now (c.node.ensures.node ∙ ap (λ n. Some n) c.in-Choice.is) (h v (stands_at_parts c.args.plan.now (Choice c.in-Choice.parts) (c.node.ensures.node ∙ ap (λ n. Some n) c.in-Choice.is) refl refl s))) c.choice.ensures.missed
-
 pub write-times-requires : goal.write-times-requires
 write-times-requires g t c κs within =
     (omega (arith, c.decreases, c.requires.1.ready.few), (within, (c.requires.0, stands_at_part c.args.plan.now (Times c.in-Times.count c.in-Times.part) (c.node.ensures.node ∙ ap (λ n. Some n) c.in-Times.is) refl c.requires.1)))
-
-pub write-returns-in-Times-clause-added : goal.write-returns-in-Times-clause-added
-write-returns-in-Times-clause-added g t c =
-    on_ok c.times.result (λ h v s. node_adds c.args.plan.now (c.node.ensures.node ∙ ap (λ n. Some n) c.in-Times.is) (h v c.in-Times.count (stands_at_part c.args.plan.now (Times c.in-Times.count c.in-Times.part) (c.node.ensures.node ∙ ap (λ n. Some n) c.in-Times.is) refl s) (c.count_of-wanted.ensures.count c.args.plan.now v (times_keeps c.args.plan.now (c.node.ensures.node ∙ ap (λ n. Some n) c.in-Times.is) s)))) c.times.ensures.added
-
-pub write-returns-in-Times-clause-missed : goal.write-returns-in-Times-clause-missed
-write-returns-in-Times-clause-missed g t c =
-    if_misfit c.times.result (λ why h v s. node_misses c.args.plan.now (c.node.ensures.node ∙ ap (λ n. Some n) c.in-Times.is) (h v c.in-Times.count (stands_at_part c.args.plan.now (Times c.in-Times.count c.in-Times.part) (c.node.ensures.node ∙ ap (λ n. Some n) c.in-Times.is) refl s) (c.count_of-wanted.ensures.count c.args.plan.now v (times_keeps c.args.plan.now (c.node.ensures.node ∙ ap (λ n. Some n) c.in-Times.is) s)))) c.times.ensures.missed
 
 pub write-many-requires : goal.write-many-requires
 write-many-requires g t c κs within =
     (omega (arith, c.decreases, c.requires.1.ready.few), (within, (c.requires.0, stands_at_part c.args.plan.now (Many c.in-Many.part) (c.node.ensures.node ∙ ap (λ n. Some n) c.in-Many.is) refl c.requires.1)))
 
-pub write-returns-in-Many-clause-added : goal.write-returns-in-Many-clause-added
-write-returns-in-Many-clause-added g t c =
-    on_ok c.many.result (λ h v s. node_adds c.args.plan.now (c.node.ensures.node ∙ ap (λ n. Some n) c.in-Many.is) (h v c.args.i (c.node.ensures.node ∙ ap (λ n. Some n) c.in-Many.is) (stands_at_part c.args.plan.now (Many c.in-Many.part) (c.node.ensures.node ∙ ap (λ n. Some n) c.in-Many.is) refl s))) c.many.ensures.added
-
-pub write-returns-in-Many-clause-missed : goal.write-returns-in-Many-clause-missed
-write-returns-in-Many-clause-missed g t c =
-    if_misfit c.many.result (λ why h v s. node_misses c.args.plan.now (c.node.ensures.node ∙ ap (λ n. Some n) c.in-Many.is) (h v c.args.i (c.node.ensures.node ∙ ap (λ n. Some n) c.in-Many.is) (stands_at_part c.args.plan.now (Many c.in-Many.part) (c.node.ensures.node ∙ ap (λ n. Some n) c.in-Many.is) refl s))) c.many.ensures.missed
-
-pub write-returns-in-Trunc-clause-added : goal.write-returns-in-Trunc-clause-added
-write-returns-in-Trunc-clause-added g t c =
-    on_ok c.truncation.result (λ h v s. node_adds c.args.plan.now (c.node.ensures.node ∙ ap (λ n. Some n) c.in-Trunc.is) (h v (stands_at_parts c.args.plan.now (Trunc c.in-Trunc.parts) (c.node.ensures.node ∙ ap (λ n. Some n) c.in-Trunc.is) refl refl s))) c.truncation.ensures.added
-
-pub write-returns-in-Trunc-clause-missed : goal.write-returns-in-Trunc-clause-missed
-write-returns-in-Trunc-clause-missed g t c =
-    if_misfit c.truncation.result (λ why h v s. node_misses c.args.plan.now (c.node.ensures.node ∙ ap (λ n. Some n) c.in-Trunc.is) (h v (stands_at_parts c.args.plan.now (Trunc c.in-Trunc.parts) (c.node.ensures.node ∙ ap (λ n. Some n) c.in-Trunc.is) refl refl s))) c.truncation.ensures.missed
-
 pub write-window-requires : goal.write-window-requires
 write-window-requires g t c κs within =
     (omega (arith, c.decreases, c.requires.1.ready.few), (within, (c.requires.0, stands_at_part c.args.plan.now (Window c.in-Window.unit c.in-Window.count c.in-Window.part) (c.node.ensures.node ∙ ap (λ n. Some n) c.in-Window.is) refl c.requires.1)))
-
-pub write-returns-in-Window-clause-added : goal.write-returns-in-Window-clause-added
-write-returns-in-Window-clause-added g t c =
-    on_ok c.window.result (λ h v s. node_adds c.args.plan.now (c.node.ensures.node ∙ ap (λ n. Some n) c.in-Window.is) (h v c.in-Window.unit c.count_of-in-Window.result c.in-Window.count (stands_at_part c.args.plan.now (Window c.in-Window.unit c.in-Window.count c.in-Window.part) (c.node.ensures.node ∙ ap (λ n. Some n) c.in-Window.is) refl s) (c.count_of-in-Window.ensures.count c.args.plan.now v (window_keeps c.args.plan.now (c.node.ensures.node ∙ ap (λ n. Some n) c.in-Window.is) s)) (ap (λ k. k * c.count_of-in-Window.result) c.from-in-Window.ensures))) c.window.ensures.added
-
-pub write-returns-in-Window-clause-missed : goal.write-returns-in-Window-clause-missed
-write-returns-in-Window-clause-missed g t c =
-    if_misfit c.window.result (λ why h v s. node_misses c.args.plan.now (c.node.ensures.node ∙ ap (λ n. Some n) c.in-Window.is) (h v c.in-Window.unit c.count_of-in-Window.result c.in-Window.count (stands_at_part c.args.plan.now (Window c.in-Window.unit c.in-Window.count c.in-Window.part) (c.node.ensures.node ∙ ap (λ n. Some n) c.in-Window.is) refl s) (c.count_of-in-Window.ensures.count c.args.plan.now v (window_keeps c.args.plan.now (c.node.ensures.node ∙ ap (λ n. Some n) c.in-Window.is) s)) (ap (λ k. k * c.count_of-in-Window.result) c.from-in-Window.ensures))) c.window.ensures.missed
 
 pub write-named-requires : goal.write-named-requires
 write-named-requires g t c κs within =
     (omega (arith, c.decreases, c.requires.1.ready.few), (within, (c.requires.0, stands_at_part c.args.plan.now (Named c.in-Named.label c.in-Named.part) (c.node.ensures.node ∙ ap (λ n. Some n) c.in-Named.is) refl c.requires.1)))
 
+pub write-returns-in-Lits-clause-added : goal.write-returns-in-Lits-clause-added
+write-returns-in-Lits-clause-added g t c =
+    on_ok c.literal.result (λ h v s. node_adds c.args.plan.now (c.node.ensures.node ∙ ap (λ n. Some n) c.in-Lits.is) (h c.args.plan.now v)) c.literal.ensures.added
+
+pub write-returns-in-Rest-clause-added : goal.write-returns-in-Rest-clause-added
+write-returns-in-Rest-clause-added g t c =
+    on_ok c.rest.result (λ h v s. node_adds c.args.plan.now (c.node.ensures.node ∙ ap (λ n. Some n) c.in-Rest.is) (h c.args.plan.now v)) c.rest.ensures.added
+
+pub write-returns-in-Null-clause-added : goal.write-returns-in-Null-clause-added
+write-returns-in-Null-clause-added g t c =
+    on_ok c.null.result (λ h v s. node_adds c.args.plan.now (c.node.ensures.node ∙ ap (λ n. Some n) c.in-Null.is) (h c.args.plan.now v)) c.null.ensures.added
+
+pub write-returns-in-Spare-clause-added : goal.write-returns-in-Spare-clause-added
+write-returns-in-Spare-clause-added g t c =
+    on_ok c.spare.result (λ h v s. node_adds c.args.plan.now (c.node.ensures.node ∙ ap (λ n. Some n) c.in-Spare.is) (h c.args.plan.now v (sym c.reading.ensures))) c.spare.ensures.added
+
+pub write-returns-in-Pad-clause-added : goal.write-returns-in-Pad-clause-added
+write-returns-in-Pad-clause-added g t c =
+    on_ok c.padding.result (λ h v s. node_adds c.args.plan.now (c.node.ensures.node ∙ ap (λ n. Some n) c.in-Pad.is) (h c.args.plan.now v (sym c.reading-in-Pad.ensures))) c.padding.ensures.added
+
+pub write-returns-in-Field-clause-added : goal.write-returns-in-Field-clause-added
+write-returns-in-Field-clause-added g t c =
+    on_ok c.field.result (λ h v s. node_adds c.args.plan.now (c.node.ensures.node ∙ ap (λ n. Some n) c.in-Field.is) (h c.args.plan.now v c.in-Field.unit c.in-Field.count c.count_of.result (c.count_of.ensures.count c.args.plan.now v (field_keeps c.args.plan.now (c.node.ensures.node ∙ ap (λ n. Some n) c.in-Field.is) s)) (ap (λ k. k * c.count_of.result) c.from.ensures))) c.field.ensures.added
+
+pub write-returns-in-Seq-clause-added : goal.write-returns-in-Seq-clause-added
+write-returns-in-Seq-clause-added g t c =
+    on_ok c.sequence.result (λ h v s. node_adds c.args.plan.now (c.node.ensures.node ∙ ap (λ n. Some n) c.in-Seq.is) (h v (stands_at_parts c.args.plan.now (Seq c.in-Seq.parts) (c.node.ensures.node ∙ ap (λ n. Some n) c.in-Seq.is) refl refl s))) c.sequence.ensures.added
+
+pub write-returns-in-Choice-clause-added : goal.write-returns-in-Choice-clause-added
+write-returns-in-Choice-clause-added g t c =
+    on_ok c.choice.result (λ h v s. node_adds c.args.plan.now (c.node.ensures.node ∙ ap (λ n. Some n) c.in-Choice.is) (h v (stands_at_parts c.args.plan.now (Choice c.in-Choice.parts) (c.node.ensures.node ∙ ap (λ n. Some n) c.in-Choice.is) refl refl s))) c.choice.ensures.added
+
+pub write-returns-in-Times-clause-added : goal.write-returns-in-Times-clause-added
+write-returns-in-Times-clause-added g t c =
+    on_ok c.times.result (λ h v s. node_adds c.args.plan.now (c.node.ensures.node ∙ ap (λ n. Some n) c.in-Times.is) (h v c.in-Times.count (stands_at_part c.args.plan.now (Times c.in-Times.count c.in-Times.part) (c.node.ensures.node ∙ ap (λ n. Some n) c.in-Times.is) refl s) (c.count_of-wanted.ensures.count c.args.plan.now v (times_keeps c.args.plan.now (c.node.ensures.node ∙ ap (λ n. Some n) c.in-Times.is) s)))) c.times.ensures.added
+
+pub write-returns-in-Many-clause-added : goal.write-returns-in-Many-clause-added
+write-returns-in-Many-clause-added g t c =
+    on_ok c.many.result (λ h v s. node_adds c.args.plan.now (c.node.ensures.node ∙ ap (λ n. Some n) c.in-Many.is) (h v c.args.i (c.node.ensures.node ∙ ap (λ n. Some n) c.in-Many.is) (stands_at_part c.args.plan.now (Many c.in-Many.part) (c.node.ensures.node ∙ ap (λ n. Some n) c.in-Many.is) refl s))) c.many.ensures.added
+
+pub write-returns-in-Trunc-clause-added : goal.write-returns-in-Trunc-clause-added
+write-returns-in-Trunc-clause-added g t c =
+    on_ok c.truncation.result (λ h v s. node_adds c.args.plan.now (c.node.ensures.node ∙ ap (λ n. Some n) c.in-Trunc.is) (h v (stands_at_parts c.args.plan.now (Trunc c.in-Trunc.parts) (c.node.ensures.node ∙ ap (λ n. Some n) c.in-Trunc.is) refl refl s))) c.truncation.ensures.added
+
+pub write-returns-in-Window-clause-added : goal.write-returns-in-Window-clause-added
+write-returns-in-Window-clause-added g t c =
+    on_ok c.window.result (λ h v s. node_adds c.args.plan.now (c.node.ensures.node ∙ ap (λ n. Some n) c.in-Window.is) (h v c.in-Window.unit c.count_of-in-Window.result c.in-Window.count (stands_at_part c.args.plan.now (Window c.in-Window.unit c.in-Window.count c.in-Window.part) (c.node.ensures.node ∙ ap (λ n. Some n) c.in-Window.is) refl s) (c.count_of-in-Window.ensures.count c.args.plan.now v (window_keeps c.args.plan.now (c.node.ensures.node ∙ ap (λ n. Some n) c.in-Window.is) s)) (ap (λ k. k * c.count_of-in-Window.result) c.from-in-Window.ensures))) c.window.ensures.added
+
 pub write-returns-in-Named-clause-added : goal.write-returns-in-Named-clause-added
 write-returns-in-Named-clause-added g t c =
     on_ok c.named.result (λ h v s. node_adds c.args.plan.now (c.node.ensures.node ∙ ap (λ n. Some n) c.in-Named.is) (h v (stands_at_part c.args.plan.now (Named c.in-Named.label c.in-Named.part) (c.node.ensures.node ∙ ap (λ n. Some n) c.in-Named.is) refl s))) c.named.ensures.added
+
+pub write-returns-in-Lits-clause-missed : goal.write-returns-in-Lits-clause-missed
+write-returns-in-Lits-clause-missed g t c =
+    if_misfit c.literal.result (λ why h v s. node_misses c.args.plan.now (c.node.ensures.node ∙ ap (λ n. Some n) c.in-Lits.is) (h c.args.plan.now v)) c.literal.ensures.missed
+
+pub write-returns-in-Rest-clause-missed : goal.write-returns-in-Rest-clause-missed
+write-returns-in-Rest-clause-missed g t c =
+    if_misfit c.rest.result (λ why h v s. node_misses c.args.plan.now (c.node.ensures.node ∙ ap (λ n. Some n) c.in-Rest.is) (h c.args.plan.now v)) c.rest.ensures.missed
+
+pub write-returns-in-Null-clause-missed : goal.write-returns-in-Null-clause-missed
+write-returns-in-Null-clause-missed g t c =
+    if_misfit c.null.result (λ why h v s. node_misses c.args.plan.now (c.node.ensures.node ∙ ap (λ n. Some n) c.in-Null.is) (h c.args.plan.now v)) c.null.ensures.missed
+
+pub write-returns-in-Spare-clause-missed : goal.write-returns-in-Spare-clause-missed
+write-returns-in-Spare-clause-missed g t c =
+    if_misfit c.spare.result (λ why h v s. node_misses c.args.plan.now (c.node.ensures.node ∙ ap (λ n. Some n) c.in-Spare.is) (h c.args.plan.now v (sym c.reading.ensures))) c.spare.ensures.missed
+
+pub write-returns-in-Pad-clause-missed : goal.write-returns-in-Pad-clause-missed
+write-returns-in-Pad-clause-missed g t c =
+    if_misfit c.padding.result (λ why h v s. node_misses c.args.plan.now (c.node.ensures.node ∙ ap (λ n. Some n) c.in-Pad.is) (h c.args.plan.now v (sym c.reading-in-Pad.ensures))) c.padding.ensures.missed
+
+pub write-returns-in-Field-clause-missed : goal.write-returns-in-Field-clause-missed
+write-returns-in-Field-clause-missed g t c =
+    if_misfit c.field.result (λ why h v s. node_misses c.args.plan.now (c.node.ensures.node ∙ ap (λ n. Some n) c.in-Field.is) (h c.args.plan.now v c.in-Field.unit c.in-Field.count c.count_of.result (c.count_of.ensures.count c.args.plan.now v (field_keeps c.args.plan.now (c.node.ensures.node ∙ ap (λ n. Some n) c.in-Field.is) s)) (ap (λ k. k * c.count_of.result) c.from.ensures))) c.field.ensures.missed
+
+pub write-returns-in-Seq-clause-missed : goal.write-returns-in-Seq-clause-missed
+write-returns-in-Seq-clause-missed g t c =
+    if_misfit c.sequence.result (λ why h v s. node_misses c.args.plan.now (c.node.ensures.node ∙ ap (λ n. Some n) c.in-Seq.is) (h v (stands_at_parts c.args.plan.now (Seq c.in-Seq.parts) (c.node.ensures.node ∙ ap (λ n. Some n) c.in-Seq.is) refl refl s))) c.sequence.ensures.missed
+
+pub write-returns-in-Choice-clause-missed : goal.write-returns-in-Choice-clause-missed
+write-returns-in-Choice-clause-missed g t c =
+    if_misfit c.choice.result (λ why h v s. node_misses c.args.plan.now (c.node.ensures.node ∙ ap (λ n. Some n) c.in-Choice.is) (h v (stands_at_parts c.args.plan.now (Choice c.in-Choice.parts) (c.node.ensures.node ∙ ap (λ n. Some n) c.in-Choice.is) refl refl s))) c.choice.ensures.missed
+
+pub write-returns-in-Times-clause-missed : goal.write-returns-in-Times-clause-missed
+write-returns-in-Times-clause-missed g t c =
+    if_misfit c.times.result (λ why h v s. node_misses c.args.plan.now (c.node.ensures.node ∙ ap (λ n. Some n) c.in-Times.is) (h v c.in-Times.count (stands_at_part c.args.plan.now (Times c.in-Times.count c.in-Times.part) (c.node.ensures.node ∙ ap (λ n. Some n) c.in-Times.is) refl s) (c.count_of-wanted.ensures.count c.args.plan.now v (times_keeps c.args.plan.now (c.node.ensures.node ∙ ap (λ n. Some n) c.in-Times.is) s)))) c.times.ensures.missed
+
+pub write-returns-in-Many-clause-missed : goal.write-returns-in-Many-clause-missed
+write-returns-in-Many-clause-missed g t c =
+    if_misfit c.many.result (λ why h v s. node_misses c.args.plan.now (c.node.ensures.node ∙ ap (λ n. Some n) c.in-Many.is) (h v c.args.i (c.node.ensures.node ∙ ap (λ n. Some n) c.in-Many.is) (stands_at_part c.args.plan.now (Many c.in-Many.part) (c.node.ensures.node ∙ ap (λ n. Some n) c.in-Many.is) refl s))) c.many.ensures.missed
+
+pub write-returns-in-Trunc-clause-missed : goal.write-returns-in-Trunc-clause-missed
+write-returns-in-Trunc-clause-missed g t c =
+    if_misfit c.truncation.result (λ why h v s. node_misses c.args.plan.now (c.node.ensures.node ∙ ap (λ n. Some n) c.in-Trunc.is) (h v (stands_at_parts c.args.plan.now (Trunc c.in-Trunc.parts) (c.node.ensures.node ∙ ap (λ n. Some n) c.in-Trunc.is) refl refl s))) c.truncation.ensures.missed
+
+pub write-returns-in-Window-clause-missed : goal.write-returns-in-Window-clause-missed
+write-returns-in-Window-clause-missed g t c =
+    if_misfit c.window.result (λ why h v s. node_misses c.args.plan.now (c.node.ensures.node ∙ ap (λ n. Some n) c.in-Window.is) (h v c.in-Window.unit c.count_of-in-Window.result c.in-Window.count (stands_at_part c.args.plan.now (Window c.in-Window.unit c.in-Window.count c.in-Window.part) (c.node.ensures.node ∙ ap (λ n. Some n) c.in-Window.is) refl s) (c.count_of-in-Window.ensures.count c.args.plan.now v (window_keeps c.args.plan.now (c.node.ensures.node ∙ ap (λ n. Some n) c.in-Window.is) s)) (ap (λ k. k * c.count_of-in-Window.result) c.from-in-Window.ensures))) c.window.ensures.missed
 
 pub write-returns-in-Named-clause-missed : goal.write-returns-in-Named-clause-missed
 write-returns-in-Named-clause-missed g t c =

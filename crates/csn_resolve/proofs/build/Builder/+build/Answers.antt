@@ -108,8 +108,8 @@ pub build-returns-in_ok-build_items-in-Cut : goal.build-returns-in_ok-build_item
 build-returns-in_ok-build_items-in-Cut t c =
     let is = known c.args.x.now c.x.inside.span c.x.inside.form _ c.x.view_is c.in-Cut.is in
     let all : take c.len-in-Cut.result c.in-Cut.items ≡ c.in-Cut.items = take_all c.len-in-Cut.result c.in-Cut.items (omega (arith, c.len-in-Cut.ensures.len)) in
-    let P : List ExprV → Type 0 = λ l. AddsItems c.args.self.now.names.now c.args.self.now.reading l (shown_view c.args.self.now.reading c.args.round.shown.now) c.new-parts-in-Cut.result c.build_items-in-Cut.new.parts c.push-in-Cut.new.self c.build_items-in-Cut.new.made in
     let Q : List ℕ → Type 0 = λ l. AddsItems c.args.self.now.names.now c.args.self.now.reading c.in-Cut.items (shown_view c.args.self.now.reading c.args.round.shown.now) l c.build_items-in-Cut.new.parts c.push-in-Cut.new.self c.build_items-in-Cut.new.made in
+    let P : List ExprV → Type 0 = λ l. AddsItems c.args.self.now.names.now c.args.self.now.reading l (shown_view c.args.self.now.reading c.args.round.shown.now) c.new-parts-in-Cut.result c.build_items-in-Cut.new.parts c.push-in-Cut.new.self c.build_items-in-Cut.new.made in
     let items : AddsItems c.args.self.now.names.now c.args.self.now.reading c.in-Cut.items (shown_view c.args.self.now.reading c.args.round.shown.now) [] c.build_items-in-Cut.new.parts c.push-in-Cut.new.self c.build_items-in-Cut.new.made = subst Q c.new-parts-in-Cut.ensures (subst P all c.in_ok-build_items-in-Cut.ensures) in
     adds-as c.args.self.now.names.now c.args.self.now.reading c.args.made.now c.set-in-Cut.new.self is (adds-row c.args.self.now.names.now c.args.self.now.reading Trunc c.in-Cut.items (cut-gives c.args.self.now.names.now c.args.self.now.reading (exprs_of c.in-Cut.items)) c.args.made.now c.push-in-Cut.new.self c.build_items-in-Cut.new.made c.set-in-Cut.new.self _ c.len-at-in-Cut.result c.in_ok-push-in-Cut.ensures items c.set-in-Cut.ensures c.len-at-in-Cut.ensures.len)
 
@@ -143,8 +143,8 @@ build-build-requires-in-Received t c =
 pub build-build-requires-in-Sent : goal.build-build-requires-in-Sent
 build-build-requires-in-Sent t c =
     let is = known c.args.x.now c.x.inside.span c.x.inside.form _ c.x.view_is c.in-Sends.is in
-    let size : expr_size c.args.x.now ≡ max (expr_size c.in-Sends.left.value) (expr_size c.in-Sends.right.value) + 1 = ap expr_size is in
     let same : expr_size c.deref-in-Sent.result.now ≡ expr_size c.in-Sends.right.value = ap expr_size c.deref-in-Sent.ensures in
+    let size : expr_size c.args.x.now ≡ max (expr_size c.in-Sends.left.value) (expr_size c.in-Sends.right.value) + 1 = ap expr_size is in
     (omega (arith, size, same, c.decreases), (quiet-as c.args.self.now.names.now c.args.self.now.reading (sym c.deref-in-Sent.ensures) (quiet-right c.args.self.now.names.now c.args.self.now.reading (quiet-as c.args.self.now.names.now c.args.self.now.reading is c.requires.quiet)), few-as c.args.self.now.names.now c.args.self.now.reading (sym c.deref-in-Sent.ensures) (few-sent c.args.self.now.names.now c.args.self.now.reading c.in-Sent.is (few-as c.args.self.now.names.now c.args.self.now.reading is c.requires.gives))))
 
 pub build-returns-in_ok-copy_run-in-Lits : goal.build-returns-in_ok-copy_run-in-Lits
@@ -162,16 +162,12 @@ build-returns-in-Null t c =
 pub build-returns-in-Bit : goal.build-returns-in-Bit
 build-returns-in-Bit t c =
     let is = known c.args.x.now c.x.inside.span c.x.inside.form _ c.x.view_is c.in-Bit.is in
-    on-ok c.push-in-Bit.result
-    (λ now. adds-as c.args.self.now.names.now c.args.self.now.reading c.args.made.now c.push-in-Bit.new.self is (adds-bit c.args.self.now.names.now c.args.self.now.reading c.args.made.now c.push-in-Bit.new.self (now ∙ ap (λ z. c.args.made.now ++ placed z c.x.inside.span.start ∷ []) c.one_field.ensures)))
-    c.push-in-Bit.ensures
+    on-ok c.push-in-Bit.result (λ now. adds-as c.args.self.now.names.now c.args.self.now.reading c.args.made.now c.push-in-Bit.new.self is (adds-bit c.args.self.now.names.now c.args.self.now.reading c.args.made.now c.push-in-Bit.new.self (now ∙ ap (λ z. c.args.made.now ++ placed z c.x.inside.span.start ∷ []) c.one_field.ensures))) c.push-in-Bit.ensures
 
 pub build-returns-in-Octet : goal.build-returns-in-Octet
 build-returns-in-Octet t c =
     let is = known c.args.x.now c.x.inside.span c.x.inside.form _ c.x.view_is c.in-Octet.is in
-    on-ok c.push-in-Octet.result
-    (λ now. adds-as c.args.self.now.names.now c.args.self.now.reading c.args.made.now c.push-in-Octet.new.self is (adds-octet c.args.self.now.names.now c.args.self.now.reading c.args.made.now c.push-in-Octet.new.self (now ∙ ap (λ z. c.args.made.now ++ placed z c.x.inside.span.start ∷ []) c.one_field-in-Octet.ensures)))
-    c.push-in-Octet.ensures
+    on-ok c.push-in-Octet.result (λ now. adds-as c.args.self.now.names.now c.args.self.now.reading c.args.made.now c.push-in-Octet.new.self is (adds-octet c.args.self.now.names.now c.args.self.now.reading c.args.made.now c.push-in-Octet.new.self (now ∙ ap (λ z. c.args.made.now ++ placed z c.x.inside.span.start ∷ []) c.one_field-in-Octet.ensures))) c.push-in-Octet.ensures
 
 pub build-returns-in-Name : goal.build-returns-in-Name
 build-returns-in-Name t c =
@@ -331,8 +327,7 @@ build_items-loop-at-init t c =
 pub build_items-push-requires : goal.build_items-push-requires
 build_items-push-requires t c =
     let few_at : c.loop-at.at < c.args.count = c.loop-at-test.true in
-    let in_first = take_get c.args.items.now c.args.count c.loop-at.at c.get-item.result.now few_at c.get-item.ensures in
-    let here = drop_at (take c.args.count c.args.items.now) c.loop-at.at c.get-item.result.now in_first in
+    let here = drop_at (take c.args.count c.args.items.now) c.loop-at.at c.get-item.result.now (take_get c.args.items.now c.args.count c.loop-at.at c.get-item.result.now few_at c.get-item.ensures) in
     let few = items-few c.args.self.now.names.now c.args.self.now.reading (take c.args.count c.args.items.now) here c.requires.gives c.loop-at.invariant.left in
     let some = room c.args.self.now.names.now c.args.self.now.reading few in
     omega (arith, some, c.loop-at.invariant.room)
@@ -352,8 +347,7 @@ build_items-build-requires t c =
 pub build_items-loop-at-preserved : goal.build_items-loop-at-preserved
 build_items-loop-at-preserved t c =
     let few_at : c.loop-at.at < c.args.count = c.loop-at-test.true in
-    let in_first = take_get c.args.items.now c.args.count c.loop-at.at c.get-item.result.now few_at c.get-item.ensures in
-    let here = drop_at (take c.args.count c.args.items.now) c.loop-at.at c.get-item.result.now in_first in
+    let here = drop_at (take c.args.count c.args.items.now) c.loop-at.at c.get-item.result.now (take_get c.args.items.now c.args.count c.loop-at.at c.get-item.result.now few_at c.get-item.ensures) in
     let few = items-few c.args.self.now.names.now c.args.self.now.reading (take c.args.count c.args.items.now) here c.requires.gives c.loop-at.invariant.left in
     let sees : (frame_before c.args.self.now.reading [] c.args.items.now c.loop-at.nodes.items) ∷ (shown_view c.args.self.now.reading c.args.round.shown.now) ≡ shown_view c.args.self.now.reading (s.Behind c.args.items c.as_slice.result c.args.round.shown) =
     sym (shown-Behind c.args.self.now.reading c.args.items c.as_slice.result c.args.round.shown ∙ ap (λ (l : List ℕ). frame_before c.args.self.now.reading [] c.args.items.now l ∷ (shown_view c.args.self.now.reading c.args.round.shown.now)) c.as_slice.ensures.value) in

@@ -12,8 +12,8 @@ use Rattle.csn_resolve.proofs.Basics.Parts.{item_size, branch_size_of, take_get,
 use Rattle.csn_resolve.proofs.Walking.DepthFacts.{in_deepest, entered}
 use Rattle.csn_resolve.proofs.Naming.ViewFacts.{known, frame-more}
 use Rattle.csn_resolve.proofs.Walking.GoingFacts.{exit-stops, stops-same, stops-in, stops-first, stops-later, stops-second, stops-third, goes-same, goes-after, goes-on, goes-third, way-on, way-third, refused-after}
-use Rattle.csn_resolve.proofs.Walking.Inversion.{lits-steps, null-steps, bit-steps, octet-steps, labelled-steps, group-steps, seq-steps, choice-steps, cut-steps, sends-steps, built-in-steps, name-steps, undefined-steps, recursive-steps, rule-steps, power-steps, both-steps, window-steps, window-behind-steps, no-window-steps, items-end-steps, items-next-steps, components-end-steps, components-next-steps, branches-end-steps, branches-next-steps, as-form, walk-in, branches-in, items-like, components-like, branches-as, count-at, tail-steps-at, power-stop, power-leaf, power-part}
-use Rattle.csn_resolve.proofs.Walking.WalkFacts.{behind-in, putting-in, items-at, components-at, branches-at, branch-left-as}
+use Rattle.csn_resolve.proofs.Walking.Inversion.{lits-steps, null-steps, bit-steps, octet-steps, labelled-steps, group-steps, seq-steps, choice-steps, cut-steps, sends-steps, built-in-steps, name-steps, undefined-steps, recursive-steps, rule-steps, power-steps, both-steps, window-steps, window-behind-steps, no-window-steps, items-end-steps, items-next-steps, branches-end-steps, branches-next-steps, as-form, walk-in, branches-in, items-like, branches-as, count-at, tail-steps-at, power-stop, power-leaf, power-part}
+use Rattle.csn_resolve.proofs.Walking.WalkFacts.{behind-in, putting-in, items-at, branches-at, branch-left-as}
 use Rattle.csn_resolve.proofs.walker.Walker.+walk.Goals as goal
 
 pub walk-returns-in-Lits : goal.walk-returns-in-Lits
@@ -113,8 +113,9 @@ walk-returns-in_ok-begun-in-Cut t c =
     λ steps h.
     let is = known c.args.x.now c.x.inside.span c.x.inside.form _ c.x.view_is c.in-Cut.is in
     let parts = cut-steps c.args.self.now.names.now c.args.self.now.reading (as-form c.args.self.now.names.now c.args.self.now.reading is h) in
-    let inner = components-like c.args.self.now.names.now c.args.self.now.reading (c.inside-in-Cut.ensures.around c.args.self.now.reading) refl refl parts.1 in
-    goes-after c.args.begun.nodes c.in_ok-begun-in-Cut.begun.nodes (node_at (around_view c.args.self.now.reading c.args.around) c.x.inside.span.start) parts.0 steps c.walk_components.result parts.2 c.in_ok-begun-in-Cut.ensures.steps (c.walk_components.ensures parts.0 inner)
+    let all : c.in-Cut.items ≡ take c.len-in-Cut.result c.in-Cut.items = sym (take_all c.len-in-Cut.result c.in-Cut.items (omega (arith, c.len-in-Cut.ensures.len))) in
+    let inner = items-like c.args.self.now.names.now c.args.self.now.reading (c.inside-in-Cut.ensures.around c.args.self.now.reading) refl (ap exprs_of all) parts.1 in
+    goes-after c.args.begun.nodes c.in_ok-begun-in-Cut.begun.nodes (node_at (around_view c.args.self.now.reading c.args.around) c.x.inside.span.start) parts.0 steps c.walk_items-in-Cut.result parts.2 c.in_ok-begun-in-Cut.ensures.steps (c.walk_items-in-Cut.ensures parts.0 inner)
 
 pub walk-returns-in_err-begun-in-Sends : goal.walk-returns-in_err-begun-in-Sends
 walk-returns-in_err-begun-in-Sends t c =
@@ -245,45 +246,9 @@ walk_branches-returns t c =
     let none : drop c.loop-at.at c.args.branches.now ≡ [] = drop_all c.loop-at.at c.args.branches.now (omega (arith, c.len-at-end.ensures.len)) in
     before.2 ∙ ap (way c.loop-at.begun.nodes) (branches-end-steps c.args.self.now.names.now c.args.self.now.reading (branches-as c.args.self.now.names.now c.args.self.now.reading (ap branches_of none) before.1))
 
-pub walk_components-walk-requires : goal.walk_components-walk-requires
-walk_components-walk-requires t c =
-    let size = item_size c.args.items.now c.loop-at.at c.get-item.result.now c.get-item.ensures in
-    rw c.behind.ensures.depth (omega (arith, size, c.decreases), omega (arith, size, c.requires))
-
-pub walk_components-returns-in_err-begun : goal.walk_components-returns-in_err-begun
-walk_components-returns-in_err-begun t c =
-    λ steps h.
-    let before = c.loop-at.invariant steps h in
-    let parts = components-next-steps c.args.self.now.names.now c.args.self.now.reading (components-at c.args.self.now.names.now c.args.self.now.reading c.args.items.now c.loop-at.at c.get-item.result.now c.get-item.ensures before.1) in
-    let first = walk-in c.args.self.now.names.now c.args.self.now.reading (c.behind.ensures.around c.args.self.now.reading) (behind-in c.args.self.now.names.now c.args.self.now.reading c.args.around c.args.items c.loop-at.at parts.3) in
-    exit-stops c.args.begun.nodes steps _ c.from_residual.result c.from_residual.ensures.1 (stops-same _ before.2 (stops-in c.loop-at.begun.nodes parts.0 _ before.0 _ parts.6 (c.in_err-begun.ensures parts.0 first)))
-
-pub walk_components-returns-in_err-leave_part : goal.walk_components-returns-in_err-leave_part
-walk_components-returns-in_err-leave_part t c =
-    λ steps h.
-    let before = c.loop-at.invariant steps h in
-    let parts = components-next-steps c.args.self.now.names.now c.args.self.now.reading (components-at c.args.self.now.names.now c.args.self.now.reading c.args.items.now c.loop-at.at c.get-item.result.now c.get-item.ensures before.1) in
-    let first = walk-in c.args.self.now.names.now c.args.self.now.reading (c.behind.ensures.around c.args.self.now.reading) (behind-in c.args.self.now.names.now c.args.self.now.reading c.args.around c.args.items c.loop-at.at parts.3) in
-    exit-stops c.args.begun.nodes steps _ c.from_residual-in_err-leave_part.result c.from_residual-in_err-leave_part.ensures.1 (stops-same _ before.2 (stops-second c.loop-at.begun.nodes c.in_ok-begun.begun.nodes parts.0 parts.1 parts.2 before.0 _ parts.6 (c.in_ok-begun.ensures parts.0 first) (c.in_err-leave_part.ensures parts.1 parts.4 c.in_ok-begun.begun.nodes)))
-
-pub walk_components-loop-at-preserved : goal.walk_components-loop-at-preserved
-walk_components-loop-at-preserved t c =
-    λ steps h.
-    let before = c.loop-at.invariant steps h in
-    let parts = components-next-steps c.args.self.now.names.now c.args.self.now.reading (components-at c.args.self.now.names.now c.args.self.now.reading c.args.items.now c.loop-at.at c.get-item.result.now c.get-item.ensures before.1) in
-    let first = walk-in c.args.self.now.names.now c.args.self.now.reading (c.behind.ensures.around c.args.self.now.reading) (behind-in c.args.self.now.names.now c.args.self.now.reading c.args.around c.args.items c.loop-at.at parts.3) in
-    (parts.2, components-like c.args.self.now.names.now c.args.self.now.reading refl (frame-more c.args.self.now.reading c.args.items.now c.loop-at.at c.get-item.result.now c.get-item.ensures) refl parts.5, before.2 ∙ way-third c.loop-at.begun.nodes c.in_ok-begun.begun.nodes c.in_ok-begun.begun.nodes parts.0 parts.1 parts.2 before.0 parts.6 (c.in_ok-begun.ensures parts.0 first) (c.in_ok-leave_part.ensures parts.1 parts.4 c.in_ok-begun.begun.nodes))
-
-pub walk_components-returns : goal.walk_components-returns
-walk_components-returns t c =
-    λ steps h.
-    let before = c.loop-at.invariant steps h in
-    let none : drop c.loop-at.at c.args.items.now ≡ [] = drop_all c.loop-at.at c.args.items.now (omega (arith, c.len-at-end.ensures.len)) in
-    before.2 ∙ ap (way c.loop-at.begun.nodes) (components-end-steps c.args.self.now.names.now c.args.self.now.reading (components-like c.args.self.now.names.now c.args.self.now.reading refl refl (ap exprs_of none) before.1))
-
 pub walk_items-walk-requires : goal.walk_items-walk-requires
 walk_items-walk-requires t c =
-    let size = item_size c.args.items.now c.loop-at.at c.get.result.now c.get.ensures in
+    let size = item_size c.args.items.now c.loop-at.at c.get-item.result.now c.get-item.ensures in
     rw c.behind.ensures.depth (omega (arith, size, c.decreases), omega (arith, size, c.requires.part))
 
 pub walk_items-returns-in_err-begun : goal.walk_items-returns-in_err-begun
@@ -291,18 +256,27 @@ walk_items-returns-in_err-begun t c =
     λ steps h.
     let before = c.loop-at.invariant steps h in
     let few : c.loop-at.at < c.args.count = c.loop-at-test.true in
-    let parts = items-next-steps c.args.self.now.names.now c.args.self.now.reading (items-at c.args.self.now.names.now c.args.self.now.reading (take c.args.count c.args.items.now) c.loop-at.at c.get.result.now (take_get c.args.items.now c.args.count c.loop-at.at c.get.result.now few c.get.ensures) before.1) in
-    let first = walk-in c.args.self.now.names.now c.args.self.now.reading (c.behind.ensures.around c.args.self.now.reading) (behind-in c.args.self.now.names.now c.args.self.now.reading c.args.around c.args.items c.loop-at.at parts.2) in
-    exit-stops c.args.begun.nodes steps _ c.from_residual.result c.from_residual.ensures.1 (stops-same _ before.2 (stops-in c.loop-at.begun.nodes parts.0 parts.1 before.0 _ parts.4 (c.in_err-begun.ensures parts.0 first)))
+    let parts = items-next-steps c.args.self.now.names.now c.args.self.now.reading (items-at c.args.self.now.names.now c.args.self.now.reading (take c.args.count c.args.items.now) c.loop-at.at c.get-item.result.now (take_get c.args.items.now c.args.count c.loop-at.at c.get-item.result.now few c.get-item.ensures) before.1) in
+    let first = walk-in c.args.self.now.names.now c.args.self.now.reading (c.behind.ensures.around c.args.self.now.reading) (behind-in c.args.self.now.names.now c.args.self.now.reading c.args.around c.args.items c.loop-at.at parts.3) in
+    exit-stops c.args.begun.nodes steps _ c.from_residual.result c.from_residual.ensures.1 (stops-same _ before.2 (stops-in c.loop-at.begun.nodes parts.0 _ before.0 _ parts.6 (c.in_err-begun.ensures parts.0 first)))
+
+pub walk_items-returns-in_err-leave_item : goal.walk_items-returns-in_err-leave_item
+walk_items-returns-in_err-leave_item t c =
+    λ steps h.
+    let before = c.loop-at.invariant steps h in
+    let few : c.loop-at.at < c.args.count = c.loop-at-test.true in
+    let parts = items-next-steps c.args.self.now.names.now c.args.self.now.reading (items-at c.args.self.now.names.now c.args.self.now.reading (take c.args.count c.args.items.now) c.loop-at.at c.get-item.result.now (take_get c.args.items.now c.args.count c.loop-at.at c.get-item.result.now few c.get-item.ensures) before.1) in
+    let first = walk-in c.args.self.now.names.now c.args.self.now.reading (c.behind.ensures.around c.args.self.now.reading) (behind-in c.args.self.now.names.now c.args.self.now.reading c.args.around c.args.items c.loop-at.at parts.3) in
+    exit-stops c.args.begun.nodes steps _ c.from_residual-in_err-leave_item.result c.from_residual-in_err-leave_item.ensures.1 (stops-same _ before.2 (stops-second c.loop-at.begun.nodes c.in_ok-begun.begun.nodes parts.0 parts.1 parts.2 before.0 _ parts.6 (c.in_ok-begun.ensures parts.0 first) (c.in_err-leave_item.ensures parts.1 parts.4 c.in_ok-begun.begun.nodes)))
 
 pub walk_items-loop-at-preserved : goal.walk_items-loop-at-preserved
 walk_items-loop-at-preserved t c =
     λ steps h.
     let before = c.loop-at.invariant steps h in
     let few : c.loop-at.at < c.args.count = c.loop-at-test.true in
-    let parts = items-next-steps c.args.self.now.names.now c.args.self.now.reading (items-at c.args.self.now.names.now c.args.self.now.reading (take c.args.count c.args.items.now) c.loop-at.at c.get.result.now (take_get c.args.items.now c.args.count c.loop-at.at c.get.result.now few c.get.ensures) before.1) in
-    let first = walk-in c.args.self.now.names.now c.args.self.now.reading (c.behind.ensures.around c.args.self.now.reading) (behind-in c.args.self.now.names.now c.args.self.now.reading c.args.around c.args.items c.loop-at.at parts.2) in
-    (parts.1, items-like c.args.self.now.names.now c.args.self.now.reading refl (frame-more c.args.self.now.reading c.args.items.now c.loop-at.at c.get.result.now c.get.ensures) refl parts.3, before.2 ∙ (ap (way c.loop-at.begun.nodes) parts.4 ∙ way-on c.loop-at.begun.nodes c.in_ok-begun.begun.nodes parts.0 parts.1 (c.in_ok-begun.ensures parts.0 first)))
+    let parts = items-next-steps c.args.self.now.names.now c.args.self.now.reading (items-at c.args.self.now.names.now c.args.self.now.reading (take c.args.count c.args.items.now) c.loop-at.at c.get-item.result.now (take_get c.args.items.now c.args.count c.loop-at.at c.get-item.result.now few c.get-item.ensures) before.1) in
+    let first = walk-in c.args.self.now.names.now c.args.self.now.reading (c.behind.ensures.around c.args.self.now.reading) (behind-in c.args.self.now.names.now c.args.self.now.reading c.args.around c.args.items c.loop-at.at parts.3) in
+    (parts.2, items-like c.args.self.now.names.now c.args.self.now.reading refl (frame-more c.args.self.now.reading c.args.items.now c.loop-at.at c.get-item.result.now c.get-item.ensures) refl parts.5, before.2 ∙ way-third c.loop-at.begun.nodes c.in_ok-begun.begun.nodes c.in_ok-begun.begun.nodes parts.0 parts.1 parts.2 before.0 parts.6 (c.in_ok-begun.ensures parts.0 first) (c.in_ok-leave_item.ensures parts.1 parts.4 c.in_ok-begun.begun.nodes))
 
 pub walk_items-returns : goal.walk_items-returns
 walk_items-returns t c =
