@@ -1,5 +1,6 @@
 //! The rows of `replay`.
 
+ghost use Rattle.std.specs.Prelude.{◌≤◌};
 ghost use Rattle.csn_replay.specs.declared.seen.Kind.TheVariants.{Length};
 
 use super::*;
@@ -104,7 +105,9 @@ bits 17
 }
 
 /// A watcher of bits alone, up to so many.
-fn of_bits(alloc: Global, most: u64) -> Result<Vec<Box<dyn Watcher>>, AllocError> {
+fn of_bits(alloc: Global, most: u64) -> Result<Vec<Box<dyn Watcher>>, AllocError>
+    requires { 1 ≤ most }
+{
     let mut watchers: Vec<Box<dyn Watcher>> = Vec::new(alloc);
     watchers.push(Box::new(alloc, BitsWatcher::new(most))?)?;
     Ok(watchers)
