@@ -65,9 +65,32 @@ fn two_leaves(alloc: Global, first: &[u8], second: &[u8]) -> Result<Tree, Fail> 
     row(alloc, trees)
 }
 
-// whether there are bits, and this block line is theirs
-fn is_line(alloc: Global, bits: Option<Bits>, line: &[u8]) -> Result<bool, Fail> {
-    match bits {
+// whether the tree is written as this block line
+fn is_written<L: Ledger>(
+    alloc: Global,
+    plan: &Plan,
+    tree: &Tree,
+    line: &[u8],
+    steps: &mut Steps<L>,
+) -> Result<bool, Fail> {
+    match encode(alloc, plan, tree, steps) {
+        Ok(bits) => {
+            let written = bits.to_hex_line(alloc).map_err(|_| "out of memory")?;
+            Ok(written.as_slice() == line)
+        }
+        Err(_) => Ok(false),
+    }
+}
+
+// whether the tree of the text is written as this block line, along the text
+fn is_written_along<L: Ledger>(
+    alloc: Global,
+    plan: &Plan,
+    text: &[u8],
+    line: &[u8],
+    steps: &mut Steps<L>,
+) -> Result<bool, Fail> {
+    match encode_text(alloc, plan, text, steps) {
         Some(bits) => {
             let written = bits.to_hex_line(alloc).map_err(|_| "out of memory")?;
             Ok(written.as_slice() == line)
@@ -97,11 +120,9 @@ fn writes<L: Ledger, R: Abort>(rt: &R, alloc: Global, blank: Blank) -> Result<()
     let mut steps = Steps::<L>::new(blank);
     let plan = two_fields(alloc)?;
     let tree = two_leaves(alloc, &[1, 0, 1], &[0, 1, 0, 1])?;
-    let written = encode(alloc, &plan, &tree, &mut steps).ok();
-    assert!(rt; is_line(alloc, written, b"A5")?);
+    assert!(rt; is_written(alloc, &plan, &tree, b"A5", &mut steps)?);
     let text = b"[<A>=3'5 . <B>=4'5]";
-    let written = encode_text(alloc, &plan, text, &mut steps);
-    assert!(rt; is_line(alloc, written, b"A5")?);
+    assert!(rt; is_written_along(alloc, &plan, text, b"A5", &mut steps)?);
     assert!(rt; encode_text(alloc, &plan, b"[<A>=3'5 . <B>=5'5]", &mut steps).is_none());
     let wide = two_leaves(alloc, &[1, 0, 1], &[0, 1, 0, 1, 1])?;
     let Some(misfit) = miss_of(alloc, &plan, &wide, &mut steps) else {
