@@ -70,6 +70,90 @@ const ROWS: &str = "\
 <M> ::= <A : bit (3)> { 0 | 1 <M> } ; @ received @ A0/4 @ ok
 <M> ::= <A : bit (3)> { 0 | 1 <M> } ; @ received @ B0/4 @ no 4 ended";
 
+/// A description, the pieces of a block, what is answered for each of them, how many bits were seen by then, and
+/// what is answered at the end.
+struct InPieces {
+    text: &'static str,
+    lines: &'static [&'static str],
+    answers: &'static [Verdict],
+    seen: u32,
+    end: Judged,
+}
+
+const IN_PIECES: &[InPieces] = &[
+    InPieces {
+        text: WINDOW,
+        lines: &["00/1", "00/1", "00/1", "00/1", "00/1", "00/1"],
+        answers: &[
+            Verdict::Going,
+            Verdict::Going,
+            Verdict::Going,
+            Verdict::Going,
+            Verdict::Refused { place: 4 },
+            Verdict::Refused { place: 4 },
+        ],
+        seen: 5,
+        end: Judged::Refused { place: 4 },
+    },
+    InPieces {
+        text: CHOICE,
+        lines: &["80/1"],
+        answers: &[Verdict::Going],
+        seen: 1,
+        end: Judged::Refused { place: 1 },
+    },
+    InPieces {
+        text: CHOICE,
+        lines: &["80/1", "80/1"],
+        answers: &[Verdict::Going, Verdict::Going],
+        seen: 2,
+        end: Judged::Ok,
+    },
+    InPieces {
+        text: FIELDS,
+        lines: &["A0/3", "A8/5"],
+        answers: &[Verdict::Going, Verdict::Refused { place: 3 }],
+        seen: 8,
+        end: Judged::Refused { place: 3 },
+    },
+    InPieces {
+        text: FIELDS,
+        lines: &["A0/3", ".", "28/5"],
+        answers: &[Verdict::Going, Verdict::Going, Verdict::Going],
+        seen: 8,
+        end: Judged::Ok,
+    },
+];
+
+/// `A5` in single bits.
+const SINGLE_BITS: &[&str] = &[
+    "80/1", "00/1", "80/1", "00/1", "00/1", "80/1", "00/1", "80/1",
+];
+
+/// What is told of `A5` by the description of two fields.
+const MOVES: &[Move] = &[
+    Move::Enter(0),
+    Move::Enter(1),
+    Move::Enter(2),
+    Move::Bit(1),
+    Move::Bit(0),
+    Move::Bit(1),
+    Move::Leave,
+    Move::Leave,
+    Move::Enter(3),
+    Move::Bit(0),
+    Move::Leave,
+    Move::Enter(4),
+    Move::Enter(5),
+    Move::Bit(0),
+    Move::Bit(1),
+    Move::Bit(0),
+    Move::Bit(1),
+    Move::Leave,
+    Move::Leave,
+    Move::Leave,
+];
+
 /// Keeps the moves that are told.
 #[derive(Drop)]
 struct Kept {
@@ -360,73 +444,33 @@ fn each_front_of_a_block_is_judged(rt: HostRuntime) -> Result<(), Fail> {
     Ok(())
 }
 
+/// The pieces of a block are answered as they come.
+fn expect_pieces(rt: &impl Abort, alloc: Global, case: &InPieces) -> Result<(), Fail> {
+    let text = case.text;
+    let plan = plan_of(alloc, text, "M", Reading::Received)?;
+    let pieces = pieces_of(alloc, case.lines)?;
+    let came = came_of(alloc, &plan, &pieces)?;
+    assert_eq!(rt; came.answers.as_slice(), case.answers, "{text}");
+    assert_eq!(rt; came.seen, case.seen, "{text}");
+    assert_eq!(rt; came.end, case.end, "{text}");
+    Ok(())
+}
+
 #[test]
 fn each_piece_is_answered(rt: HostRuntime) -> Result<(), Fail> {
-    let alloc = rt.alloc();
-    let going = Verdict::Going;
-    let third = Verdict::Refused { place: 3 };
-    let fourth = Verdict::Refused { place: 4 };
-    for (text, lines, answers, seen, end) in [
-        (
-            WINDOW,
-            ["00/1"; 6].as_slice(),
-            [going, going, going, going, fourth, fourth].as_slice(),
-            5,
-            Judged::Refused { place: 4 },
-        ),
-        (CHOICE, &["80/1"], &[going], 1, Judged::Refused { place: 1 }),
-        (CHOICE, &["80/1", "80/1"], &[going, going], 2, Judged::Ok),
-        (
-            FIELDS,
-            &["A0/3", "A8/5"],
-            &[going, third],
-            8,
-            Judged::Refused { place: 3 },
-        ),
-        (FIELDS, &["A0/3", ".", "28/5"], &[going; 3], 8, Judged::Ok),
-    ] {
-        let plan = plan_of(alloc, text, "M", Reading::Received)?;
-        let pieces = pieces_of(alloc, lines)?;
-        let came = came_of(alloc, &plan, &pieces)?;
-        assert_eq!(rt; came.answers.as_slice(), answers, "{text}");
-        assert_eq!(rt; (came.seen, came.end), (seen, end), "{text}");
+    for case in IN_PIECES {
+        expect_pieces(&rt, rt.alloc(), case)?;
     }
     Ok(())
 }
 
 #[test]
 fn moves_are_told(rt: HostRuntime) -> Result<(), Fail> {
-    let alloc = rt.alloc();
-    let plan = plan_of(alloc, FIELDS, "M", Reading::Received)?;
-    let moves = [
-        Move::Enter(0),
-        Move::Enter(1),
-        Move::Enter(2),
-        Move::Bit(1),
-        Move::Bit(0),
-        Move::Bit(1),
-        Move::Leave,
-        Move::Leave,
-        Move::Enter(3),
-        Move::Bit(0),
-        Move::Leave,
-        Move::Enter(4),
-        Move::Enter(5),
-        Move::Bit(0),
-        Move::Bit(1),
-        Move::Bit(0),
-        Move::Bit(1),
-        Move::Leave,
-        Move::Leave,
-        Move::Leave,
-    ];
-    let single = [
-        "80/1", "00/1", "80/1", "00/1", "00/1", "80/1", "00/1", "80/1",
-    ];
-    for lines in [["A5"].as_slice(), &single] {
-        let pieces = pieces_of(alloc, lines)?;
-        let came = came_of(alloc, &plan, &pieces)?;
-        assert_eq!(rt; came.moves.as_slice(), moves.as_slice());
+    let plan = plan_of(rt.alloc(), FIELDS, "M", Reading::Received)?;
+    for lines in [["A5"].as_slice(), SINGLE_BITS] {
+        let pieces = pieces_of(rt.alloc(), lines)?;
+        let came = came_of(rt.alloc(), &plan, &pieces)?;
+        assert_eq!(rt; came.moves.as_slice(), MOVES);
         assert_eq!(rt; came.end, Judged::Ok);
     }
     Ok(())

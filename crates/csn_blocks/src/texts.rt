@@ -1,48 +1,63 @@
 //! The rules of a text: where a text has none, and where the parts of a rule stand.
 
 use csn_grammar::{Expr, Form, GrammarFault, Span, read_rules};
+use std::alloc::Global;
+use std::process::Abort;
 use std::test::Fail;
+
+// A text without rules, and where it has none.
+const WITHOUT_RULES: &[(&[u8], u32)] = &[
+    (b"", 0),
+    (b"\xFF\x00", 0),
+    (b"<> ::= 0 ;", 1),
+    (b"<M> 0 ;", 4),
+    (b"<M> ::= ;", 8),
+    (b"<M> ::= 02 ;", 8),
+    (b"<M> ::= 0 # ;", 10),
+    (b"<M> ::= 0 (2) ;", 10),
+    (b"<M> ::= { 0 ;", 12),
+    (b"<M> ::= 0 -- x", 14),
+    (b"<M> ::= <A : bit ;", 17),
+    (b"<M> ::= bit (** ;", 16),
+    (b"<M> ::= bit (1234567890) ;", 13),
+    (b"<M> ::= bit (1 + 2) ;", 18),
+    (b"<M> ::= bit (val (N) * 2 * 3) ;", 25),
+    (b"<M> ::= 0 // 1 ;", 13),
+    (b"<M> ::= { 0 } // (2) ;", 17),
+    (b"<M> ::= bit & 0 & 1 ;", 16),
+    (b"<M> ::= 0 = bit & 0 ;", 16),
+];
+
+fn expect_no_rules(rt: &impl Abort, alloc: Global, text: &[u8], place: u32) -> Result<(), Fail> {
+    if text.len() > 262_144 {
+        return Err("the text is too long".into());
+    }
+    let fault = read_rules(alloc, text).err();
+    assert_eq!(rt; fault, Some(GrammarFault::Syntax { place }), "at {place}");
+    Ok(())
+}
 
 #[test]
 fn texts_without_rules_have_a_place(rt: HostRuntime) -> Result<(), Fail> {
-    let alloc = rt.alloc();
-    let mut braces = Vec::from_slice(alloc, b"<M> ::= ")?;
-    braces.extend_from_slice(&vec![in alloc; b'{'; 64]?)?;
-    let mut labelled = Vec::from_slice(alloc, braces.as_slice())?;
-    braces.push(b'{')?;
-    labelled.extend_from_slice(b"<A : bit")?;
-    for (text, place) in [
-        (b"".as_slice(), 0),
-        (b"\xFF\x00", 0),
-        (b"<> ::= 0 ;", 1),
-        (b"<M> 0 ;", 4),
-        (b"<M> ::= ;", 8),
-        (b"<M> ::= 02 ;", 8),
-        (b"<M> ::= 0 # ;", 10),
-        (b"<M> ::= 0 (2) ;", 10),
-        (b"<M> ::= { 0 ;", 12),
-        (b"<M> ::= 0 -- x", 14),
-        (b"<M> ::= <A : bit ;", 17),
-        (b"<M> ::= bit (** ;", 16),
-        (b"<M> ::= bit (1234567890) ;", 13),
-        (b"<M> ::= bit (1 + 2) ;", 18),
-        (b"<M> ::= bit (val (N) * 2 * 3) ;", 25),
-        (b"<M> ::= 0 // 1 ;", 13),
-        (b"<M> ::= { 0 } // (2) ;", 17),
-        (b"<M> ::= bit & 0 & 1 ;", 16),
-        (b"<M> ::= 0 = bit & 0 ;", 16),
-        (&braces, 72),
-        (&labelled, 75),
-    ] {
-        assert!(rt; text.len() <= 262_144);
-        let fault = read_rules(alloc, text).err();
-        assert_eq!(rt;
-            fault,
-            Some(GrammarFault::Syntax { place }),
-            "at place {place}"
-        );
+    for &(text, place) in WITHOUT_RULES {
+        expect_no_rules(&rt, rt.alloc(), text, place)?;
     }
     Ok(())
+}
+
+// A rule of so many braces that open, and what stands behind them.
+fn braced(alloc: Global, braces: usize, behind: &[u8]) -> Result<Vec<u8>, Fail> {
+    let mut text = Vec::from_slice(alloc, b"<M> ::= ")?;
+    text.extend_from_slice(&vec![in alloc; b'{'; braces]?)?;
+    text.extend_from_slice(behind)?;
+    Ok(text)
+}
+
+#[test]
+fn braces_are_at_most_64(rt: HostRuntime) -> Result<(), Fail> {
+    let alloc = rt.alloc();
+    expect_no_rules(&rt, alloc, &braced(alloc, 65, b"")?, 72)?;
+    expect_no_rules(&rt, alloc, &braced(alloc, 64, b"<A : bit")?, 75)
 }
 
 // Where an expression stands.

@@ -40,35 +40,33 @@ fn read(
     text.end(out).map_err(|_| "out of memory".into())
 }
 
-// all lines of a table by one value, in pieces of so many bytes
+// A line, what it comes to, and what is written of it.
+const LINES: &[(&[u8], LineEnd, &[u8])] = &[
+    (b"25", LineEnd::Text { bits: 8 }, b"[. 7'37]"),
+    (b"20/4", LineEnd::Text { bits: 4 }, b"[. 3'2]"),
+    (b"A5", LineEnd::Refused { place: 0, bits: 8 }, b""),
+    (
+        b"00112233445566778899aabb",
+        LineEnd::Text { bits: 96 },
+        b"[. x0022446688AACCEF11335576/7]",
+    ),
+    (b".", LineEnd::Refused { place: 0, bits: 0 }, b""),
+    (b"00/1", LineEnd::Text { bits: 1 }, b"[. b]"),
+    (
+        b"A5A5A5 A5",
+        LineEnd::Fault(LineWhy::BadDigit { column: 6 }),
+        b"",
+    ),
+    (b"255", LineEnd::Fault(LineWhy::BadLength), b""),
+    (b"2525/4", LineEnd::Fault(LineWhy::BadFill), b""),
+    (b"25", LineEnd::Text { bits: 8 }, b"[. 7'37]"),
+];
+
+// all lines of the table by one value, in pieces of so many bytes
 fn reads<R: Abort>(rt: &R, alloc: Global, text: &mut LineText<'_>, size: usize) -> Result<(), Fail>
     requires { 0 < size }
 {
-    let place = 0;
-    for (line, want, written) in [
-        (
-            b"25".as_slice(),
-            LineEnd::Text { bits: 8 },
-            b"[. 7'37]".as_slice(),
-        ),
-        (b"20/4", LineEnd::Text { bits: 4 }, b"[. 3'2]"),
-        (b"A5", LineEnd::Refused { place, bits: 8 }, b""),
-        (
-            b"00112233445566778899aabb",
-            LineEnd::Text { bits: 96 },
-            b"[. x0022446688AACCEF11335576/7]",
-        ),
-        (b".", LineEnd::Refused { place, bits: 0 }, b""),
-        (b"00/1", LineEnd::Text { bits: 1 }, b"[. b]"),
-        (
-            b"A5A5A5 A5",
-            LineEnd::Fault(LineWhy::BadDigit { column: 6 }),
-            b"",
-        ),
-        (b"255", LineEnd::Fault(LineWhy::BadLength), b""),
-        (b"2525/4", LineEnd::Fault(LineWhy::BadFill), b""),
-        (b"25", LineEnd::Text { bits: 8 }, b"[. 7'37]"),
-    ] {
+    for &(line, want, written) in LINES {
         let mut out = Vec::new(alloc);
         assert_eq!(rt; read(text, line, size, &mut out)?, want);
         assert!(rt; out.as_slice() == written);

@@ -1,7 +1,9 @@
 use crate::building::{bits, enter, finished, labelled, leaf, leave, literal, word_of};
 use csn_certify::{CertifyFault, Conflict, certify};
 use csn_desc::{Desc, DescBuilder, Head, Reading, Symbol};
+use csn_look::Word;
 use std::alloc::Global;
+use std::process::Abort;
 use std::test::Fail;
 
 /// What comes next in a description: a node that has parts, a part, or the end of a node's parts.
@@ -78,45 +80,50 @@ fn nodes(alloc: Global, steps: &[Step]) -> Result<u16, Fail> {
     }
 }
 
+/// A description has this conflict.
+fn expect(rt: &impl Abort, alloc: Global, steps: &[Step], conflict: Conflict) -> Result<(), Fail> {
+    assert_eq!(rt; told(alloc, steps)?, Some(conflict));
+    Ok(())
+}
+
+/// The first two alternatives of the first node begin with this word at octet position 0.
+fn overlap(word: Word) -> Conflict {
+    Conflict::Overlap {
+        node: 0,
+        octet: 0,
+        i: 0,
+        j: 1,
+        word_i: word,
+        word_j: word,
+    }
+}
+
 #[test]
-fn alternatives_that_are_not_told_apart(rt: HostRuntime) -> Result<(), Fail> {
-    use Step::{Bits, Choice, End, Null, Seq};
+fn alternatives_that_begin_alike(rt: HostRuntime) -> Result<(), Fail> {
+    use Step::{Bits, Choice, End, Seq};
     let alloc = rt.alloc();
     // { 0 1 | 0 <A : bit> }
     let steps = [Choice, Seq, ZERO, ONE, End, Seq, ZERO, Bits(1), End, End];
-    let overlap = Conflict::Overlap {
-        node: 0,
-        octet: 0,
-        i: 0,
-        j: 1,
-        word_i: word_of(&[0, 1])?,
-        word_j: word_of(&[0, 1])?,
-    };
-    assert_eq!(rt; told(alloc, &steps)?, Some(overlap));
+    expect(&rt, alloc, &steps, overlap(word_of(&[0, 1])?))?;
     // { L | 0 }
     let steps = [Choice, LOW, ZERO, End];
-    let overlap = Conflict::Overlap {
-        node: 0,
-        octet: 0,
-        i: 0,
-        j: 1,
-        word_i: word_of(&[0])?,
-        word_j: word_of(&[0])?,
-    };
-    assert_eq!(rt; told(alloc, &steps)?, Some(overlap));
+    expect(&rt, alloc, &steps, overlap(word_of(&[0])?))
+}
+
+#[test]
+fn alternatives_that_may_have_no_bits(rt: HostRuntime) -> Result<(), Fail> {
+    use Step::{Bits, Choice, End, Null, Seq};
+    let alloc = rt.alloc();
     // { null | null }
     let empty = Conflict::TwoEmpty {
         node: 0,
         i: 0,
         j: 1,
     };
-    assert_eq!(rt; told(alloc, &[Choice, Null, Null, End])?, Some(empty));
+    expect(&rt, alloc, &[Choice, Null, Null, End], empty)?;
     // { 0 | { null | 1 } }
     let steps = [Choice, ZERO, Choice, Null, ONE, End, End];
-    assert_eq!(rt;
-        told(alloc, &steps)?,
-        Some(Conflict::NotFirm { node: 0, i: 1 })
-    );
+    expect(&rt, alloc, &steps, Conflict::NotFirm { node: 0, i: 1 })?;
     // { null | 1 <A : bit> } 1 <A : bit>
     let steps = [
         Seq,
@@ -136,8 +143,7 @@ fn alternatives_that_are_not_told_apart(rt: HostRuntime) -> Result<(), Fail> {
         octet: 0,
         bit: 1,
     };
-    assert_eq!(rt; told(alloc, &steps)?, Some(clash));
-    Ok(())
+    expect(&rt, alloc, &steps, clash)
 }
 
 #[test]
@@ -151,14 +157,13 @@ fn parts_whose_end_is_not_told(rt: HostRuntime) -> Result<(), Fail> {
         octet: 0,
         bit: 1,
     };
-    assert_eq!(rt; told(alloc, &steps)?, Some(clash));
+    expect(&rt, alloc, &steps, clash)?;
     // bit ** 1
     let last = Conflict::NotLast { node: 1, octet: 0 };
-    assert_eq!(rt; told(alloc, &[Seq, Rest, ONE, End])?, Some(last));
+    expect(&rt, alloc, &[Seq, Rest, ONE, End], last)?;
     // { <A : bit (**)> } **
     let soft = Conflict::NotFirm { node: 0, i: 0 };
-    assert_eq!(rt; told(alloc, &[Many, Any, End])?, Some(soft));
-    Ok(())
+    expect(&rt, alloc, &[Many, Any, End], soft)
 }
 
 #[test]

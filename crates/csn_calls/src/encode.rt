@@ -65,38 +65,13 @@ fn two_leaves(alloc: Global, first: &[u8], second: &[u8]) -> Result<Tree, Fail> 
     row(alloc, trees)
 }
 
-// whether the tree is written as this block line
-fn is_written<L: Ledger>(
-    alloc: Global,
-    plan: &Plan,
-    tree: &Tree,
-    line: &[u8],
-    steps: &mut Steps<L>,
-) -> Result<bool, Fail> {
-    match encode(alloc, plan, tree, steps) {
-        Ok(bits) => {
-            let written = bits.to_hex_line(alloc).map_err(|_| "out of memory")?;
-            Ok(written.as_slice() == line)
-        }
-        Err(_) => Ok(false),
-    }
-}
-
-// whether the tree of the text is written as this block line, along the text
-fn is_written_along<L: Ledger>(
-    alloc: Global,
-    plan: &Plan,
-    text: &[u8],
-    line: &[u8],
-    steps: &mut Steps<L>,
-) -> Result<bool, Fail> {
-    match encode_text(alloc, plan, text, steps) {
-        Some(bits) => {
-            let written = bits.to_hex_line(alloc).map_err(|_| "out of memory")?;
-            Ok(written.as_slice() == line)
-        }
-        None => Ok(false),
-    }
+// whether what was written is this block line
+fn is_line(alloc: Global, written: Option<Bits>, line: &[u8]) -> Result<bool, Fail> {
+    let Some(bits) = written else {
+        return Ok(false);
+    };
+    let written = bits.to_hex_line(alloc).map_err(|_| "out of memory")?;
+    Ok(written.as_slice() == line)
 }
 
 // why and where the tree misses
@@ -112,6 +87,17 @@ fn miss_of<L: Ledger>(
     }
 }
 
+// the second field is a bit too wide: the third tree of the row, and there what is labelled
+fn expect_wide<R: Abort>(rt: &R, misfit: &Misfit) {
+    let why = MisfitWhy::WrongWidth {
+        wanted: 4,
+        found: 5,
+    };
+    assert_eq!(rt; misfit.why, why);
+    assert_eq!(rt; misfit.path.len(), 2);
+    assert_eq!(rt; (misfit.path.get(0), misfit.path.get(1)), (2, 0));
+}
+
 fn writes<L: Ledger, R: Abort>(rt: &R, alloc: Global, blank: Blank) -> Result<(), Fail>
     requires name { blank.name ≡ L.name }
     requires parts { blank.parts ≡ L.parts }
@@ -120,22 +106,17 @@ fn writes<L: Ledger, R: Abort>(rt: &R, alloc: Global, blank: Blank) -> Result<()
     let mut steps = Steps::<L>::new(blank);
     let plan = two_fields(alloc)?;
     let tree = two_leaves(alloc, &[1, 0, 1], &[0, 1, 0, 1])?;
-    assert!(rt; is_written(alloc, &plan, &tree, b"A5", &mut steps)?);
-    let text = b"[<A>=3'5 . <B>=4'5]";
-    assert!(rt; is_written_along(alloc, &plan, text, b"A5", &mut steps)?);
-    assert!(rt; encode_text(alloc, &plan, b"[<A>=3'5 . <B>=5'5]", &mut steps).is_none());
+    let written = encode(alloc, &plan, &tree, &mut steps).ok();
+    assert!(rt; is_line(alloc, written, b"A5")?);
+    let written = encode_text(alloc, &plan, b"[<A>=3'5 . <B>=4'5]", &mut steps);
+    assert!(rt; is_line(alloc, written, b"A5")?);
+    let written = encode_text(alloc, &plan, b"[<A>=3'5 . <B>=5'5]", &mut steps);
+    assert!(rt; written.is_none());
     let wide = two_leaves(alloc, &[1, 0, 1], &[0, 1, 0, 1, 1])?;
     let Some(misfit) = miss_of(alloc, &plan, &wide, &mut steps) else {
         return Err("it does not miss".into());
     };
-    let why = MisfitWhy::WrongWidth {
-        wanted: 4,
-        found: 5,
-    };
-    assert_eq!(rt; misfit.why, why);
-    // the third tree of the row, and what is labelled
-    assert_eq!(rt; misfit.path.len(), 2);
-    assert_eq!(rt; (misfit.path.get(0), misfit.path.get(1)), (2, 0));
+    expect_wide(rt, &misfit);
     Ok(())
 }
 

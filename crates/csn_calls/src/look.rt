@@ -59,34 +59,57 @@ pub(crate) fn marks_of(set: OctetSet) -> u8 {
     marks
 }
 
+/// A set, by how much it is turned, and what comes of it.
+const TURNS: &[(u8, u8, u8)] = &[
+    (0b0000_0001, 3, 0b0000_1000),
+    (0b1000_0001, 1, 0b0000_0011),
+    (0b0010_0000, 0, 0b0010_0000),
+];
+
+/// Two sets, their sums and their union.
+const SUMS: &[(u8, u8, u8, u8)] = &[
+    (0b0000_0110, 0b1000_0001, 0b0000_0111, 0b1000_0111),
+    (0b0000_0000, 0b0000_0001, 0b0000_0000, 0b0000_0001),
+    (0b1000_0000, 0b1000_0000, 0b0100_0000, 0b1000_0000),
+];
+
+/// A set, how often it is added, and the sums.
+const TIMES: &[(u8, u32, u8)] = &[
+    (0b0000_1000, 5, 0b1000_0000),
+    (0b0000_0011, 3, 0b0000_1111),
+    (0b0000_1010, 2, 0b0101_0100),
+    (0b0000_0100, 65536, 0b0000_0001),
+    (0b0000_0010, 65535, 0b1000_0000),
+    (0b0010_0000, 0, 0b0000_0001),
+    (0b0000_0000, 1, 0b0000_0000),
+];
+
+/// A set, and its sums where it is added any number of times.
+const REPEATED: &[(u8, u8)] = &[
+    (0b0000_0000, 0b0000_0001),
+    (0b0000_0100, 0b0101_0101),
+    (0b0100_0000, 0b0101_0101),
+    (0b0001_0000, 0b0001_0001),
+    (0b0000_1000, 0b1111_1111),
+    (0b0010_0100, 0b1111_1111),
+];
+
 #[test]
-fn lengths_add_and_turn(rt: HostRuntime) -> Result<(), Fail> {
+fn lengths_turn(rt: HostRuntime) -> Result<(), Fail> {
     assert_eq!(rt; marks_of(OctetSet::all()), 0b1111_1111);
-    let turns = [
-        (0b0000_0001, 3, 0b0000_1000),
-        (0b1000_0001, 1, 0b0000_0011),
-        (0b0010_0000, 0, 0b0010_0000),
-    ];
-    for (set, by, turned) in turns {
+    for &(set, by, turned) in TURNS {
         assert!(rt; by <= 7);
         assert_eq!(rt; marks_of(set_of(set).turned(by)), turned, "{set:b} by {by}");
     }
-    let sums = [
-        (0b0000_0110, 0b1000_0001, 0b0000_0111, 0b1000_0111),
-        (0b0000_0000, 0b0000_0001, 0b0000_0000, 0b0000_0001),
-        (0b1000_0000, 0b1000_0000, 0b0100_0000, 0b1000_0000),
-    ];
-    for (left, right, plus, union) in sums {
-        assert_eq!(rt;
-            marks_of(set_of(left).plus(set_of(right))),
-            plus,
-            "{left:b} {right:b}"
-        );
-        assert_eq!(rt;
-            marks_of(set_of(left).union(set_of(right))),
-            union,
-            "{left:b} {right:b}"
-        );
+    Ok(())
+}
+
+#[test]
+fn lengths_add(rt: HostRuntime) -> Result<(), Fail> {
+    for &(left, right, plus, union) in SUMS {
+        let (left, right) = (set_of(left), set_of(right));
+        assert_eq!(rt; marks_of(left.plus(right)), plus, "{plus:b}");
+        assert_eq!(rt; marks_of(left.union(right)), union, "{union:b}");
     }
     // from 1 one bit and from 6 four bits lead to 2
     assert_eq!(rt;
@@ -98,27 +121,10 @@ fn lengths_add_and_turn(rt: HostRuntime) -> Result<(), Fail> {
 
 #[test]
 fn lengths_are_repeated(rt: HostRuntime) -> Result<(), Fail> {
-    let times = [
-        (0b0000_1000, 5, 0b1000_0000),
-        (0b0000_0011, 3, 0b0000_1111),
-        (0b0000_1010, 2, 0b0101_0100),
-        (0b0000_0100, 65536, 0b0000_0001),
-        (0b0000_0010, 65535, 0b1000_0000),
-        (0b0010_0000, 0, 0b0000_0001),
-        (0b0000_0000, 1, 0b0000_0000),
-    ];
-    for (set, n, sums) in times {
+    for &(set, n, sums) in TIMES {
         assert_eq!(rt; marks_of(set_of(set).times(n)), sums, "{set:b} {n} times");
     }
-    let any = [
-        (0b0000_0000, 0b0000_0001),
-        (0b0000_0100, 0b0101_0101),
-        (0b0100_0000, 0b0101_0101),
-        (0b0001_0000, 0b0001_0001),
-        (0b0000_1000, 0b1111_1111),
-        (0b0010_0100, 0b1111_1111),
-    ];
-    for (set, sums) in any {
+    for &(set, sums) in REPEATED {
         assert_eq!(rt; marks_of(set_of(set).repeated()), sums, "{set:b}");
     }
     Ok(())

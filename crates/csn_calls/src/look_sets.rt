@@ -1,7 +1,7 @@
 use crate::building::{bits, enter, finished, labelled, leaf, leave, literal, word_of};
 use crate::look::marks_of;
 use csn_desc::{Count, Desc, DescBuilder, Head, Reading, Symbol};
-use csn_look::{Begins, Look, Reach, Sign};
+use csn_look::{Begins, Look, Reach, Sign, SymbolSet};
 use std::alloc::Global;
 use std::test::Fail;
 
@@ -83,34 +83,35 @@ const NOT_FIRM: [SetsCase; 5] = [
     (18, true, false, 0b0000_0001, 0b1111_1111),
 ];
 
+/// At the octet positions from 0 on the padding pattern has 0, 0, 1, 0, 1, 0, 1, 1.
+const KEYS: &[KeysCase] = &[
+    (0, 0, 96, &[0, 1, 0, 0, 0, 0, 0], false),
+    (1, 0, 3, &[0, 1], true),
+    (2, 0, 1, &[0, 1], true),
+    (3, 0, 2, &[1, 0, 0], true),
+    (4, 3, 1, &[1, 0], true),
+    (5, 0, 2, &[0], true),
+    (6, 2, 2, &[0], true),
+    (7, 0, 4, &[0, 0], true),
+    (9, 1, 8, &[0, 0, 0], true),
+    (11, 5, 1, &[], false),
+    (12, 0, 1, &[], false),
+    (13, 0, 1, &[], false),
+    (14, 0, 1, &[1], true),
+    (15, 4, 1, &[], false),
+    (16, 2, 1, &[1], true),
+    (16, 3, 1, &[0], true),
+    (17, 0, 1, &[0], true),
+    (18, 0, 1, &[], true),
+    (19, 6, 1, &[1], false),
+    (19, 0, 1, &[0], false),
+];
+
 #[test]
 fn nodes_have_their_keys(rt: HostRuntime) -> Result<(), Fail> {
     let desc = every_kind(rt.alloc())?;
     let look = Look::new(rt.alloc(), &desc)?;
-    // at the octet positions from 0 on the padding pattern has 0, 0, 1, 0, 1, 0, 1, 1
-    let cases: [KeysCase; 20] = [
-        (0, 0, 96, &[0, 1, 0, 0, 0, 0, 0], false),
-        (1, 0, 3, &[0, 1], true),
-        (2, 0, 1, &[0, 1], true),
-        (3, 0, 2, &[1, 0, 0], true),
-        (4, 3, 1, &[1, 0], true),
-        (5, 0, 2, &[0], true),
-        (6, 2, 2, &[0], true),
-        (7, 0, 4, &[0, 0], true),
-        (9, 1, 8, &[0, 0, 0], true),
-        (11, 5, 1, &[], false),
-        (12, 0, 1, &[], false),
-        (13, 0, 1, &[], false),
-        (14, 0, 1, &[1], true),
-        (15, 4, 1, &[], false),
-        (16, 2, 1, &[1], true),
-        (16, 3, 1, &[0], true),
-        (17, 0, 1, &[0], true),
-        (18, 0, 1, &[], true),
-        (19, 6, 1, &[1], false),
-        (19, 0, 1, &[0], false),
-    ];
-    for (node, octet, count, first, whole) in cases {
+    for &(node, octet, count, first, whole) in KEYS {
         assert!(rt; node < desc.len() && octet <= 7);
         let keys = look.keys(rt.alloc(), node, octet)?;
         assert_eq!(rt; keys.len(), count, "{node} at {octet}");
@@ -139,34 +140,32 @@ fn nodes_have_their_sets(rt: HostRuntime) -> Result<(), Fail> {
     Ok(())
 }
 
+/// Whether a set has 0, 1 and the end.
+fn signs_of(set: SymbolSet) -> (bool, bool, bool) {
+    (set.has(Sign::Zero), set.has(Sign::One), set.has(Sign::End))
+}
+
+/// A node, and whether 0, 1 and the end may come first at octet position 3, and may follow there.
+type SignsCase = (u16, (bool, bool, bool), (bool, bool, bool));
+
+const SIGNS: &[SignsCase] = &[
+    (1, (true, true, false), (true, true, false)),
+    (12, (true, true, true), (false, false, true)),
+    (13, (true, true, false), (true, true, false)),
+    (14, (false, true, false), (true, true, false)),
+    (19, (true, false, false), (false, false, true)),
+];
+
 #[test]
 fn signs_follow_and_come_first(rt: HostRuntime) -> Result<(), Fail> {
-    // whether 0, 1 and the end may come first at octet position 3, and may follow there
-    let cases = [
-        (1, (true, true, false), (true, true, false)),
-        (12, (true, true, true), (false, false, true)),
-        (13, (true, true, false), (true, true, false)),
-        (14, (false, true, false), (true, true, false)),
-        (19, (true, false, false), (false, false, true)),
-    ];
     let desc = every_kind(rt.alloc())?;
     let look = Look::new(rt.alloc(), &desc)?;
     let reach = Reach::new(rt.alloc(), &desc, &look)?;
-    for (node, first, follow) in cases {
+    for &(node, first, follow) in SIGNS {
         assert!(rt; node < desc.len());
         let after = reach.follow(node);
-        let at = after.at(3);
-        assert_eq!(rt;
-            (at.has(Sign::Zero), at.has(Sign::One), at.has(Sign::End)),
-            follow,
-            "{node}"
-        );
-        let may = look.first(node, 3, &after);
-        assert_eq!(rt;
-            (may.has(Sign::Zero), may.has(Sign::One), may.has(Sign::End)),
-            first,
-            "{node}"
-        );
+        assert_eq!(rt; signs_of(after.at(3)), follow, "{node}");
+        assert_eq!(rt; signs_of(look.first(node, 3, &after)), first, "{node}");
     }
     Ok(())
 }
@@ -196,6 +195,15 @@ fn doubled(alloc: Global, builder: &mut DescBuilder, levels: u8) -> Result<(), F
     leave(builder)
 }
 
+/// A node, its one key at octet position 5, and whether the key is a whole word: twice a 0, four times, eight
+/// times and more often.
+const DOUBLED: &[(u16, &[u8], bool)] = &[
+    (12, &[0, 0], true),
+    (11, &[0, 0, 0, 0], true),
+    (10, &[0; 8], true),
+    (0, &[0; 12], false),
+];
+
 #[test]
 fn equal_parts_share_their_tables(rt: HostRuntime) -> Result<(), Fail> {
     let mut builder = DescBuilder::new(rt.alloc(), Reading::Received);
@@ -203,14 +211,7 @@ fn equal_parts_share_their_tables(rt: HostRuntime) -> Result<(), Fail> {
     let desc = finished(builder)?;
     assert_eq!(rt; desc.len(), 16_383);
     let look = Look::new(rt.alloc(), &desc)?;
-    // twice a 0, four times, eight times and more often
-    let cases: [(u16, &[u8], bool); 4] = [
-        (12, &[0, 0], true),
-        (11, &[0, 0, 0, 0], true),
-        (10, &[0; 8], true),
-        (0, &[0; 12], false),
-    ];
-    for (node, word, whole) in cases {
+    for &(node, word, whole) in DOUBLED {
         assert!(rt; node < desc.len());
         let keys = look.keys(rt.alloc(), node, 5)?;
         assert_eq!(rt; keys.len(), 1, "{node}");

@@ -75,13 +75,45 @@ fn is_asked(desc: &Desc, reach: &Reach, i: u16, octet: u8) -> bool
     }
 }
 
+// The bits that are held, whether the block has ended, and what is answered.
+type PickCase = (&'static [u8], bool, Pick);
+
+const OF_CHOICE: &[PickCase] = &[
+    (&[], false, Pick::Wait),
+    (&[], true, Pick::Refuse),
+    (&[0, 0], false, Pick::Wait),
+    (&[0, 0], true, Pick::Refuse),
+    (&[0, 0, 1], true, Pick::Take(0)),
+    (&[0, 1, 1, 0], false, Pick::Take(0)),
+    (&[1], false, Pick::Wait),
+    (&[1, 0], false, Pick::Wait),
+    (&[1, 0, 1], false, Pick::Take(1)),
+    (&[1, 1], true, Pick::Take(2)),
+    (&[1, 1, 0], false, Pick::Take(2)),
+];
+
+const OF_OPTION: &[PickCase] = &[
+    (&[], false, Pick::Wait),
+    (&[], true, Pick::Take(1)),
+    (&[0], false, Pick::Wait),
+    (&[0, 1], false, Pick::Take(0)),
+    (&[1], false, Pick::Take(1)),
+];
+
+const OF_REPETITION: &[PickCase] = &[
+    (&[], false, Pick::Wait),
+    (&[], true, Pick::Leave),
+    (&[1], false, Pick::Take(0)),
+    (&[0], true, Pick::Leave),
+];
+
 // What look-ahead answers at a node at octet position 0, where some bits are held and the block has ended or not.
 fn are_answered<L: Ledger, R: Abort>(
     rt: &R,
     alloc: Global,
     desc: Desc,
     i: u16,
-    cases: &[(&[u8], bool, Pick)],
+    cases: &[PickCase],
     steps: &mut Steps<L>,
 ) -> Result<(), Fail> {
     let look = Look::new(alloc, &desc)?;
@@ -105,35 +137,9 @@ fn picks<L: Ledger, R: Abort>(rt: &R, alloc: Global, blank: Blank) -> Result<(),
     requires some { 0 < blank.parts }
 {
     let mut steps = Steps::<L>::new(blank);
-    let of_choice: [(&[u8], bool, Pick); 11] = [
-        (&[], false, Pick::Wait),
-        (&[], true, Pick::Refuse),
-        (&[0, 0], false, Pick::Wait),
-        (&[0, 0], true, Pick::Refuse),
-        (&[0, 0, 1], true, Pick::Take(0)),
-        (&[0, 1, 1, 0], false, Pick::Take(0)),
-        (&[1], false, Pick::Wait),
-        (&[1, 0], false, Pick::Wait),
-        (&[1, 0, 1], false, Pick::Take(1)),
-        (&[1, 1], true, Pick::Take(2)),
-        (&[1, 1, 0], false, Pick::Take(2)),
-    ];
-    are_answered(rt, alloc, choice(alloc)?, 0, &of_choice, &mut steps)?;
-    let of_option: [(&[u8], bool, Pick); 5] = [
-        (&[], false, Pick::Wait),
-        (&[], true, Pick::Take(1)),
-        (&[0], false, Pick::Wait),
-        (&[0, 1], false, Pick::Take(0)),
-        (&[1], false, Pick::Take(1)),
-    ];
-    are_answered(rt, alloc, option(alloc)?, 1, &of_option, &mut steps)?;
-    let of_repetition: [(&[u8], bool, Pick); 4] = [
-        (&[], false, Pick::Wait),
-        (&[], true, Pick::Leave),
-        (&[1], false, Pick::Take(0)),
-        (&[0], true, Pick::Leave),
-    ];
-    are_answered(rt, alloc, repetition(alloc)?, 0, &of_repetition, &mut steps)
+    are_answered(rt, alloc, choice(alloc)?, 0, OF_CHOICE, &mut steps)?;
+    are_answered(rt, alloc, option(alloc)?, 1, OF_OPTION, &mut steps)?;
+    are_answered(rt, alloc, repetition(alloc)?, 0, OF_REPETITION, &mut steps)
 }
 
 #[test]

@@ -33,6 +33,31 @@ fn refusals_have_their_numbers(rt: HostRuntime) -> Result<(), Fail> {
 const DEEP: &str =
     "<M> ::= {{{{{{{{{{{{{{{{{{{{{{{{{{{{{{{{{{{{{{{{{{{{{{{{{{{{{{{{{{{{{{{{0}}}}}}}}}}}}}}}}}}}}}}}}}}}}}}}}}}}}}}}}}}}}}}}}}}}}}}}}}}}}}}}} ;";
 
+// Texts, and the number and the place of their refusal.
+const REFUSED: &[(&str, u8, u32)] = &[
+    ("<M> ::= <X> ;", 1, 8),
+    ("<N> ::= 0 ;", 1, 0),
+    ("<M> ::= 0 ; <M> ::= 1 ;", 2, 12),
+    ("<M> ::= 1 <M> ;", 3, 10),
+    ("<M> ::= <V : bit(val(N))> ;", 4, 13),
+    (DEEP, 12, 72),
+    ("<M> ::= <N : bit(20)> <V : bit(val(N))> ;", 5, 27),
+    ("<M> ::= bit(0) ;", 6, 8),
+    ("<M> ::= bit(70000) ;", 7, 8),
+    ("<M> ::= { 0 } & { 1 } ;", 8, 8),
+    ("<M> ::= { 0 ! 1 } ;", 9, 14),
+    (
+        "<M> ::= <N : bit(2)> <N : bit(20)> <V : bit(val(N))> ;",
+        5,
+        40,
+    ),
+    ("<M> ::= <no string> ;", 10, 8),
+    ("<M> ::= { 0 | 1 <M> } <A : bit> ;", 3, 16),
+    ("<M> ::= { 0 | 1 <M> } ;", 3, 16),
+    ("<M> ::= { 0 bit <no string> } // ;", 10, 16),
+    ("<M> ::= <spare bit> ; <spare bit> ::= 0 ;", 2, 22),
+];
+
 // Texts of which no rule is refused.
 const TAKEN: [&str; 3] = [
     "<M> ::= <A : bit (3)> { 0 | 1 <M> } ;",
@@ -77,30 +102,7 @@ fn desc_of(alloc: Global, text: &str, reading: Reading) -> Result<Desc, Fail> {
 
 #[test]
 fn rules_are_refused_at_their_places(rt: HostRuntime) -> Result<(), Fail> {
-    let cases = [
-        ("<M> ::= <X> ;", 1, 8),
-        ("<N> ::= 0 ;", 1, 0),
-        ("<M> ::= 0 ; <M> ::= 1 ;", 2, 12),
-        ("<M> ::= 1 <M> ;", 3, 10),
-        ("<M> ::= <V : bit(val(N))> ;", 4, 13),
-        (DEEP, 12, 72),
-        ("<M> ::= <N : bit(20)> <V : bit(val(N))> ;", 5, 27),
-        ("<M> ::= bit(0) ;", 6, 8),
-        ("<M> ::= bit(70000) ;", 7, 8),
-        ("<M> ::= { 0 } & { 1 } ;", 8, 8),
-        ("<M> ::= { 0 ! 1 } ;", 9, 14),
-        (
-            "<M> ::= <N : bit(2)> <N : bit(20)> <V : bit(val(N))> ;",
-            5,
-            40,
-        ),
-        ("<M> ::= <no string> ;", 10, 8),
-        ("<M> ::= { 0 | 1 <M> } <A : bit> ;", 3, 16),
-        ("<M> ::= { 0 | 1 <M> } ;", 3, 16),
-        ("<M> ::= { 0 bit <no string> } // ;", 10, 16),
-        ("<M> ::= <spare bit> ; <spare bit> ::= 0 ;", 2, 22),
-    ];
-    for (text, number, place) in cases {
+    for &(text, number, place) in REFUSED {
         let refusal = refusal_of(rt.alloc(), text, "M", Reading::Received)?;
         assert_eq!(rt; refusal, Some((number, place)), "{text}");
     }
@@ -228,68 +230,73 @@ fn spelled_parts(alloc: Global, parts: &Parts) -> Result<String, Fail> {
     Ok(text)
 }
 
+// The nodes of the text's rule M.
+fn nodes_of(alloc: Global, text: &str, reading: Reading) -> Result<String, Fail> {
+    spelled(alloc, &desc_of(alloc, text, reading)?)
+}
+
+// Texts, and their nodes in the reading received and in the reading sent.
+const NODES: &[(&str, &str, &str)] = &[
+    ("<M> ::= 01L ;", "lits3", "lits3"),
+    (
+        "<M> ::= <spare bit> <spare L> <spare padding> ;",
+        "seq/1/2/3 spare-false spare-true pad",
+        "seq/1/2/3 spare-false spare-true pad",
+    ),
+    ("<M> ::= { 0 } ;", "lits1", "lits1"),
+    (
+        "<M> ::= { 0 | 1 } ;",
+        "choice/1/2 lits1 lits1",
+        "choice/1/2 lits1 lits1",
+    ),
+    (
+        "<M> ::= { 0 <A : bit> ! <Bad : 1 bit (**) = <no string>> } ;",
+        "seq/1/2 lits1 named1:3 field1:1",
+        "seq/1/2 lits1 named1:3 field1:1",
+    ),
+    (
+        "<M> ::= { 0 | 1 = <no string> | bit (2) = octet } ;",
+        "choice/1/2/3 lits1 lits1 field1:2",
+        "choice/1/2 lits1 field8:1",
+    ),
+    (
+        "<M> ::= <A : bit (3)> { 0 | 1 <M> } ;",
+        "seq/1/3/8 named1:2 field1:3 many:4 seq/5/6 lits1 named1:7 field1:3 lits1",
+        "seq/1/3/8 named1:2 field1:3 many:4 seq/5/6 lits1 named1:7 field1:3 lits1",
+    ),
+    (
+        "<M> ::= { bit | octet } ** 0 null ;",
+        "seq/1/5/6 many:2 choice/3/4 field1:1 field8:1 lits1 null",
+        "seq/1/5/6 many:2 choice/3/4 field1:1 field8:1 lits1 null",
+    ),
+    (
+        "<M> ::= { <A : bit> <B : bit> } // bit (**) ;",
+        "seq/1/6 trunc/2/4 named1:3 field1:1 named1:5 field1:1 rest",
+        "seq/1/6 trunc/2/4 named1:3 field1:1 named1:5 field1:1 rest",
+    ),
+    (
+        "<M> ::= <N : bit (3)> bit (val(N)) octet (2 * val(N)) { 0 | 1 } (val(N) + 1) bit (3 * val(N) + 4) & { 1 } ** ;",
+        "seq/1/3/4/5/9 named1:2 field1:3 field1:1*@1+0 field8:2*@1+0 times1*@1+1:6 choice/7/8 lits1 lits1 window1:3*@1+4:10 many:11 lits1",
+        "seq/1/3/4/5/9 named1:2 field1:3 field1:1*@1+0 field8:2*@1+0 times1*@1+1:6 choice/7/8 lits1 lits1 window1:3*@1+4:10 many:11 lits1",
+    ),
+    (
+        "<M> ::= <N : bit (3)> <N : bit (4)> { bit (val(N)) <N : octet> } octet (val(N)) ;",
+        "seq/1/3/5/9 named1:2 field1:3 named1:4 field1:4 seq/6/7 field1:1*@3+0 named1:8 field8:1 field8:1*@3+0",
+        "seq/1/3/5/9 named1:2 field1:3 named1:4 field1:4 seq/6/7 field1:1*@3+0 named1:8 field8:1 field8:1*@3+0",
+    ),
+    (
+        "<A> ::= bit (val(N)) ; <M> ::= <N : bit = octet> { 0 | <A> } * 3 ;",
+        "seq/1/3 named1:2 field1:1 times3:4 choice/5/6 lits1 field1:1*@1+0",
+        "seq/1/3 named1:2 field8:1 times3:4 choice/5/6 lits1 field1:1*@1+0",
+    ),
+];
+
 #[test]
 fn rules_give_their_nodes(rt: HostRuntime) -> Result<(), Fail> {
-    let cases = [
-        ("<M> ::= 01L ;", "lits3", "lits3"),
-        (
-            "<M> ::= <spare bit> <spare L> <spare padding> ;",
-            "seq/1/2/3 spare-false spare-true pad",
-            "seq/1/2/3 spare-false spare-true pad",
-        ),
-        ("<M> ::= { 0 } ;", "lits1", "lits1"),
-        (
-            "<M> ::= { 0 | 1 } ;",
-            "choice/1/2 lits1 lits1",
-            "choice/1/2 lits1 lits1",
-        ),
-        (
-            "<M> ::= { 0 <A : bit> ! <Bad : 1 bit (**) = <no string>> } ;",
-            "seq/1/2 lits1 named1:3 field1:1",
-            "seq/1/2 lits1 named1:3 field1:1",
-        ),
-        (
-            "<M> ::= { 0 | 1 = <no string> | bit (2) = octet } ;",
-            "choice/1/2/3 lits1 lits1 field1:2",
-            "choice/1/2 lits1 field8:1",
-        ),
-        (
-            "<M> ::= <A : bit (3)> { 0 | 1 <M> } ;",
-            "seq/1/3/8 named1:2 field1:3 many:4 seq/5/6 lits1 named1:7 field1:3 lits1",
-            "seq/1/3/8 named1:2 field1:3 many:4 seq/5/6 lits1 named1:7 field1:3 lits1",
-        ),
-        (
-            "<M> ::= { bit | octet } ** 0 null ;",
-            "seq/1/5/6 many:2 choice/3/4 field1:1 field8:1 lits1 null",
-            "seq/1/5/6 many:2 choice/3/4 field1:1 field8:1 lits1 null",
-        ),
-        (
-            "<M> ::= { <A : bit> <B : bit> } // bit (**) ;",
-            "seq/1/6 trunc/2/4 named1:3 field1:1 named1:5 field1:1 rest",
-            "seq/1/6 trunc/2/4 named1:3 field1:1 named1:5 field1:1 rest",
-        ),
-        (
-            "<M> ::= <N : bit (3)> bit (val(N)) octet (2 * val(N)) { 0 | 1 } (val(N) + 1) bit (3 * val(N) + 4) & { 1 } ** ;",
-            "seq/1/3/4/5/9 named1:2 field1:3 field1:1*@1+0 field8:2*@1+0 times1*@1+1:6 choice/7/8 lits1 lits1 window1:3*@1+4:10 many:11 lits1",
-            "seq/1/3/4/5/9 named1:2 field1:3 field1:1*@1+0 field8:2*@1+0 times1*@1+1:6 choice/7/8 lits1 lits1 window1:3*@1+4:10 many:11 lits1",
-        ),
-        (
-            "<M> ::= <N : bit (3)> <N : bit (4)> { bit (val(N)) <N : octet> } octet (val(N)) ;",
-            "seq/1/3/5/9 named1:2 field1:3 named1:4 field1:4 seq/6/7 field1:1*@3+0 named1:8 field8:1 field8:1*@3+0",
-            "seq/1/3/5/9 named1:2 field1:3 named1:4 field1:4 seq/6/7 field1:1*@3+0 named1:8 field8:1 field8:1*@3+0",
-        ),
-        (
-            "<A> ::= bit (val(N)) ; <M> ::= <N : bit = octet> { 0 | <A> } * 3 ;",
-            "seq/1/3 named1:2 field1:1 times3:4 choice/5/6 lits1 field1:1*@1+0",
-            "seq/1/3 named1:2 field8:1 times3:4 choice/5/6 lits1 field1:1*@1+0",
-        ),
-    ];
-    for (text, received, sent) in cases {
-        let desc = desc_of(rt.alloc(), text, Reading::Received)?;
-        let nodes = spelled(rt.alloc(), &desc)?;
+    for &(text, received, sent) in NODES {
+        let nodes = nodes_of(rt.alloc(), text, Reading::Received)?;
         assert_eq!(rt; nodes.as_str(), received, "{text}");
-        let desc = desc_of(rt.alloc(), text, Reading::Sent)?;
-        let nodes = spelled(rt.alloc(), &desc)?;
+        let nodes = nodes_of(rt.alloc(), text, Reading::Sent)?;
         assert_eq!(rt; nodes.as_str(), sent, "{text}");
     }
     Ok(())

@@ -69,73 +69,71 @@ pub(crate) fn expect(rt: &impl Abort, ran: &Ran, text: &[u8], status: u8, what: 
     assert_eq!(rt; ran.ended.status(), status, "{what}");
 }
 
+/// A description, an input, what is written, and the status.
+const SHOWN: &[(&[u8], &[u8], &[u8], u8)] = &[
+    (FIELDS, b"A5\n", b"ok [<A>=3'5 . <B>=4'5]\n", 0),
+    (FIELDS, b"B5\n", b"no 3 bit\n", 1),
+    (FIELDS, b"A0/6\n", b"no 6 ended\n", 1),
+    (FIELDS, b"A500\n", b"no 8 bit\n", 1),
+    (FIELDS, b"a5\n", b"ok [<A>=3'5 . <B>=4'5]\n", 0),
+    (FIELDS, b"A5\r\n", b"ok [<A>=3'5 . <B>=4'5]\n", 0),
+    (FIELDS, b"A5", b"ok [<A>=3'5 . <B>=4'5]\n", 0),
+    (FIELDS, b"\n\r\n", b"", 0),
+    (FIELDS, b"AG\nA0GG\n", b"bad 1 1\nbad 1 2\n", 1),
+    (FIELDS, b"A\nA5/8\nA1/3\n", b"bad 2\nbad 2\nbad 3\n", 1),
+    (
+        FIELDS,
+        b"A5\nB5\nA5\n",
+        b"ok [<A>=3'5 . <B>=4'5]\nno 3 bit\nok [<A>=3'5 . <B>=4'5]\n",
+        1,
+    ),
+    (b"<M> ::= 01 ;", b"40/2\n", b"ok .\n", 0),
+    (b"<M> ::= { 0 } ;", b"A5\n", b"no 0 bit\n", 1),
+    (b"<N> ::= <A : bit (3)> ;", b"A5\n", b"description 1 0\n", 3),
+];
+
 #[test]
 fn blocks_are_shown(rt: HostRuntime) -> Result<(), Fail> {
-    let literal = b"<M> ::= 01 ;".as_slice();
-    let cases = [
-        (
-            FIELDS,
-            b"A5\n".as_slice(),
-            b"ok [<A>=3'5 . <B>=4'5]\n".as_slice(),
-            0,
-        ),
-        (FIELDS, b"B5\n", b"no 3 bit\n", 1),
-        (FIELDS, b"A0/6\n", b"no 6 ended\n", 1),
-        (FIELDS, b"A500\n", b"no 8 bit\n", 1),
-        (FIELDS, b"a5\n", b"ok [<A>=3'5 . <B>=4'5]\n", 0),
-        (FIELDS, b"A5\r\n", b"ok [<A>=3'5 . <B>=4'5]\n", 0),
-        (FIELDS, b"A5", b"ok [<A>=3'5 . <B>=4'5]\n", 0),
-        (FIELDS, b"\n\r\n", b"", 0),
-        (FIELDS, b"AG\nA0GG\n", b"bad 1 1\nbad 1 2\n", 1),
-        (FIELDS, b"A\nA5/8\nA1/3\n", b"bad 2\nbad 2\nbad 3\n", 1),
-        (
-            FIELDS,
-            b"A5\nB5\nA5\n",
-            b"ok [<A>=3'5 . <B>=4'5]\nno 3 bit\nok [<A>=3'5 . <B>=4'5]\n",
-            1,
-        ),
-        (literal, b"40/2\n", b"ok .\n", 0),
-        (b"<M> ::= { 0 } ;", b"A5\n", b"no 0 bit\n", 1),
-        (b"<N> ::= <A : bit (3)> ;", b"A5\n", b"description 1 0\n", 3),
-    ];
-    for (description, input, text, status) in cases {
+    for &(description, input, text, status) in SHOWN {
         let ran = shown(rt.alloc(), description, input)?;
         expect(&rt, &ran, text, status, "a block");
     }
     Ok(())
 }
 
+/// An input, what is written, and the status.
+const MIGRATED: &[(&[u8], &[u8], u8)] = &[
+    (b".\n", b"ok .\n", 0),
+    (b"3'5\n", b"ok 3'5\n", 0),
+    (
+        b"64'18446744073709551615\n",
+        b"ok 64'18446744073709551615\n",
+        0,
+    ),
+    (b"64'18446744073709551616\n", b"bad 22\n", 1),
+    (b"b\n", b"ok b\n", 0),
+    (b"b1\n", b"bad 2\n", 1),
+    (
+        b"b11111111111111111111111111111111111111111111111111111111111111111\n",
+        b"ok xFFFFFFFFFFFFFFFF80/1\n",
+        0,
+    ),
+    (b"xFF\n", b"bad 0\n", 1),
+    (b"xFFFFFFFFFFFFFFFF80/1\n", b"bad 0\n", 1),
+    (b"[]\n[. .]\n[. ]\n", b"ok []\nok [. .]\nbad 3\n", 1),
+    (b"#16383:.\n#16384:.\n", b"ok #16383:.\nbad 5\n", 1),
+    (b"<A b>=1'0\n<A>=3'9\n", b"ok <A b>=1'0\nbad 6\n", 1),
+    (b".\r\n\n\r\n. \n.", b"ok .\nbad 1\nok .\n", 1),
+    (
+        OLD,
+        b"ok [. <A>=3'5 b #16383:[] <GPRS Cell/2 o'k>=xFFFFFFFFFFFFFFFF80/1 [64'18446744073709551615]]\n",
+        0,
+    ),
+];
+
 #[test]
 fn old_texts_are_migrated(rt: HostRuntime) -> Result<(), Fail> {
-    let cases = [
-        (b".\n".as_slice(), b"ok .\n".as_slice(), 0),
-        (b"3'5\n", b"ok 3'5\n", 0),
-        (
-            b"64'18446744073709551615\n",
-            b"ok 64'18446744073709551615\n",
-            0,
-        ),
-        (b"64'18446744073709551616\n", b"bad 22\n", 1),
-        (b"b\n", b"ok b\n", 0),
-        (b"b1\n", b"bad 2\n", 1),
-        (
-            b"b11111111111111111111111111111111111111111111111111111111111111111\n",
-            b"ok xFFFFFFFFFFFFFFFF80/1\n",
-            0,
-        ),
-        (b"xFF\n", b"bad 0\n", 1),
-        (b"xFFFFFFFFFFFFFFFF80/1\n", b"bad 0\n", 1),
-        (b"[]\n[. .]\n[. ]\n", b"ok []\nok [. .]\nbad 3\n", 1),
-        (b"#16383:.\n#16384:.\n", b"ok #16383:.\nbad 5\n", 1),
-        (b"<A b>=1'0\n<A>=3'9\n", b"ok <A b>=1'0\nbad 6\n", 1),
-        (b".\r\n\n\r\n. \n.", b"ok .\nbad 1\nok .\n", 1),
-        (
-            OLD,
-            b"ok [. <A>=3'5 b #16383:[] <GPRS Cell/2 o'k>=xFFFFFFFFFFFFFFFF80/1 [64'18446744073709551615]]\n",
-            0,
-        ),
-    ];
-    for (input, text, status) in cases {
+    for &(input, text, status) in MIGRATED {
         let ran = migrated(rt.alloc(), input)?;
         expect(&rt, &ran, text, status, "an old text");
     }
@@ -157,63 +155,68 @@ fn every_front_of_an_old_text_is_refused_at_its_end(rt: HostRuntime) -> Result<(
     Ok(())
 }
 
+/// A text without rules, and what is written.
+const WITHOUT_RULES: &[(&[u8], &[u8])] = &[
+    (b"<M> ::= { 0 ;", b"syntax 12\n"),
+    (b"", b"syntax 0\n"),
+    (b"<M> ::= bit (** ;", b"syntax 16\n"),
+    (b"<M> ::= 0 # ;", b"syntax 10\n"),
+    (b"<M> ::= 0 -- x", b"syntax 14\n"),
+    (b"\xFF\x00", b"syntax 0\n"),
+];
+
 #[test]
 fn texts_without_rules_are_refused(rt: HostRuntime) -> Result<(), Fail> {
     let alloc = rt.alloc();
-    let mut deep = Vec::from_slice(alloc, b"<M> ::= ")?;
-    deep.extend_from_slice(&vec![in alloc; b'{'; 65]?)?;
-    let cases = [
-        (b"<M> ::= { 0 ;".as_slice(), b"syntax 12\n".as_slice()),
-        (b"", b"syntax 0\n"),
-        (b"<M> ::= bit (** ;", b"syntax 16\n"),
-        (b"<M> ::= 0 # ;", b"syntax 10\n"),
-        (b"<M> ::= 0 -- x", b"syntax 14\n"),
-        (b"\xFF\x00", b"syntax 0\n"),
-        (&deep, b"syntax 72\n"),
-    ];
-    for (description, text) in cases {
+    for &(description, text) in WITHOUT_RULES {
         let ran = shown(alloc, description, b"A5\n")?;
         expect(&rt, &ran, text, 3, "a text without rules");
     }
+    let mut deep = Vec::from_slice(alloc, b"<M> ::= ")?;
+    deep.extend_from_slice(&vec![in alloc; b'{'; 65]?)?;
+    let ran = shown(alloc, &deep, b"A5\n")?;
+    expect(&rt, &ran, b"syntax 72\n", 3, "a text of too many braces");
     Ok(())
 }
+
+/// Words that are no command.
+const UNKNOWN_WORDS: &[&[&str]] = &[
+    &[],
+    &["check"],
+    &["check", "F", "M", "both"],
+    &["show"],
+    &["show", "F", "M", "both"],
+    &["show", "F", "-M", "sent"],
+    &["show", "F", "", "received"],
+    &["show", "F", "M", "received", "more"],
+    &["write", "F", "M"],
+    &["writes", "F", "M", "sent"],
+    &["migrate", "F"],
+    &["migrates"],
+    &["segments"],
+    &["segments", "both"],
+    &["segments", "sent", "more"],
+    &["soak", "uplink", "0"],
+    &["compat", "F", "M", "sent"],
+    &["compat", "F", "-F", "M", "sent"],
+    &["compat", "F", "F", "M", "both"],
+    &["verify", "F", "M", "sent"],
+    &["verify", "F", "M", "sent", "-C"],
+    &["verify", "F", "M", "both", "C"],
+    &["help"],
+    &["--help"],
+    &["--version"],
+    &["-h", "migrate"],
+    &["--", "migrate"],
+    &["migrate", "--"],
+    &["migrate", "--help"],
+    &["show", "F", "M", "-h"],
+];
 
 #[test]
 fn words_are_held_against_the_table(rt: HostRuntime) -> Result<(), Fail> {
     let alloc = rt.alloc();
-    let cases = [
-        [].as_slice(),
-        &["check"],
-        &["check", "F", "M", "both"],
-        &["show"],
-        &["show", "F", "M", "both"],
-        &["show", "F", "-M", "sent"],
-        &["show", "F", "", "received"],
-        &["show", "F", "M", "received", "more"],
-        &["write", "F", "M"],
-        &["writes", "F", "M", "sent"],
-        &["migrate", "F"],
-        &["migrates"],
-        &["segments"],
-        &["segments", "both"],
-        &["segments", "sent", "more"],
-        &["soak", "uplink", "0"],
-        &["compat", "F", "M", "sent"],
-        &["compat", "F", "-F", "M", "sent"],
-        &["compat", "F", "F", "M", "both"],
-        &["verify", "F", "M", "sent"],
-        &["verify", "F", "M", "sent", "-C"],
-        &["verify", "F", "M", "both", "C"],
-        &["help"],
-        &["--help"],
-        &["--version"],
-        &["-h", "migrate"],
-        &["--", "migrate"],
-        &["migrate", "--"],
-        &["migrate", "--help"],
-        &["show", "F", "M", "-h"],
-    ];
-    for case in cases {
+    for case in UNKNOWN_WORDS {
         let words = words_of(alloc, case)?;
         let ran = run_in_memory(alloc, &words, file(alloc, FIELDS)?, Vec::new(alloc))?;
         expect(&rt, &ran, b"", 2, "words");
@@ -356,22 +359,21 @@ fn longest_block_is_followed(rt: HostRuntime) -> Result<(), Fail> {
     Ok(())
 }
 
+/// Words whose run ends before its first line, what is written, and the status.
+const BEFORE_LINES: &[(&[&str], &[u8], u8)] = &[
+    (&["check", "F", "M", "received"], b"certified 6\n", 0),
+    (&["check", "F", "N", "sent"], b"description 1 0\n", 3),
+    (&["show", "F", "N", "sent"], b"description 1 0\n", 3),
+    (&["write", "F", "N", "sent"], b"description 1 0\n", 3),
+];
+
 #[test]
 fn input_is_left_alone_before_its_lines(rt: HostRuntime) -> Result<(), Fail> {
     let alloc = rt.alloc();
-    for (words, text, status) in [
-        (
-            ["check", "F", "M", "received"],
-            b"certified 6\n".as_slice(),
-            0,
-        ),
-        (["check", "F", "N", "sent"], b"description 1 0\n", 3),
-        (["show", "F", "N", "sent"], b"description 1 0\n", 3),
-        (["write", "F", "N", "sent"], b"description 1 0\n", 3),
-    ] {
+    for &(words, text, status) in BEFORE_LINES {
         // The first take would fail.
         let first = Call::Take.failing(alloc, 0)?;
-        let ran = ran_in_pieces(alloc, &words, b"A5\n", 7, first, Vec::new(alloc))?;
+        let ran = ran_in_pieces(alloc, words, b"A5\n", 7, first, Vec::new(alloc))?;
         expect(&rt, &ran, text, status, "no take");
     }
     Ok(())
