@@ -6,6 +6,7 @@ pub mod StepFacts
 pub mod Leaves
 pub mod Entering
 pub mod Parts
+mod PartsRead
 pub mod Alternatives
 pub mod Paying
 pub mod PayingBits

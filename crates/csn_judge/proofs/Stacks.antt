@@ -8,7 +8,7 @@ use Rattle.csn_desc.specs.declared.node.Node.{Node}
 use Rattle.csn_desc.specs.declared.node.Node.TheVariants.{Lits, Spare, Pad, Null, Field, Rest, Seq, Choice, Times, Many, Trunc, Window, Named}
 use Rattle.csn_desc.specs.Nodes.{DescV, parts_of}
 use Rattle.csn_desc.specs.Values.{Values, value_of, count_of}
-use Rattle.csn_desc.specs.Formed.{width_of, with_seen, Spans, PartsSpan, span_next, PartsFormed, formed, FitWidths, IsDescription}
+use Rattle.csn_desc.specs.Formed.{width_of, with_seen, Spans, PartsSpan, span_next, PartsFormed, FitWidths, IsDescription}
 use Rattle.std.proofs.lemmas.Bool.Decides.{leb_tells}
 use Rattle.std.proofs.lemmas.Option.{slice_get_within}
 use Rattle.csn_desc.specs.Laws.{NodesAreWellFormed}

@@ -75,6 +75,14 @@ module _ (d : DescV) where
   parts_stand (shows_parts parts has kept round) =
       record { outer = _; i = _; from = _; after = _; v = _; parts = parts; is = refl; has = has; kept = kept; round = round }
 
+  -- no more parts have begun than there are
+  pub next_within : {k next count : ℕ} {frames : List Frame} {values : List Number} {stack : List Left} {done : List ℕ} (parts : List ℕ)
+      → slice_get d.nodes k ≡ Some (Seq parts) → Shows d (frame.Seq k next count ∷ frames) values stack done → next ≤ length parts
+  next_within parts at shows =
+      let t = parts_stand shows in
+      let same : parts ≡ t.parts = let a = t.has.at in cc in
+      omega (arith, t.has.next_is, ap (λ l. length l) (same ∙ t.has.is), length-append t.has.before (t.i ∷ t.after))
+
   -- the next part
   pub next_stack : {i from j : ℕ} {ps : List ℕ} {v : Values} {outer : List Left} {done : List ℕ} (pace : Pace) → Known d
       → IsStack d pace.next (fresh_at pace (length done)) (parts_left i from (j ∷ ps) v ∷ outer) done

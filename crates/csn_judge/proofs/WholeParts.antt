@@ -1,5 +1,5 @@
 -- All bits of a node that begins are read at once, where its strings are laid out.
-use Rattle.std.proofs.Common.{◌≡◌, ℕ, suc, ◌+◌, ◌*◌, ◌%◌, ◌<◌, ◌≤◌, Bool, true, false, List, [], ◌∷◌, ◌++◌, length, take, drop, refl, sym, ◌∙◌, ap, subst, arith, append-nil, append_assoc, length-append, take-append-drop, nat_lt, reverse, Option, Some, None, slice_get}
+use Rattle.std.proofs.Common.{◌≡◌, ℕ, ◌+◌, ◌*◌, ◌%◌, ◌<◌, ◌≤◌, Bool, true, false, List, [], ◌∷◌, ◌++◌, length, take, drop, refl, sym, ◌∙◌, ap, subst, arith, append-nil, length-append, take-append-drop, nat_lt, reverse, Option, Some, slice_get}
 use Rattle.std.proofs.lemmas.List.{nil_from_length, length-take-le}
 use Rattle.std.proofs.lemmas.Bool.{ltb-true, ltb-false}
 use Rattle.csn_bits.specs.Octets.{IsBits}
@@ -8,13 +8,11 @@ use Rattle.csn_desc.specs.declared.moves.Move.{Move}
 use Rattle.csn_desc.specs.declared.moves.Move.TheVariants.{Enter, Leave}
 use Rattle.csn_desc.specs.declared.node.Count.TheVariants.{Fixed}
 use Rattle.csn_desc.specs.declared.node.Node.{Node}
-use Rattle.csn_desc.specs.declared.node.Node.TheVariants.{Field}
 use Rattle.csn_desc.specs.TreeV.{TreeV}
 use Rattle.csn_desc.specs.Nodes.{DescV}
 use Rattle.csn_desc.specs.Values.{Values}
-use Rattle.csn_desc.specs.Formed.{is_counted, width_of}
+use Rattle.csn_desc.specs.Formed.{width_of}
 use Rattle.csn_desc.specs.Means.{NMeans, NodeMeans, means_at, means_field}
-use Rattle.csn_desc.specs.Follows.{NFollow}
 use Rattle.csn_desc.specs.Walks.{Walk, walk_at}
 use Rattle.csn_look.specs.Ends.{InEnds}
 use Rattle.csn_certify.specs.KeptNumbers.{numbers_of}
@@ -32,16 +30,15 @@ use Rattle.csn_judge.specs.Told.{WholeTold}
 use Rattle.csn_judge.specs.Left.{Left, all_left, none_left, Completes, completes_all, completes_none, Begins, begins_whole, begins_all}
 use Rattle.csn_judge.specs.Remains.{Passes}
 use Rattle.csn_judge.specs.Inside.{HasWidth, IsRead, of_read, IsStack, stack_node, AreOwed}
-use Rattle.csn_judge.specs.Shown.{limit_in}
 use Rattle.csn_judge.specs.Turns.{fresh_at, around_of, state_with, StateV, Stands, StandsSomewhere, GoesOn, Turns}
-use Rattle.csn_judge.proofs.StepFacts.{Replaces, replaced, as_many, completes_along, popped, steps_then}
+use Rattle.csn_judge.proofs.StepFacts.{Replaces, replaced, as_many, popped, steps_then}
 use Rattle.csn_judge.proofs.Closing.{passes_of}
 use Rattle.csn_judge.proofs.Choosing.{nothing_goes}
 use Rattle.csn_judge.proofs.LeafStacks.{owed_taken}
 use Rattle.csn_judge.proofs.Stacks.{Begun, up_here}
 use Rattle.csn_judge.proofs.Turning.{moving, left_stack, shown_behind, kept_behind, state}
 use Rattle.csn_judge.proofs.PayingBits.{taken_pays, same_pays}
-use Rattle.csn_judge.proofs.TurningEntry.{BeginStands, AtBegin, at_begin}
+use Rattle.csn_judge.proofs.TurningEntry.{at_begin}
 use Rattle.csn_judge.proofs.TurningLeaves.{paced, paced_stack}
 use Rattle.csn_judge.proofs.TurningSame.{stands_on, turns_since}
 

@@ -69,14 +69,16 @@ pub record StateV : Type 0 where
   pub pace : Pace
   pub coming : Coming
 
+-- the state of a machine with these frames in place of its own
+abbrev pub state_at : List Frame → Machine → Coming → StateV
+state_at frames machine coming = record { frames = frames; values = machine.values.items; pace = machine.pace; coming = coming }
+
 abbrev pub state_of : Machine → Coming → StateV
-state_of machine coming =
-    record { frames = reverse machine.frames.items; values = machine.values.items; pace = machine.pace; coming = coming }
+state_of machine coming = state_at (reverse machine.frames.items) machine coming
 
 -- the state where one more frame was on top
 abbrev pub state_with : Frame → Machine → Coming → StateV
-state_with top machine coming =
-    record { frames = top ∷ reverse machine.frames.items; values = machine.values.items; pace = machine.pace; coming = coming }
+state_with top machine coming = state_at (top ∷ reverse machine.frames.items) machine coming
 
 -- a frame on others, if there is one
 abbrev pub over : Option Frame → List Frame → List Frame
@@ -85,13 +87,11 @@ over None frames = frames
 
 -- the state where one more frame was on top, and perhaps another one behind it
 abbrev pub state_upon : Frame → Option Frame → Machine → Coming → StateV
-state_upon top behind machine coming =
-    record { frames = top ∷ over behind (reverse machine.frames.items); values = machine.values.items; pace = machine.pace; coming = coming }
+state_upon top behind machine coming = state_at (top ∷ over behind (reverse machine.frames.items)) machine coming
 
 -- the state behind a part that was read at once: where it has ended, the frame that stood behind it is on top
 abbrev pub state_behind : PartTurn → Option Frame → Machine → Coming → StateV
-state_behind part.Ended behind machine coming =
-    record { frames = over behind (reverse machine.frames.items); values = machine.values.items; pace = machine.pace; coming = coming }
+state_behind part.Ended behind machine coming = state_at (over behind (reverse machine.frames.items)) machine coming
 state_behind (part.Turn turn) behind machine coming = state_of machine coming
 
 -- what came of it

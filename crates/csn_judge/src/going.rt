@@ -1,11 +1,12 @@
 //! Turns, one after another.
 
-ghost use Rattle.std.specs.Prelude.{◌≡◌, ◌+◌, ◌*◌, ◌<◌, IsTrue, false, [], length, reverse};
+ghost use Rattle.std.specs.Prelude.{◌≡◌, ◌+◌, ◌*◌, ◌<◌, IsTrue, false, List, [], ◌∷◌, length, reverse};
+ghost use Rattle.csn_judge.specs.declared.frame.Frame.{Frame as FrameV};
 ghost use Rattle.csn_judge.specs.declared.frame.Frame.TheVariants as frame;
 ghost use Rattle.csn_judge.specs.declared.turn.Turn.TheVariants as turn;
 ghost use Rattle.csn_judge.specs.Coming.{IsSame};
 ghost use Rattle.csn_judge.specs.Credit.{credit_in, credit_of, NextPays, PaysAll, TurnPays};
-ghost use Rattle.csn_judge.specs.Turns.{state_of, state_then, state_with, turn_in, turn_of, StandsSomewhere, Turns};
+ghost use Rattle.csn_judge.specs.Turns.{state_at, state_of, state_then, state_with, turn_in, turn_of, StandsSomewhere, Turns};
 
 use crate::frame::Frame;
 use crate::machine::Machine;
@@ -118,15 +119,17 @@ impl Machine<'_> {
     }
 
     /// All bits of a node that begins are read at once, where they can be taken and are a string of it, and the track is
-    /// told them so. Else nothing is.
+    /// told them so. Else nothing is. The frames stay as they are: the node was on any others.
     #[inline(always)]
-    fn read_whole<T: Track>(&mut self, i: u16, source: &mut Source<'_>, track: &mut T) -> bool
-        requires stands { StandsSomewhere self.old.plan.now (state_with (frame.Begin i) self.old source.old) }
+    pub fn read_whole<T: Track>(&mut self, i: u16, source: &mut Source<'_>, track: &mut T) -> bool
+        requires node { i < length self.old.plan.now.nodes }
         requires fits { T.fits track.old self.old.plan.now }
-        ensures turns { IsTrue result → Turns self.old.plan.now T.takes (state_with (frame.Begin i) self.old source.old)
-            (state_of self.new source.new) track.old track.new turn.Moved }
-        ensures pays { IsTrue result → credit_in self.old.plan.now (state_of self.new source.new)
-            < credit_in self.old.plan.now (state_with (frame.Begin i) self.old source.old) }
+        ensures turns { IsTrue result → (behind : List FrameV) → StandsSomewhere self.old.plan.now (state_at (frame.Begin i ∷ behind) self.old source.old)
+            → Turns self.old.plan.now T.takes (state_at (frame.Begin i ∷ behind) self.old source.old) (state_at behind self.new source.new)
+            track.old track.new turn.Moved }
+        ensures pays { IsTrue result → (behind : List FrameV) → credit_in self.old.plan.now (state_at behind self.new source.new)
+            < credit_in self.old.plan.now (state_at (frame.Begin i ∷ behind) self.old source.old) }
+        ensures frames { self.new.frames ≡ self.old.frames }
         ensures same { result ≡ false → IsSame source.old source.new }
         ensures machine { result ≡ false → self.new ≡ self.old }
         ensures untold { result ≡ false → track.new ≡ track.old }
@@ -160,7 +163,8 @@ impl Machine<'_> {
         track: &mut T,
         steps: &mut Steps<L>,
     ) -> Next
-        requires { StandsSomewhere self.old.plan.now (state_of self.old source.old) }
+        requires stands { StandsSomewhere self.old.plan.now (state_of self.old source.old) }
+        requires fits { T.fits track.old self.old.plan.now }
         ensures turns { Turns self.old.plan.now T.takes (state_of self.old source.old) (state_then result self.new source.new)
             track.old track.new (turn_in result) }
         ensures pays { NextPays (credit_in self.old.plan.now (state_of self.old source.old))

@@ -51,21 +51,23 @@ impl Machine<'_> {
         Turn::Moved
     }
 
-    /// The next part of a sequence begins, or it is left behind its last, and what it has shown of values with it.
+    /// The next parts of a sequence are read at once, up to one that begins; or it is left behind its last, and what it
+    /// has shown of values with it.
     #[inline(always)]
     pub fn seq<T: Track, L: Ledger>(
         &mut self,
         i: u16,
-        at: u16,
+        mut at: u16,
         values: u8,
-        source: &Source<'_>,
+        source: &mut Source<'_>,
         track: &mut T,
         steps: &mut Steps<L>,
     ) -> Next
-        requires { StandsSomewhere self.old.plan.now (state_with (frame.Seq i at values) self.old source.now) }
-        ensures turns { Turns self.old.plan.now T.takes (state_with (frame.Seq i at values) self.old source.now)
-            (state_then result self.new source.now) track.old track.new (turn_in result) }
-        ensures pays { TurnPays self.old.plan.now (state_with (frame.Seq i at values) self.old source.now) (state_then result self.new source.now)
+        requires stands { StandsSomewhere self.old.plan.now (state_with (frame.Seq i at values) self.old source.old) }
+        requires fits { T.fits track.old self.old.plan.now }
+        ensures turns { Turns self.old.plan.now T.takes (state_with (frame.Seq i at values) self.old source.old)
+            (state_then result self.new source.new) track.old track.new (turn_in result) }
+        ensures pays { TurnPays self.old.plan.now (state_with (frame.Seq i at values) self.old source.old) (state_then result self.new source.new)
             steps.old steps.new (turn_in result) }
         ensures plan { self.new.plan ≡ self.old.plan }
     {
@@ -73,19 +75,22 @@ impl Machine<'_> {
         let Node::Seq(parts) = node else {
             unreachable!();
         };
-        if at == parts.len() {
-            self.values.truncate(values as usize);
-            track.step(Move::Leave, node);
-            return Next::Turn(Turn::Moved);
+        while at < parts.len() {
+            let part = parts.get(at);
+            at += 1;
+            self.pace.begin(part);
+            if !self.read_whole(part, source, track) {
+                self.frames.push(Frame::Seq {
+                    node: i,
+                    at,
+                    values,
+                });
+                return Next::Begin { node: part };
+            }
         }
-        let behind = Frame::Seq {
-            node: i,
-            at: at + 1,
-            values,
-        };
-        let part = parts.get(at);
-        self.begin(part, behind);
-        Next::Begin { node: part }
+        self.values.truncate(values as usize);
+        track.step(Move::Leave, node);
+        Next::Turn(Turn::Moved)
     }
 
     /// The part of a repetition begins again, or it is left.

@@ -1,6 +1,11 @@
 use Rattle.csn_judge.specs.Turns.{state_then, turn_in}
+use Rattle.csn_judge.proofs.TurningEntry.{node_within}
 use Rattle.csn_judge.proofs.WholeParts.{unread_stands, unread_turns, unread_pays}
 use Rattle.csn_judge.proofs.machine.Machine.read_or_enter.Goals as goal
+
+pub read_whole-requires-clause-node : goal.read_whole-requires-clause-node
+read_whole-requires-clause-node g c =
+    node_within c.args.self.now.plan.now g.T.Track.takes c.args.track.now c.args.self.now.values.items c.args.self.now.pace c.args.source.now c.requires.stands.known c.requires.stands.stands
 
 pub enter-requires : goal.enter-requires
 enter-requires g c =

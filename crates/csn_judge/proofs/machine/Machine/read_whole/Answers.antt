@@ -1,30 +1,23 @@
-use Rattle.std.proofs.Common.{◌≡◌, ◌+◌, ◌≤◌, nat_lt, ℕ, List, ◌∷◌, length, reverse, refl, sym, ◌∙◌, ap, subst, arith, length-append}
+use Rattle.std.proofs.Common.{◌+◌, ◌≤◌, nat_lt, ℕ, ◌∷◌, length, sym, ◌∙◌, ap, subst, arith, length-append}
 use Rattle.csn_bits.specs.Numbers.{low_bits}
 use Rattle.csn_desc.specs.Nodes.{DescV}
 use Rattle.csn_judge.specs.declared.frame.Frame.TheVariants as frame
 use Rattle.csn_judge.specs.declared.pace.Pace.{Pace}
-use Rattle.csn_judge.specs.Turns.{state_with, GoesOn}
-use Rattle.csn_judge.proofs.TurningEntry.{node_within}
+use Rattle.csn_judge.specs.Turns.{state_at, GoesOn}
 use Rattle.csn_judge.proofs.WholeParts.{whole_read, whole_cheaper, all_taken, as_many_taken, none_wide}
 use Rattle.csn_judge.proofs.machine.Machine.read_whole.Goals as goal
 
-pub layout-requires : goal.layout-requires
-layout-requires g c = node_within c.args.self.now.plan.now g.T.Track.takes c.args.track.now c.args.self.now.values.items c.args.self.now.pace c.args.source.now c.requires.stands.known c.requires.stands.stands
-
-pub whole-requires-clause-node : goal.whole-requires-clause-node
-whole-requires-clause-node g c = node_within c.args.self.now.plan.now g.T.Track.takes c.args.track.now c.args.self.now.values.items c.args.self.now.pace c.args.source.now c.requires.stands.known c.requires.stands.stands
-
 pub returns-clause-turns : goal.returns-clause-turns
-returns-clause-turns g c = λ yes stack done stands.
+returns-clause-turns g c = λ yes behind some stack done stands.
     let d : DescV = c.args.self.now.plan.now in
     let width : ℕ = c.in-Some.layout.width in
     let long : width ≤ length c.ready.new.self.bits = omega (arith, c.ready.ensures.count, c.if-ready-width.false) in
     let many = as_many_taken width c.ready.new.self.bits c.peek-number.ensures.written long in
     let took = c.take.ensures.rest in
-    let P : Pace → Type 0 = λ p. GoesOn d g.T.Track.takes (state_with (frame.Begin c.args.i) c.args.self.now c.args.source.now) (record { frames = reverse c.args.self.now.frames.items; values = c.args.self.now.values.items; pace = p; coming = c.take.new.self }) c.args.track.now c.whole.new.self stack done in
+    let P : Pace → Type 0 = λ p. GoesOn d g.T.Track.takes (state_at (frame.Begin c.args.i ∷ behind) c.args.self.now c.args.source.now) (record { frames = behind; values = c.args.self.now.values.items; pace = p; coming = c.take.new.self }) c.args.track.now c.whole.new.self stack done in
     subst P (sym c.bits.ensures)
-    (whole_read d g.T.Track.takes c.args.track.now c.whole.new.self c.args.self.now.values.items c.args.self.now.pace c.args.source.now c.take.new.self c.args.i (reverse c.args.self.now.frames.items)
-    (nat_lt 0 width) c.requires.stands.known c.in-Some.ensures.laid
+    (whole_read d g.T.Track.takes c.args.track.now c.whole.new.self c.args.self.now.values.items c.args.self.now.pace c.args.source.now c.take.new.self c.args.i behind
+    (nat_lt 0 width) some.known c.in-Some.ensures.laid
     (λ o v. c.admits.ensures c.if-not-admits.false d c.args.i o v c.in-Some.ensures)
     (c.whole.ensures.told c.if-not-whole.false)
     (none_wide width many)
@@ -35,11 +28,11 @@ returns-clause-turns g c = λ yes stack done stands.
     stands)
 
 pub returns-clause-pays : goal.returns-clause-pays
-returns-clause-pays g c = λ yes.
+returns-clause-pays g c = λ yes behind.
     let d : DescV = c.args.self.now.plan.now in
     let width : ℕ = c.in-Some.layout.width in
     let long : width ≤ length c.ready.new.self.bits = omega (arith, c.ready.ensures.count, c.if-ready-width.false) in
     let many = as_many_taken width c.ready.new.self.bits c.peek-number.ensures.written long in
     let cut = sym c.ready.ensures.same.bits ∙ all_taken width c.ready.new.self.bits c.peek-number.ensures.written (ap (λ s. s.bits) c.take.ensures.rest) in
-    whole_cheaper (length d.nodes) (length c.take.new.self.bits) c.args.i width (reverse c.args.self.now.frames.items) c.args.self.now.pace c.bits.ensures
+    whole_cheaper (length d.nodes) (length c.take.new.self.bits) c.args.i width behind c.args.self.now.pace c.bits.ensures
     (omega (arith, ap (λ l. length l) cut, many, length-append (low_bits width c.peek-number.result) c.take.new.self.bits))

@@ -15,7 +15,7 @@ returns-in_default-clause-turns g c =
     let gone : c.pop.new.self.items ≡ [] = ap (λ v. v.items) (c.in_default.ensures.empty) ∙ none in
     let P : List Frame → Type 0 = λ l. Turns c.args.self.now.plan.now g.T.Track.takes (record { frames = reverse l; values = c.args.self.now.values.items; pace = c.args.self.now.pace; coming = c.args.source.now }) (record { frames = reverse c.pop.new.self.items; values = c.args.self.now.values.items; pace = c.args.self.now.pace; coming = c.args.source.now }) c.args.track.now c.args.track.now c.stopped.result in
     let Q : List Frame → Type 0 = λ l. Turns c.args.self.now.plan.now g.T.Track.takes (record { frames = []; values = c.args.self.now.values.items; pace = c.args.self.now.pace; coming = c.args.source.now }) (record { frames = reverse l; values = c.args.self.now.values.items; pace = c.args.self.now.pace; coming = c.args.source.now }) c.args.track.now c.args.track.now c.stopped.result in
-    subst P (sym none) (subst Q (sym gone) (stops_behind c.args.self.now.plan.now g.T.Track.takes c.args.track.now c.args.self.now.values.items c.args.self.now.pace c.args.source.now c.stopped.result c.stopped.ensures c.requires.known))
+    subst P (sym none) (subst Q (sym gone) (stops_behind c.args.self.now.plan.now g.T.Track.takes c.args.track.now c.args.self.now.values.items c.args.self.now.pace c.args.source.now c.stopped.result c.stopped.ensures c.requires.stands.known))
 
 pub returns-in-Begin-clause-turns : goal.returns-in-Begin-clause-turns
 returns-in-Begin-clause-turns g c =
@@ -26,12 +26,12 @@ returns-in-Begin-clause-turns g c =
 pub pass-requires-clause-node : goal.pass-requires-clause-node
 pass-requires-clause-node g c =
     let is = popped_frame c.pop.new.self.items c.in-Some.ensures.items c.in-Choice.is in
-    choice_within c.args.self.now.plan.now (subst (λ (l : List Frame). Shows c.args.self.now.plan.now l c.args.self.now.values.items c.requires.stack c.requires.done) is c.requires.stands.shows)
+    choice_within c.args.self.now.plan.now (subst (λ (l : List Frame). Shows c.args.self.now.plan.now l c.args.self.now.values.items c.requires.stands.stack c.requires.stands.done) is c.requires.stands.stands.shows)
 
 pub pass-requires-in-Named-clause-node : goal.pass-requires-in-Named-clause-node
 pass-requires-in-Named-clause-node g c =
     let is = popped_frame c.pop.new.self.items c.in-Some.ensures.items c.in-Named.is in
-    label_within c.args.self.now.plan.now (subst (λ (l : List Frame). Shows c.args.self.now.plan.now l c.args.self.now.values.items c.requires.stack c.requires.done) is c.requires.stands.shows)
+    label_within c.args.self.now.plan.now (subst (λ (l : List Frame). Shows c.args.self.now.plan.now l c.args.self.now.values.items c.requires.stands.stack c.requires.stands.done) is c.requires.stands.stands.shows)
 
 pub returns-in-Open-clause-turns : goal.returns-in-Open-clause-turns
 returns-in-Open-clause-turns g c =
