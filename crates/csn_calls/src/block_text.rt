@@ -41,7 +41,9 @@ fn read(
 }
 
 // A line, what it comes to, and what is written of it.
-const LINES: &[(&[u8], LineEnd, &[u8])] = &[
+type LineCase = (&'static [u8], LineEnd, &'static [u8]);
+
+const LINES: &[LineCase] = &[
     (b"25", LineEnd::Text { bits: 8 }, b"[. 7'37]"),
     (b"20/4", LineEnd::Text { bits: 4 }, b"[. 3'2]"),
     (b"A5", LineEnd::Refused { place: 0, bits: 8 }, b""),
@@ -62,14 +64,29 @@ const LINES: &[(&[u8], LineEnd, &[u8])] = &[
     (b"25", LineEnd::Text { bits: 8 }, b"[. 7'37]"),
 ];
 
+// a line of the table, in pieces of so many bytes
+fn reads_line<R: Abort>(
+    rt: &R,
+    alloc: Global,
+    text: &mut LineText<'_>,
+    size: usize,
+    case: &LineCase,
+) -> Result<(), Fail>
+    requires { 0 < size }
+{
+    let (line, want, written) = case;
+    let mut out = Vec::new(alloc);
+    assert_eq!(rt; read(text, line, size, &mut out)?, *want);
+    assert!(rt; out.as_slice() == *written);
+    Ok(())
+}
+
 // all lines of the table by one value, in pieces of so many bytes
 fn reads<R: Abort>(rt: &R, alloc: Global, text: &mut LineText<'_>, size: usize) -> Result<(), Fail>
     requires { 0 < size }
 {
-    for &(line, want, written) in LINES {
-        let mut out = Vec::new(alloc);
-        assert_eq!(rt; read(text, line, size, &mut out)?, want);
-        assert!(rt; out.as_slice() == written);
+    for case in LINES {
+        reads_line(rt, alloc, text, size, case)?;
     }
     Ok(())
 }

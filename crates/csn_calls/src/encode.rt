@@ -74,6 +74,33 @@ fn is_line(alloc: Global, written: Option<Bits>, line: &[u8]) -> Result<bool, Fa
     Ok(written.as_slice() == line)
 }
 
+// whether the tree is written as this block line
+fn is_written<L: Ledger>(
+    alloc: Global,
+    plan: &Plan,
+    tree: &Tree,
+    line: &[u8],
+    steps: &mut Steps<L>,
+) -> Result<bool, Fail> {
+    is_line(alloc, encode(alloc, plan, tree, steps).ok(), line)
+}
+
+// whether the tree of the text is written as this block line, along the text
+fn is_written_along<L: Ledger>(
+    alloc: Global,
+    plan: &Plan,
+    text: &[u8],
+    line: &[u8],
+    steps: &mut Steps<L>,
+) -> Result<bool, Fail> {
+    is_line(alloc, encode_text(alloc, plan, text, steps), line)
+}
+
+// whether no block has the tree of the text
+fn none_along<L: Ledger>(alloc: Global, plan: &Plan, text: &[u8], steps: &mut Steps<L>) -> bool {
+    encode_text(alloc, plan, text, steps).is_none()
+}
+
 // why and where the tree misses
 fn miss_of<L: Ledger>(
     alloc: Global,
@@ -98,29 +125,50 @@ fn expect_wide<R: Abort>(rt: &R, misfit: &Misfit) {
     assert_eq!(rt; (misfit.path.get(0), misfit.path.get(1)), (2, 0));
 }
 
-fn writes<L: Ledger, R: Abort>(rt: &R, alloc: Global, blank: Blank) -> Result<(), Fail>
+fn writes<L: Ledger, R: Abort>(
+    rt: &R,
+    alloc: Global,
+    plan: &Plan,
+    steps: &mut Steps<L>,
+) -> Result<(), Fail> {
+    let tree = two_leaves(alloc, &[1, 0, 1], &[0, 1, 0, 1])?;
+    assert!(rt; is_written(alloc, plan, &tree, b"A5", steps)?);
+    let text = b"[<A>=3'5 . <B>=4'5]";
+    assert!(rt; is_written_along(alloc, plan, text, b"A5", steps)?);
+    assert!(rt; none_along(alloc, plan, b"[<A>=3'5 . <B>=5'5]", steps));
+    Ok(())
+}
+
+// the tree with these bits in its second field misses there
+fn misses<L: Ledger, R: Abort>(
+    rt: &R,
+    alloc: Global,
+    plan: &Plan,
+    second: &[u8],
+    steps: &mut Steps<L>,
+) -> Result<(), Fail> {
+    let wide = two_leaves(alloc, &[1, 0, 1], second)?;
+    match miss_of(alloc, plan, &wide, steps) {
+        Some(misfit) => {
+            expect_wide(rt, &misfit);
+            Ok(())
+        }
+        None => Err("it does not miss".into()),
+    }
+}
+
+fn writes_or_misses<L: Ledger, R: Abort>(rt: &R, alloc: Global, blank: Blank) -> Result<(), Fail>
     requires name { blank.name ≡ L.name }
     requires parts { blank.parts ≡ L.parts }
     requires some { 0 < blank.parts }
 {
     let mut steps = Steps::<L>::new(blank);
     let plan = two_fields(alloc)?;
-    let tree = two_leaves(alloc, &[1, 0, 1], &[0, 1, 0, 1])?;
-    let written = encode(alloc, &plan, &tree, &mut steps).ok();
-    assert!(rt; is_line(alloc, written, b"A5")?);
-    let written = encode_text(alloc, &plan, b"[<A>=3'5 . <B>=4'5]", &mut steps);
-    assert!(rt; is_line(alloc, written, b"A5")?);
-    let written = encode_text(alloc, &plan, b"[<A>=3'5 . <B>=5'5]", &mut steps);
-    assert!(rt; written.is_none());
-    let wide = two_leaves(alloc, &[1, 0, 1], &[0, 1, 0, 1, 1])?;
-    let Some(misfit) = miss_of(alloc, &plan, &wide, &mut steps) else {
-        return Err("it does not miss".into());
-    };
-    expect_wide(rt, &misfit);
-    Ok(())
+    writes(rt, alloc, &plan, &mut steps)?;
+    misses(rt, alloc, &plan, &[0, 1, 0, 1, 1], &mut steps)
 }
 
 #[test]
 fn a_tree_is_written_or_misses(rt: HostRuntime) -> Result<(), Fail> {
-    writes::<Brand, HostRuntime>(&rt, rt.alloc(), Blank::new(1))
+    writes_or_misses::<Brand, HostRuntime>(&rt, rt.alloc(), Blank::new(1))
 }

@@ -1,8 +1,12 @@
+ghost use Rattle.std.specs.Prelude.{◌≡◌, ◌<◌, ◌≤◌, length};
+ghost use Rattle.csn_look.specs.LookKeys.{IsKeysOf};
+
 use crate::building::{bits, enter, finished, labelled, leaf, leave, literal, word_of};
 use crate::look::marks_of;
 use csn_desc::{Count, Desc, DescBuilder, Head, Reading, Symbol};
-use csn_look::{Begins, Look, Reach, Sign, SymbolSet};
+use csn_look::{Begins, Key, Look, Reach, Sign, SymbolSet};
 use std::alloc::Global;
+use std::process::Abort;
 use std::test::Fail;
 
 /// `{ 01 | 10 <A : bit> }`: node 0 is the choice, 1 the first literal word, 2 the sequence.
@@ -58,7 +62,7 @@ fn last_kinds(alloc: Global, builder: &mut DescBuilder) -> Result<(), Fail> {
     leaf(builder, Head::Pad)
 }
 
-/// A node, an octet position, how many keys there are, and the first one.
+/// A node, an octet position, how many keys there are, the first one, and whether it is a whole word.
 type KeysCase = (u16, u8, u32, &'static [u8], bool);
 
 /// A node, whether it may have no bits, whether it is firm, where it ends from 0 on and where it is reached.
@@ -107,16 +111,32 @@ const KEYS: &[KeysCase] = &[
     (19, 0, 1, &[0], false),
 ];
 
-#[test]
-fn nodes_have_their_keys(rt: HostRuntime) -> Result<(), Fail> {
-    let desc = every_kind(rt.alloc())?;
-    let look = Look::new(rt.alloc(), &desc)?;
-    for &(node, octet, count, first, whole) in KEYS {
+/// How many keys a node has at an octet position, and the first one.
+fn first_key(alloc: Global, look: &Look, node: u16, octet: u8) -> Result<(u32, Key), Fail>
+    requires node { node < length look.now.rows }
+    requires octet { octet ≤ 7 }
+{
+    let keys = look.keys(alloc, node, octet)?;
+    if keys.len() == 0 {
+        return Err("no keys".into());
+    }
+    Ok((keys.len(), *keys.get(0)))
+}
+
+/// The nodes of a description have the keys of these rows.
+fn have_keys<R: Abort>(
+    rt: &R,
+    alloc: Global,
+    desc: &Desc,
+    look: &Look,
+    cases: &[KeysCase],
+) -> Result<(), Fail>
+    requires { IsKeysOf desc.now look.now }
+{
+    for &(node, octet, count, first, whole) in cases {
         assert!(rt; node < desc.len() && octet <= 7);
-        let keys = look.keys(rt.alloc(), node, octet)?;
-        assert_eq!(rt; keys.len(), count, "{node} at {octet}");
-        assert!(rt; keys.len() > 0);
-        let key = keys.get(0);
+        let (len, key) = first_key(alloc, look, node, octet)?;
+        assert_eq!(rt; len, count, "{node} at {octet}");
         assert!(rt; key.word == word_of(first)?, "{node} at {octet}");
         assert_eq!(rt; key.whole, whole, "{node} at {octet}");
     }
@@ -124,19 +144,41 @@ fn nodes_have_their_keys(rt: HostRuntime) -> Result<(), Fail> {
 }
 
 #[test]
+fn nodes_have_their_keys(rt: HostRuntime) -> Result<(), Fail> {
+    let desc = every_kind(rt.alloc())?;
+    let look = Look::new(rt.alloc(), &desc)?;
+    have_keys(&rt, rt.alloc(), &desc, &look, KEYS)
+}
+
+/// Whether a node may have no bits, whether it is firm, where it ends from 0 on and where it is reached.
+fn sets_of(look: &Look, reach: &Reach, node: u16) -> (bool, bool, u8, u8)
+    requires sets { node < length look.now.sets }
+    requires reached { node < length reach.now.reached }
+{
+    let ends = marks_of(look.ends(node, 0));
+    let reached = marks_of(reach.reached(node));
+    (look.nullable(node), look.firm(node), ends, reached)
+}
+
+/// The nodes of a description have the sets of these rows.
+fn have_sets<R: Abort>(rt: &R, desc: &Desc, look: &Look, reach: &Reach, cases: &[SetsCase])
+    requires sets { length look.now.sets ≡ length desc.now.nodes }
+    requires reached { length reach.now.reached ≡ length desc.now.nodes }
+{
+    for &(node, nullable, firm, ends, reached) in cases {
+        assert!(rt; node < desc.len());
+        let sets = sets_of(look, reach, node);
+        assert_eq!(rt; sets, (nullable, firm, ends, reached), "{node}");
+    }
+}
+
+#[test]
 fn nodes_have_their_sets(rt: HostRuntime) -> Result<(), Fail> {
     let desc = every_kind(rt.alloc())?;
     let look = Look::new(rt.alloc(), &desc)?;
     let reach = Reach::new(rt.alloc(), &desc, &look)?;
-    for cases in [FIRM, NOT_FIRM.as_slice()] {
-        for &(node, nullable, firm, ends, reached) in cases {
-            assert!(rt; node < desc.len());
-            assert_eq!(rt; look.nullable(node), nullable, "{node}");
-            assert_eq!(rt; look.firm(node), firm, "{node}");
-            assert_eq!(rt; marks_of(look.ends(node, 0)), ends, "{node}");
-            assert_eq!(rt; marks_of(reach.reached(node)), reached, "{node}");
-        }
-    }
+    have_sets(&rt, &desc, &look, &reach, FIRM);
+    have_sets(&rt, &desc, &look, &reach, NOT_FIRM.as_slice());
     Ok(())
 }
 
@@ -195,13 +237,12 @@ fn doubled(alloc: Global, builder: &mut DescBuilder, levels: u8) -> Result<(), F
     leave(builder)
 }
 
-/// A node, its one key at octet position 5, and whether the key is a whole word: twice a 0, four times, eight
-/// times and more often.
-const DOUBLED: &[(u16, &[u8], bool)] = &[
-    (12, &[0, 0], true),
-    (11, &[0, 0, 0, 0], true),
-    (10, &[0; 8], true),
-    (0, &[0; 12], false),
+/// Each node has one key: twice a 0, four times, eight times and more often.
+const DOUBLED: &[KeysCase] = &[
+    (12, 5, 1, &[0, 0], true),
+    (11, 5, 1, &[0, 0, 0, 0], true),
+    (10, 5, 1, &[0; 8], true),
+    (0, 5, 1, &[0; 12], false),
 ];
 
 #[test]
@@ -211,12 +252,5 @@ fn equal_parts_share_their_tables(rt: HostRuntime) -> Result<(), Fail> {
     let desc = finished(builder)?;
     assert_eq!(rt; desc.len(), 16_383);
     let look = Look::new(rt.alloc(), &desc)?;
-    for &(node, word, whole) in DOUBLED {
-        assert!(rt; node < desc.len());
-        let keys = look.keys(rt.alloc(), node, 5)?;
-        assert_eq!(rt; keys.len(), 1, "{node}");
-        assert!(rt; keys.get(0).word == word_of(word)?, "{node}");
-        assert_eq!(rt; keys.get(0).whole, whole, "{node}");
-    }
-    Ok(())
+    have_keys(&rt, rt.alloc(), &desc, &look, DOUBLED)
 }

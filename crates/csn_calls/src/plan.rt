@@ -1,4 +1,4 @@
-ghost use Rattle.std.specs.Prelude.{◌≡◌, ◌<◌, ◌≤◌, length, IsTrue};
+ghost use Rattle.std.specs.Prelude.{◌≡◌, ◌<◌, ◌≤◌, length, IfOk, IsTrue};
 ghost use Rattle.csn_look.specs.ReachV.{IsReachOf};
 ghost use Rattle.csn_certify.specs.Picks.{IsAsked};
 
@@ -107,8 +107,50 @@ const OF_REPETITION: &[PickCase] = &[
     (&[0], true, Pick::Leave),
 ];
 
-// What look-ahead answers at a node at octet position 0, where some bits are held and the block has ended or not.
+// Whether look-ahead may be asked at a node of a description at octet position 0.
+fn is_asked_first(alloc: Global, desc: &Desc, i: u16) -> Result<bool, Fail>
+    ensures node { IfOk result (λ yes. IsTrue yes → i < length desc.now.nodes) }
+    ensures asked { IfOk result (λ yes. IsTrue yes → IsAsked desc.now i 0) }
+{
+    let look = Look::new(alloc, desc)?;
+    let reach = Reach::new(alloc, desc, &look)?;
+    Ok(is_asked(desc, &reach, i, 0))
+}
+
+// What look-ahead answers at a node at octet position 0 where these bits are held.
+fn answered<L: Ledger>(
+    plan: &Plan,
+    i: u16,
+    bits: &[u8],
+    ended: bool,
+    steps: &mut Steps<L>,
+) -> Result<Pick, Fail>
+    requires node { i < length plan.now.nodes }
+    requires asked { IsAsked plan.now i 0 }
+{
+    Ok(plan.pick(i, 0, &word_of(bits)?, ended, steps))
+}
+
+// It answers as these rows say.
 fn are_answered<L: Ledger, R: Abort>(
+    rt: &R,
+    plan: &Plan,
+    i: u16,
+    cases: &[PickCase],
+    steps: &mut Steps<L>,
+) -> Result<(), Fail>
+    requires node { i < length plan.now.nodes }
+    requires asked { IsAsked plan.now i 0 }
+{
+    for (bits, ended, pick) in cases {
+        let given = answered(plan, i, bits, *ended, steps)?;
+        assert_eq!(rt; given, *pick, "{bits:?} {ended}");
+    }
+    Ok(())
+}
+
+// A description is certified, and its plan answers at a node as these rows say.
+fn answers<L: Ledger, R: Abort>(
     rt: &R,
     alloc: Global,
     desc: Desc,
@@ -116,19 +158,13 @@ fn are_answered<L: Ledger, R: Abort>(
     cases: &[PickCase],
     steps: &mut Steps<L>,
 ) -> Result<(), Fail> {
-    let look = Look::new(alloc, &desc)?;
-    let reach = Reach::new(alloc, &desc, &look)?;
-    if !is_asked(&desc, &reach, i, 0) {
+    if !is_asked_first(alloc, &desc, i)? {
         return Err("it is not asked there".into());
     }
     let Ok(plan) = certify(alloc, desc) else {
         return Err("not certified".into());
     };
-    for (bits, ended, pick) in cases {
-        let given = plan.pick(i, 0, &word_of(bits)?, *ended, steps);
-        assert_eq!(rt; given, *pick, "{bits:?} {ended}");
-    }
-    Ok(())
+    are_answered(rt, &plan, i, cases, steps)
 }
 
 fn picks<L: Ledger, R: Abort>(rt: &R, alloc: Global, blank: Blank) -> Result<(), Fail>
@@ -137,14 +173,23 @@ fn picks<L: Ledger, R: Abort>(rt: &R, alloc: Global, blank: Blank) -> Result<(),
     requires some { 0 < blank.parts }
 {
     let mut steps = Steps::<L>::new(blank);
-    are_answered(rt, alloc, choice(alloc)?, 0, OF_CHOICE, &mut steps)?;
-    are_answered(rt, alloc, option(alloc)?, 1, OF_OPTION, &mut steps)?;
-    are_answered(rt, alloc, repetition(alloc)?, 0, OF_REPETITION, &mut steps)
+    answers(rt, alloc, choice(alloc)?, 0, OF_CHOICE, &mut steps)?;
+    answers(rt, alloc, option(alloc)?, 1, OF_OPTION, &mut steps)?;
+    answers(rt, alloc, repetition(alloc)?, 0, OF_REPETITION, &mut steps)
 }
 
 #[test]
 fn look_ahead_answers_by_held_bits(rt: HostRuntime) -> Result<(), Fail> {
     picks::<Brand, HostRuntime>(&rt, rt.alloc(), Blank::new(1))
+}
+
+// The nodes of the plan of the choice.
+fn gives_nodes<L: Ledger, R: Abort>(rt: &R, plan: &Plan, steps: &mut Steps<L>) {
+    assert_eq!(rt; plan.len(), 10);
+    assert_eq!(rt; plan.reading(), Reading::Received);
+    assert!(rt; !plan.counts(3));
+    let node = plan.node(9, steps);
+    assert!(rt; matches!(node, Node::Lits(_)));
 }
 
 fn nodes<L: Ledger, R: Abort>(rt: &R, alloc: Global, blank: Blank) -> Result<(), Fail>
@@ -156,11 +201,7 @@ fn nodes<L: Ledger, R: Abort>(rt: &R, alloc: Global, blank: Blank) -> Result<(),
     let Ok(plan) = certify(alloc, choice(alloc)?) else {
         return Err("not certified".into());
     };
-    assert_eq!(rt; plan.len(), 10);
-    assert_eq!(rt; plan.reading(), Reading::Received);
-    assert!(rt; !plan.counts(3));
-    let node = plan.node(9, &mut steps);
-    assert!(rt; matches!(node, Node::Lits(_)));
+    gives_nodes(rt, &plan, &mut steps);
     assert_eq!(rt; plan.into_desc().len(), 10);
     Ok(())
 }

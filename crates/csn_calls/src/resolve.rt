@@ -139,13 +139,19 @@ fn doubling(alloc: Global) -> Result<String, Fail> {
     Ok(text)
 }
 
+// How many nodes the text's rule of the name gives.
+fn nodes_in(alloc: Global, text: &str, name: &str, reading: Reading) -> Result<u16, Fail> {
+    let desc = resolved(alloc, text, name, reading)?.map_err(|_| "refused")?;
+    Ok(desc.len())
+}
+
 #[test]
 fn a_doubling_text_is_refused_at_its_limit(rt: HostRuntime) -> Result<(), Fail> {
     let text = doubling(rt.alloc())?;
     let refusal = refusal_of(rt.alloc(), text.as_str(), "D20", Reading::Sent)?;
     assert_eq!(rt; refusal, Some((11, 22)));
-    let most = resolved(rt.alloc(), text.as_str(), "D13", Reading::Sent)?.map_err(|_| "refused")?;
-    assert_eq!(rt; most.len(), 16_383);
+    let most = nodes_in(rt.alloc(), text.as_str(), "D13", Reading::Sent)?;
+    assert_eq!(rt; most, 16_383);
     Ok(())
 }
 
@@ -321,8 +327,8 @@ fn counting(alloc: Global, fields: u32) -> Result<String, Fail> {
 #[test]
 fn a_field_behind_64_counted_ones_is_refused(rt: HostRuntime) -> Result<(), Fail> {
     let most = counting(rt.alloc(), 64)?;
-    let desc = desc_of(rt.alloc(), most.as_str(), Reading::Received)?;
-    assert_eq!(rt; desc.len(), 193);
+    let nodes = nodes_in(rt.alloc(), most.as_str(), "M", Reading::Received)?;
+    assert_eq!(rt; nodes, 193);
     let more = counting(rt.alloc(), 65)?;
     let refusal = refusal_of(rt.alloc(), more.as_str(), "M", Reading::Received)?;
     assert_eq!(rt; refusal, Some((13, 766)));

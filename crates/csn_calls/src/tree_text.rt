@@ -1,10 +1,40 @@
+ghost use Rattle.std.specs.Prelude.{◌≤◌, length};
+ghost use Rattle.csn_bits.specs.declared.feed.TheConstants.{MOST_LINE};
+
 use csn_desc::{Shape, Tree};
 use csn_treetext::{TextFault, fits, read_old_tree, read_tree, write_tree};
+use std::alloc::Global;
 use std::test::Fail;
 
 // A text of every form: nothing, a number, no bits, a block line, rows, alternatives and labels.
 const LONG: &str =
     "[. <A>=3'5 b #16383:[] <GPRS Cell/2 o'k>=xFFFFFFFFFFFFFFFF80/1 [64'18446744073709551615 xFFFFFFFFFFFFFFFFFF]]";
+
+// What is written of the tree that a text spells.
+fn rewritten(alloc: Global, text: &[u8]) -> Result<Vec<u8>, Fail>
+    requires { length text.now ≤ MOST_LINE }
+{
+    let tree = read_tree(alloc, text).map_err(|_| "no text")?;
+    if !fits(&tree) {
+        return Err("it does not fit".into());
+    }
+    Ok(write_tree(alloc, &tree).map_err(|_| "out of memory")?)
+}
+
+// Why a text is refused.
+fn refusal_of(alloc: Global, text: &[u8]) -> Option<TextFault>
+    requires { length text.now ≤ MOST_LINE }
+{
+    read_tree(alloc, text).err()
+}
+
+// What is written of the tree that an old text spells.
+fn renewed(alloc: Global, text: &[u8]) -> Result<Vec<u8>, Fail>
+    requires { length text.now ≤ MOST_LINE }
+{
+    let tree = read_old_tree(alloc, text).map_err(|_| "no text")?;
+    Ok(write_tree(alloc, &tree).map_err(|_| "out of memory")?)
+}
 
 #[test]
 fn each_form_is_read_and_written_back(rt: HostRuntime) -> Result<(), Fail> {
@@ -20,9 +50,7 @@ fn each_form_is_read_and_written_back(rt: HostRuntime) -> Result<(), Fail> {
         "<A b>=1'0",
         LONG,
     ] {
-        let tree = read_tree(rt.alloc(), text.as_bytes()).map_err(|_| "no text")?;
-        assert!(rt; fits(&tree));
-        let wrote = write_tree(rt.alloc(), &tree).map_err(|_| "out of memory")?;
+        let wrote = rewritten(rt.alloc(), text.as_bytes())?;
         assert_eq!(rt; wrote.as_slice(), text.as_bytes());
     }
     Ok(())
@@ -32,13 +60,10 @@ fn each_form_is_read_and_written_back(rt: HostRuntime) -> Result<(), Fail> {
 fn every_front_of_a_long_text_is_refused_at_its_end(rt: HostRuntime) {
     let text = LONG.as_bytes();
     for place in 0..text.len() {
-        let read = read_tree(rt.alloc(), &text[..place]);
-        assert_eq!(rt;
-            read.err(),
-            Some(TextFault::Place {
-                place: place as u32
-            })
-        );
+        let fault = TextFault::Place {
+            place: place as u32,
+        };
+        assert_eq!(rt; refusal_of(rt.alloc(), &text[..place]), Some(fault));
     }
 }
 
@@ -57,8 +82,8 @@ fn a_bad_text_is_refused_at_its_place(rt: HostRuntime) {
         ("[. ]", 3),
         (". ", 1),
     ] {
-        let read = read_tree(rt.alloc(), text.as_bytes());
-        assert_eq!(rt; read.err(), Some(TextFault::Place { place }), "at {text}");
+        let refusal = refusal_of(rt.alloc(), text.as_bytes());
+        assert_eq!(rt; refusal, Some(TextFault::Place { place }), "at {text}");
     }
 }
 
@@ -70,8 +95,7 @@ fn old_texts_become_new_ones(rt: HostRuntime) -> Result<(), Fail> {
         ("64'18446744073709551615", "64'18446744073709551615"),
         ("b", "b"),
     ] {
-        let tree = read_old_tree(rt.alloc(), old.as_bytes()).map_err(|_| "no text")?;
-        let wrote = write_tree(rt.alloc(), &tree).map_err(|_| "out of memory")?;
+        let wrote = renewed(rt.alloc(), old.as_bytes())?;
         assert_eq!(rt; wrote.as_slice(), text.as_bytes());
     }
     for (old, place) in [("64'18446744073709551616", 22), ("xFF", 0), ("b1", 2)] {
