@@ -1,5 +1,7 @@
 use crate::building::word_of;
-use csn_look::{Begins, Follow, Key, KeyTable, KeyTables, OctetSet, Sign, SymbolSet, Word};
+use csn_look::{Begins, Follow, Key, KeySet, KeyTable, KeyTables, OctetSet, Sign, SymbolSet, Word};
+use std::alloc::Global;
+use std::process::Abort;
 use std::test::Fail;
 
 #[test]
@@ -130,58 +132,133 @@ fn lengths_are_repeated(rt: HostRuntime) -> Result<(), Fail> {
     Ok(())
 }
 
+/// The set of these keys, each a whole word.
+fn table_of(alloc: Global, keys: &[&[u8]]) -> Result<KeyTable, Fail> {
+    let mut table = KeyTable::new(alloc)?;
+    for key in keys {
+        table.add(alloc, &word_of(key)?, true)?;
+    }
+    Ok(table)
+}
+
+/// Bits, and how they stand to the keys of a set.
+pub(crate) type BeginsCase = (&'static [u8], Begins);
+
+/// Bits stand to the keys of a set as these rows say.
+pub(crate) fn begin_as<R: Abort>(
+    rt: &R,
+    table: &KeyTable,
+    cases: &[BeginsCase],
+) -> Result<(), Fail> {
+    for &(bits, begins) in cases {
+        assert_eq!(rt; table.begins(&word_of(bits)?), begins, "{bits:?}");
+    }
+    Ok(())
+}
+
+/// Bits, and whether they are a key of a set as a whole word, and as a cut one.
+pub(crate) type HoldsCase = (&'static [u8], bool, bool);
+
+/// A set holds the keys of these rows.
+pub(crate) fn holds_as<R: Abort>(
+    rt: &R,
+    table: &KeyTable,
+    cases: &[HoldsCase],
+) -> Result<(), Fail> {
+    for &(bits, whole, cut) in cases {
+        let word = word_of(bits)?;
+        let held = (table.holds(&word, true), table.holds(&word, false));
+        assert_eq!(rt; held, (whole, cut), "{bits:?}");
+    }
+    Ok(())
+}
+
+const BEFORE_THE_FIRST: &[BeginsCase] = &[(&[0], Begins::Neither)];
+
+const WITH_ALL_KEYS: &[BeginsCase] = &[
+    (&[], Begins::Proper),
+    (&[1, 0], Begins::Proper),
+    (&[1, 0, 1, 1], Begins::Key),
+    (&[0, 1], Begins::Key),
+    (&[1, 1], Begins::Neither),
+];
+
+const HELD: &[HoldsCase] = &[(&[1, 0, 1], true, false), (&[1, 0], false, false)];
+
 #[test]
 fn a_table_tells_how_bits_begin(rt: HostRuntime) -> Result<(), Fail> {
     // the keys 01, 100 and 101 of { 01 | 10 <A : bit> }
-    let mut first = KeyTable::new(rt.alloc())?;
-    first.add(rt.alloc(), &word_of(&[0, 1])?, true)?;
-    let mut table = KeyTable::new(rt.alloc())?;
-    table.add(rt.alloc(), &word_of(&[1, 0, 0])?, true)?;
-    table.add(rt.alloc(), &word_of(&[1, 0, 1])?, true)?;
-    assert_eq!(rt; table.begins(&word_of(&[0])?), Begins::Neither);
+    let first = table_of(rt.alloc(), &[&[0, 1]])?;
+    let mut table = table_of(rt.alloc(), &[&[1, 0, 0], &[1, 0, 1]])?;
+    begin_as(&rt, &table, BEFORE_THE_FIRST)?;
     table.add_all(rt.alloc(), &first)?;
-    assert!(rt; table.holds(&word_of(&[1, 0, 1])?, true));
-    assert!(rt; !table.holds(&word_of(&[1, 0, 1])?, false));
-    assert!(rt; !table.holds(&word_of(&[1, 0])?, true));
-    assert_eq!(rt; table.begins(&word_of(&[])?), Begins::Proper);
-    assert_eq!(rt; table.begins(&word_of(&[1, 0])?), Begins::Proper);
-    assert_eq!(rt; table.begins(&word_of(&[1, 0, 1, 1])?), Begins::Key);
-    assert_eq!(rt; table.begins(&word_of(&[0, 1])?), Begins::Key);
-    assert_eq!(rt; table.begins(&word_of(&[1, 1])?), Begins::Neither);
+    holds_as(&rt, &table, HELD)?;
+    begin_as(&rt, &table, WITH_ALL_KEYS)
+}
+
+/// The keys 0, whole, and 1, cut.
+fn zero_or_more(alloc: Global) -> Result<KeyTable, Fail> {
+    let mut table = table_of(alloc, &[&[0]])?;
+    table.add(alloc, &word_of(&[1])?, false)?;
+    Ok(table)
+}
+
+/// The keys of a first part, and of two bits behind it.
+fn with_two_bits(alloc: Global, first: &KeyTable) -> Result<KeyTable, Fail> {
+    let mut rest = KeyTable::new(alloc)?;
+    rest.add_words(alloc, 2, true)?;
+    let tables = [rest];
+    let mut both = KeyTable::new(alloc)?;
+    both.add_after(alloc, first, &tables, &[0; 8])?;
+    Ok(both)
+}
+
+/// The keys of these rows, in their order: the bits, and whether they are a whole word.
+fn lists<R: Abort>(rt: &R, keys: &KeySet, cases: &[(&[u8], bool)]) -> Result<(), Fail> {
+    assert_eq!(rt; keys.len() as usize, cases.len());
+    for at in 0..keys.len() {
+        let Some((bits, whole)) = cases.get(at as usize) else {
+            return Err("no row".into());
+        };
+        let key = keys.get(at);
+        assert!(rt; key.word == word_of(bits)?, "{at}");
+        assert_eq!(rt; key.whole, *whole, "{at}");
+    }
     Ok(())
 }
+
+const WITH_TWO_BITS: &[(&[u8], bool)] = &[
+    (&[0, 0, 0], true),
+    (&[0, 0, 1], true),
+    (&[0, 1, 0], true),
+    (&[0, 1, 1], true),
+    (&[1], false),
+];
 
 #[test]
 fn one_part_after_another(rt: HostRuntime) -> Result<(), Fail> {
     // 0, or 1 and more, and then two bits: 000, 001, 010 and 011, whole, and 1, cut
-    let mut first = KeyTable::new(rt.alloc())?;
-    first.add(rt.alloc(), &word_of(&[0])?, true)?;
-    first.add(rt.alloc(), &word_of(&[1])?, false)?;
-    let mut rest = KeyTable::new(rt.alloc())?;
-    rest.add_words(rt.alloc(), 2, true)?;
-    let tables = [rest];
-    let mut both = KeyTable::new(rt.alloc())?;
-    both.add_after(rt.alloc(), &first, &tables, &[0; 8])?;
+    let first = zero_or_more(rt.alloc())?;
+    let both = with_two_bits(rt.alloc(), &first)?;
     let keys = both.keys(rt.alloc())?;
-    assert_eq!(rt; keys.len(), 5);
-    assert!(rt; keys.get(1).word == word_of(&[0, 0, 1])?);
-    assert!(rt; keys.get(3).whole);
-    assert!(rt; keys.get(4).word == word_of(&[1])?);
-    assert!(rt; !keys.get(4).whole);
-    Ok(())
+    lists(&rt, &keys, WITH_TWO_BITS)
+}
+
+/// The numbers of sets of one key each, in the order in which they are kept.
+fn numbers_of(alloc: Global, tables: &mut KeyTables, keys: &[&[u8]]) -> Result<Vec<usize>, Fail> {
+    let mut numbers = Vec::new(alloc);
+    for key in keys {
+        let table = table_of(alloc, &[key])?;
+        numbers.push(tables.keep(table)?)?;
+    }
+    Ok(numbers)
 }
 
 #[test]
 fn equal_tables_are_kept_once(rt: HostRuntime) -> Result<(), Fail> {
     let mut tables = KeyTables::new(rt.alloc());
-    let mut numbers = Vec::new(rt.alloc());
-    for bits in [[0, 1], [1, 1], [0, 1]] {
-        let mut table = KeyTable::new(rt.alloc())?;
-        table.add(rt.alloc(), &word_of(&bits)?, true)?;
-        numbers.push(tables.keep(table)?)?;
-    }
+    let numbers = numbers_of(rt.alloc(), &mut tables, &[&[0, 1], &[1, 1], &[0, 1]])?;
     assert_eq!(rt; numbers.as_slice(), [0, 1, 0].as_slice());
     assert_eq!(rt; tables.len(), 2);
-    assert!(rt; tables.get(1).holds(&word_of(&[1, 1])?, true));
-    Ok(())
+    holds_as(&rt, tables.get(1), &[(&[1, 1], true, false)])
 }

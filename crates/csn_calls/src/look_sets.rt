@@ -2,7 +2,7 @@ ghost use Rattle.std.specs.Prelude.{◌≡◌, ◌<◌, ◌≤◌, length};
 ghost use Rattle.csn_look.specs.LookKeys.{IsKeysOf};
 
 use crate::building::{bits, enter, finished, labelled, leaf, leave, literal, word_of};
-use crate::look::marks_of;
+use crate::look::{BeginsCase, begin_as, holds_as, marks_of};
 use csn_desc::{Count, Desc, DescBuilder, Head, Reading, Symbol};
 use csn_look::{Begins, Key, Look, Reach, Sign, SymbolSet};
 use std::alloc::Global;
@@ -198,33 +198,57 @@ const SIGNS: &[SignsCase] = &[
     (19, (true, false, false), (false, false, true)),
 ];
 
+/// Whether 0, 1 and the end may come first at a node at octet position 3, and may follow there.
+fn signs_at(look: &Look, reach: &Reach, node: u16) -> ((bool, bool, bool), (bool, bool, bool))
+    requires sets { node < length look.now.sets }
+    requires follow { node < length reach.now.follow }
+{
+    let follow = reach.follow(node);
+    let first = look.first(node, 3, &follow);
+    (signs_of(first), signs_of(follow.at(3)))
+}
+
+/// The nodes of a description have the signs of these rows.
+fn have_signs<R: Abort>(rt: &R, desc: &Desc, look: &Look, reach: &Reach, cases: &[SignsCase])
+    requires sets { length look.now.sets ≡ length desc.now.nodes }
+    requires follow { length reach.now.follow ≡ length desc.now.nodes }
+{
+    for &(node, first, follow) in cases {
+        assert!(rt; node < desc.len());
+        assert_eq!(rt; signs_at(look, reach, node), (first, follow), "{node}");
+    }
+}
+
 #[test]
 fn signs_follow_and_come_first(rt: HostRuntime) -> Result<(), Fail> {
     let desc = every_kind(rt.alloc())?;
     let look = Look::new(rt.alloc(), &desc)?;
     let reach = Reach::new(rt.alloc(), &desc, &look)?;
-    for &(node, first, follow) in SIGNS {
-        assert!(rt; node < desc.len());
-        let after = reach.follow(node);
-        assert_eq!(rt; signs_of(after.at(3)), follow, "{node}");
-        assert_eq!(rt; signs_of(look.first(node, 3, &after)), first, "{node}");
-    }
+    have_signs(&rt, &desc, &look, &reach, SIGNS);
     Ok(())
+}
+
+const OF_THE_SEQUENCE: &[BeginsCase] = &[
+    (&[1, 0], Begins::Proper),
+    (&[1, 0, 1, 1], Begins::Key),
+    (&[0], Begins::Neither),
+];
+
+/// The description of `{ 01 | 10 <A : bit> }`.
+fn two_alternatives(alloc: Global) -> Result<Desc, Fail> {
+    let mut builder = DescBuilder::new(alloc, Reading::Received);
+    one_of_two(alloc, &mut builder)?;
+    finished(builder)
 }
 
 #[test]
 fn a_table_is_asked_for_some_bits(rt: HostRuntime) -> Result<(), Fail> {
-    let mut builder = DescBuilder::new(rt.alloc(), Reading::Received);
-    one_of_two(rt.alloc(), &mut builder)?;
-    let desc = finished(builder)?;
+    let desc = two_alternatives(rt.alloc())?;
     let look = Look::new(rt.alloc(), &desc)?;
     assert!(rt; desc.len() > 2);
     let table = look.key_table(2, 0);
-    assert_eq!(rt; table.begins(&word_of(&[1, 0])?), Begins::Proper);
-    assert_eq!(rt; table.begins(&word_of(&[1, 0, 1, 1])?), Begins::Key);
-    assert_eq!(rt; table.begins(&word_of(&[0])?), Begins::Neither);
-    assert!(rt; table.holds(&word_of(&[1, 0, 1])?, true));
-    Ok(())
+    begin_as(&rt, table, OF_THE_SEQUENCE)?;
+    holds_as(&rt, table, &[(&[1, 0, 1], true, false)])
 }
 
 fn doubled(alloc: Global, builder: &mut DescBuilder, levels: u8) -> Result<(), Fail> {

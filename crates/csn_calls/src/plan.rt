@@ -218,14 +218,6 @@ fn low(alloc: Global) -> Result<Desc, Fail> {
     finished(builder)
 }
 
-fn laid_out(width: u32, fixed: u32, number: u64) -> Option<Layout> {
-    Some(Layout {
-        width,
-        fixed,
-        number,
-    })
-}
-
 // The layout of a node.
 fn layout_of(plan: &Plan, i: u16) -> Result<Option<Layout>, Fail> {
     if i >= plan.len() {
@@ -245,16 +237,72 @@ fn admits(plan: &Plan, i: u16, number: u64) -> Result<bool, Fail> {
     Ok(layout.admits(number))
 }
 
+// A node, and the layout that it has.
+type LayoutCase = (u16, Option<Layout>);
+
+// The nodes of a plan have the layouts of these rows.
+fn are_laid_out<R: Abort>(rt: &R, plan: &Plan, cases: &[LayoutCase]) -> Result<(), Fail> {
+    for &(i, layout) in cases {
+        assert_eq!(rt; layout_of(plan, i)?, layout, "{i}");
+    }
+    Ok(())
+}
+
+const LAYOUTS_OF_CHOICE: &[LayoutCase] = &[
+    (0, None),
+    (
+        1,
+        Some(Layout {
+            width: 3,
+            fixed: 1,
+            number: 0,
+        }),
+    ),
+    (
+        4,
+        Some(Layout {
+            width: 2,
+            fixed: 0,
+            number: 0,
+        }),
+    ),
+    (
+        5,
+        Some(Layout {
+            width: 3,
+            fixed: 2,
+            number: 0b10,
+        }),
+    ),
+    (
+        9,
+        Some(Layout {
+            width: 2,
+            fixed: 2,
+            number: 0b11,
+        }),
+    ),
+];
+
+const LAYOUTS_OF_LOW: &[LayoutCase] = &[
+    (0, None),
+    (1, None),
+    (
+        3,
+        Some(Layout {
+            width: 2,
+            fixed: 0,
+            number: 0,
+        }),
+    ),
+];
+
 #[test]
 fn a_plan_gives_the_layouts_of_its_nodes(rt: HostRuntime) -> Result<(), Fail> {
     let Ok(plan) = certify(rt.alloc(), choice(rt.alloc())?) else {
         return Err("not certified".into());
     };
-    assert_eq!(rt; layout_of(&plan, 0)?, None);
-    assert_eq!(rt; layout_of(&plan, 1)?, laid_out(3, 1, 0));
-    assert_eq!(rt; layout_of(&plan, 4)?, laid_out(2, 0, 0));
-    assert_eq!(rt; layout_of(&plan, 5)?, laid_out(3, 2, 0b10));
-    assert_eq!(rt; layout_of(&plan, 9)?, laid_out(2, 2, 0b11));
+    are_laid_out(&rt, &plan, LAYOUTS_OF_CHOICE)?;
     assert!(rt; admits(&plan, 5, 0b101)?);
     assert!(rt; !admits(&plan, 5, 0b001)?);
     Ok(())
@@ -265,8 +313,5 @@ fn bits_that_go_by_their_place_have_no_layout(rt: HostRuntime) -> Result<(), Fai
     let Ok(plan) = certify(rt.alloc(), low(rt.alloc())?) else {
         return Err("not certified".into());
     };
-    assert_eq!(rt; layout_of(&plan, 0)?, None);
-    assert_eq!(rt; layout_of(&plan, 1)?, None);
-    assert_eq!(rt; layout_of(&plan, 3)?, laid_out(2, 0, 0));
-    Ok(())
+    are_laid_out(&rt, &plan, LAYOUTS_OF_LOW)
 }
