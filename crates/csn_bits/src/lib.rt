@@ -15,6 +15,3 @@ pub use fault::{BitsFault, LineWhy, NoMemory};
 pub use feed::{HexEnd, HexFeed, HexStep, MOST_LINE, Pairs};
 pub use packed::{MOST_ADDED, PackedBits};
 pub use pattern::pattern_bit;
-
-#[cfg(test)]
-mod tests;

@@ -18,7 +18,3 @@ mod look;
 mod look_sets;
 #[cfg(test)]
 mod plan;
-#[cfg(test)]
-mod resolve;
-#[cfg(test)]
-mod tree_text;

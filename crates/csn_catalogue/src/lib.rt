@@ -9,6 +9,3 @@ mod sample;
 pub use catalogue::text;
 pub use entry::{Entry, entries, entry_of, root_of, word_of};
 pub use sample::{Sample, sample_of};
-
-#[cfg(test)]
-mod tests;

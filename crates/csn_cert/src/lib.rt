@@ -14,6 +14,3 @@ pub use fault::CertFault;
 pub use pattern::{MOST_MARKS, Mark, Pattern};
 pub use read::{MOST_TEXT, read_certificate};
 pub use write::write_certificate;
-
-#[cfg(test)]
-mod tests;

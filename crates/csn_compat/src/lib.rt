@@ -7,7 +7,5 @@ pub mod laws;
 mod leaf;
 mod pairs;
 mod taking;
-#[cfg(test)]
-mod tests;
 
 pub use comparing::compat;

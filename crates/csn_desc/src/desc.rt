@@ -95,26 +95,3 @@ impl Desc {
         self.counted[i as usize]
     }
 }
-
-#[cfg(test)]
-mod tests {
-    use super::*;
-    use std::alloc::Global;
-    use std::test::Fail;
-
-    fn no_bits(alloc: Global) -> Result<Desc, Fail> {
-        let nodes = Vec::from_array(alloc, [Node::Null])?;
-        Ok(Desc::from_nodes(alloc, Reading::Sent, nodes).map_err(|_| "no description")?)
-    }
-
-    #[test]
-    fn a_description_lends_its_nodes(rt: HostRuntime) -> Result<(), Fail> {
-        let desc = no_bits(rt.alloc())?;
-        assert_eq!(rt; desc.len(), 1);
-        assert_eq!(rt; desc.reading(), Reading::Sent);
-        let root = desc.node(0);
-        assert!(rt; matches!(root, Node::Null));
-        assert!(rt; !desc.counts(0));
-        Ok(())
-    }
-}

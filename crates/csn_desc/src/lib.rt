@@ -15,8 +15,6 @@ mod parts;
 mod reading;
 mod run;
 mod symbol;
-#[cfg(test)]
-mod tests;
 mod tree;
 
 pub use builder::{DescBuilder, DescFault, MOST_DEPTH};

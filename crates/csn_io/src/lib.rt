@@ -13,6 +13,3 @@ pub use real::{DirShelf, StdSink, StdSource};
 pub use shelf::{Shelf, ShelfFault};
 pub use sink::{Put, Sink};
 pub use source::{Got, Source};
-
-#[cfg(test)]
-mod tests;

@@ -10,6 +10,3 @@ mod write;
 pub use fault::JsonFault;
 pub use read::read_json;
 pub use write::{json_fits, write_json};
-
-#[cfg(test)]
-mod tests;

@@ -20,6 +20,3 @@ pub use telling::{close, tell};
 pub use told::Told;
 pub use watcher::Watcher;
 pub use watchers::{BitsWatcher, EntryWatcher, RefusedWatcher};
-
-#[cfg(test)]
-mod tests;

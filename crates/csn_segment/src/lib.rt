@@ -11,6 +11,3 @@ mod message;
 
 pub use joined::{Joined, MOST_MESSAGE, SegmentWhy};
 pub use joiner::Joiner;
-
-#[cfg(test)]
-mod tests;

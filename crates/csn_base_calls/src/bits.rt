@@ -1,4 +1,4 @@
-use crate::{Bits, BitsFault, HexEnd, HexFeed, HexStep, LineWhy, MOST_BITS, Pairs, pattern_bit};
+use csn_bits::{Bits, BitsFault, HexEnd, HexFeed, HexStep, LineWhy, MOST_BITS, Pairs, pattern_bit};
 use std::test::Fail;
 
 /// How many digits the longest block line has.

@@ -1,5 +1,5 @@
-use crate::{CertFault, Certificate, Mark, Pattern, read_certificate, write_certificate};
 use csn_bits::NoMemory;
+use csn_cert::{CertFault, Certificate, Mark, Pattern, read_certificate, write_certificate};
 use std::alloc::Global;
 use std::test::Fail;
 

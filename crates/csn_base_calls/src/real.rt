@@ -1,4 +1,4 @@
-use crate::{DirShelf, Got, Put, Shelf, ShelfFault, Sink, Source, StdSink, StdSource};
+use csn_io::{DirShelf, Got, Put, Shelf, ShelfFault, Sink, Source, StdSink, StdSource};
 use std::io::{self, ErrorKind, Read, Write};
 use std::test::Fail;
 

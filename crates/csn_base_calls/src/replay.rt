@@ -1,9 +1,12 @@
 ghost use Rattle.csn_replay.specs.declared.seen.Kind.TheVariants.{Length};
 
-use crate::*;
 use csn_bits::NoMemory;
 use csn_catalogue::Entry;
 use csn_io::MemSink;
+use csn_replay::{
+    BitsWatcher, Capture, CaptureHead, EntryWatcher, Go, Kind, RefusedWatcher, Seen, Told, Watcher,
+    close, read_capture, tell,
+};
 use std::alloc::Global;
 use std::cell::Cell;
 use std::process::Abort;

@@ -1,5 +1,5 @@
-use crate::{Joined, Joiner, SegmentWhy};
 use arrayvec::ArrayVec;
+use csn_segment::{Joined, Joiner, SegmentWhy};
 use std::alloc::Global;
 use std::process::Abort;
 use std::test::Fail;

@@ -1,4 +1,5 @@
-use super::*;
+use crate::building::{bits, end};
+use csn_compat::compat;
 use csn_desc::{Count, Desc, DescBuilder, Head, Label, Reading, Run, Symbol};
 use std::alloc::Global;
 use std::test::Fail;
@@ -7,16 +8,8 @@ fn enter(builder: &mut DescBuilder, head: Head) -> bool {
     builder.takes(&head) && builder.enter(head).is_ok()
 }
 
-fn leave(builder: &mut DescBuilder) -> bool {
-    let may = builder.may_leave();
-    if may {
-        builder.leave();
-    }
-    may
-}
-
 fn leaf(builder: &mut DescBuilder, head: Head) -> bool {
-    enter(builder, head) && leave(builder)
+    enter(builder, head) && end(builder)
 }
 
 fn literal(alloc: Global, builder: &mut DescBuilder, symbol: Symbol) -> Result<bool, Fail> {
@@ -32,14 +25,7 @@ fn labelled(
     head: Head,
 ) -> Result<bool, Fail> {
     let label = Label::new(alloc, name).map_err(|_| "no label")?;
-    Ok(enter(builder, Head::Named(label)) && leaf(builder, head) && leave(builder))
-}
-
-fn bits(n: u32) -> Head {
-    Head::Field {
-        unit: 1,
-        count: Count::Fixed(n),
-    }
+    Ok(enter(builder, Head::Named(label)) && leaf(builder, head) && end(builder))
 }
 
 fn finished(builder: DescBuilder, built: bool) -> Result<Desc, Fail> {
@@ -84,7 +70,7 @@ fn described(alloc: Global, steps: &[Step]) -> Result<Desc, Fail> {
             && match *step {
                 Step::Row => enter(&mut builder, Head::Seq),
                 Step::Choice => enter(&mut builder, Head::Choice),
-                Step::Close => leave(&mut builder),
+                Step::Close => end(&mut builder),
                 Step::Literal(symbol) => literal(alloc, &mut builder, symbol)?,
                 Step::Field(name, width) => labelled(alloc, &mut builder, name, bits(width))?,
                 Step::Rest(name) => labelled(alloc, &mut builder, name, Head::Rest)?,
@@ -114,7 +100,7 @@ fn counted(alloc: Global, name: &[u8], more: u32) -> Result<Desc, Fail> {
     let built = enter(&mut builder, Head::Seq)
         && labelled(alloc, &mut builder, b"N", bits(2))?
         && labelled(alloc, &mut builder, name, Head::Field { unit: 1, count })?
-        && leave(&mut builder);
+        && end(&mut builder);
     finished(builder, built)
 }
 

@@ -1,6 +1,6 @@
-use crate::{JsonFault, json_fits, read_json, write_json};
 use csn_bits::MOST_LINE;
 use csn_desc::{Shape, Tree};
+use csn_json::{JsonFault, json_fits, read_json, write_json};
 use std::alloc::Global;
 use std::test::Fail;
 

@@ -1,4 +1,4 @@
-use crate::{Entry, entries, entry_of, root_of, sample_of, text, word_of};
+use csn_catalogue::{Entry, entries, entry_of, root_of, sample_of, text, word_of};
 use std::test::Fail;
 
 #[test]

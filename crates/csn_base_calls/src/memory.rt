@@ -1,4 +1,4 @@
-use crate::{Got, MemShelf, MemSink, MemSource, Put, Shelf, ShelfFault, Sink, Source};
+use csn_io::{Got, MemShelf, MemSink, MemSource, Put, Shelf, ShelfFault, Sink, Source};
 use std::alloc::{AllocError, Global};
 use std::collections::BTreeMap;
 use std::test::Fail;
