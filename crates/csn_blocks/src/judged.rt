@@ -4,7 +4,7 @@
 ghost use Rattle.std.specs.Prelude.{◌≡◌, ◌<◌, ◌≤◌, ◌+◌, length};
 
 use csn_bits::{Bits, MOST_BITS, MOST_LINE};
-use csn_catalogue::{entries, root_of, sample_of, text};
+use csn_catalogue::{Entry, entries, root_of, sample_of, text};
 use csn_certify::{Plan, Steps, certify};
 use csn_desc::{Node, Reading};
 use csn_grammar::read_rules;
@@ -369,6 +369,20 @@ fn expect(
     Ok(())
 }
 
+/// The block of a line is judged as the last cell says by the rule M of a text.
+fn expect_block(
+    rt: &impl Abort,
+    alloc: Global,
+    text: &str,
+    reading: Reading,
+    block: &str,
+    line: &str,
+) -> Result<(), Fail> {
+    let plan = plan_of(alloc, text, "M", reading)?;
+    let bits = block_of(alloc, block)?;
+    expect(rt, alloc, &plan, &bits, line)
+}
+
 /// A row of the table holds.
 fn expect_row(rt: &impl Abort, alloc: Global, row: &str) -> Result<(), Fail> {
     let cells = row.split(" @ ").collect::<Vec<&str>>(alloc)?;
@@ -380,9 +394,7 @@ fn expect_row(rt: &impl Abort, alloc: Global, row: &str) -> Result<(), Fail> {
     } else {
         Reading::Received
     };
-    let plan = plan_of(alloc, text, "M", reading)?;
-    let bits = block_of(alloc, block)?;
-    expect(rt, alloc, &plan, &bits, line)
+    expect_block(rt, alloc, text, reading, block, line)
 }
 
 #[test]
@@ -393,17 +405,27 @@ fn blocks_are_judged_in_any_pieces(rt: HostRuntime) -> Result<(), Fail> {
     Ok(())
 }
 
+/// The sample of an entry is a string of its rule in a text.
+fn expect_sample(
+    rt: &impl Abort,
+    alloc: Global,
+    text: &str,
+    entry: Entry,
+    reading: Reading,
+) -> Result<(), Fail> {
+    let name = str::from_utf8(root_of(entry)).map_err(|_| "no text")?;
+    let octets = sample_of(entry).octets;
+    let plan = plan_of(alloc, text, name, reading)?;
+    let bits = Bits::from_octets(alloc, octets, 8 * octets.len() as u32)?;
+    expect(rt, alloc, &plan, &bits, "ok")
+}
+
 #[test]
 fn blocks_of_the_catalogue_are_judged(rt: HostRuntime) -> Result<(), Fail> {
-    let alloc = rt.alloc();
-    let text = catalogue_in_tail_form(alloc)?;
+    let text = catalogue_in_tail_form(rt.alloc())?;
     for entry in entries() {
-        let name = str::from_utf8(root_of(entry)).map_err(|_| "no text")?;
-        let octets = sample_of(entry).octets;
         for reading in [Reading::Received, Reading::Sent] {
-            let plan = plan_of(alloc, &text, name, reading)?;
-            let bits = Bits::from_octets(alloc, octets, 8 * octets.len() as u32)?;
-            expect(&rt, alloc, &plan, &bits, "ok")?;
+            expect_sample(&rt, rt.alloc(), &text, entry, reading)?;
         }
     }
     Ok(())
@@ -417,17 +439,30 @@ fn the_longest_block_is_judged(rt: HostRuntime) -> Result<(), Fail> {
     expect(&rt, alloc, &plan, &bits, "no 524288 ended")
 }
 
-/// Each front of the block is judged by a plan: its fields end behind 43 bits, where the message may end, as it
+/// The front of the block is judged by a plan: its fields end behind 43 bits, where the message may end, as it
 /// may behind each bit of padding.
+fn expect_front(
+    rt: &impl Abort,
+    alloc: Global,
+    plan: &Plan,
+    block: &Bits,
+    len: u32,
+) -> Result<(), Fail>
+    requires { len ≤ length block.now }
+{
+    let front = Bits::from_octets(alloc, block.octets(), len)?;
+    let line = if len < 43 {
+        format!(in alloc; "no {len} ended")?
+    } else {
+        String::from_str(alloc, "ok")?
+    };
+    expect(rt, alloc, plan, &front, &line)
+}
+
+/// Each front of the block is judged by a plan.
 fn expect_fronts(rt: &impl Abort, alloc: Global, plan: &Plan, block: &Bits) -> Result<(), Fail> {
     for len in 0..block.len() + 1 {
-        let front = Bits::from_octets(alloc, block.octets(), len)?;
-        let line = if len < 43 {
-            format!(in alloc; "no {len} ended")?
-        } else {
-            String::from_str(alloc, "ok")?
-        };
-        expect(rt, alloc, plan, &front, &line)?;
+        expect_front(rt, alloc, plan, block, len)?;
     }
     Ok(())
 }
@@ -444,34 +479,41 @@ fn each_front_of_a_block_is_judged(rt: HostRuntime) -> Result<(), Fail> {
     Ok(())
 }
 
-/// The pieces of a block are answered as they come.
-fn expect_pieces(rt: &impl Abort, alloc: Global, case: &InPieces) -> Result<(), Fail> {
-    let text = case.text;
+/// What comes of the pieces that these lines spell by the rule M of a text.
+fn came_of_lines(alloc: Global, text: &str, lines: &[&str]) -> Result<Came, Fail> {
     let plan = plan_of(alloc, text, "M", Reading::Received)?;
-    let pieces = pieces_of(alloc, case.lines)?;
-    let came = came_of(alloc, &plan, &pieces)?;
+    let pieces = pieces_of(alloc, lines)?;
+    came_of(alloc, &plan, &pieces)
+}
+
+/// The pieces of a block were answered as they came.
+fn expect_answers(rt: &impl Abort, came: &Came, case: &InPieces) {
+    let text = case.text;
     assert_eq!(rt; came.answers.as_slice(), case.answers, "{text}");
     assert_eq!(rt; came.seen, case.seen, "{text}");
     assert_eq!(rt; came.end, case.end, "{text}");
-    Ok(())
 }
 
 #[test]
 fn each_piece_is_answered(rt: HostRuntime) -> Result<(), Fail> {
     for case in IN_PIECES {
-        expect_pieces(&rt, rt.alloc(), case)?;
+        let came = came_of_lines(rt.alloc(), case.text, case.lines)?;
+        expect_answers(&rt, &came, case);
     }
     Ok(())
 }
 
+/// These moves were told of a block that is a string.
+fn expect_moves(rt: &impl Abort, came: &Came, moves: &[Move]) {
+    assert_eq!(rt; came.moves.as_slice(), moves);
+    assert_eq!(rt; came.end, Judged::Ok);
+}
+
 #[test]
 fn moves_are_told(rt: HostRuntime) -> Result<(), Fail> {
-    let plan = plan_of(rt.alloc(), FIELDS, "M", Reading::Received)?;
     for lines in [["A5"].as_slice(), SINGLE_BITS] {
-        let pieces = pieces_of(rt.alloc(), lines)?;
-        let came = came_of(rt.alloc(), &plan, &pieces)?;
-        assert_eq!(rt; came.moves.as_slice(), MOVES);
-        assert_eq!(rt; came.end, Judged::Ok);
+        let came = came_of_lines(rt.alloc(), FIELDS, lines)?;
+        expect_moves(&rt, &came, MOVES);
     }
     Ok(())
 }

@@ -1,8 +1,8 @@
 ghost use Rattle.std.specs.Prelude.{◌<◌};
 
-use crate::building::{enter, finished, leaf, leave, literal};
+use crate::building::{certified, enter, finished, leaf, leave, literal};
 use csn_bits::{LineWhy, MOST_LINE};
-use csn_certify::{Plan, certify};
+use csn_certify::Plan;
 use csn_desc::{DescBuilder, Head, Reading, Symbol};
 use csn_movetext::{LineEnd, LineText, Openings, TreeForm};
 use std::alloc::Global;
@@ -16,10 +16,7 @@ fn zero_and_rest(alloc: Global) -> Result<Plan, Fail> {
     leaf(&mut builder, literal(alloc, &[Symbol::Zero])?)?;
     leaf(&mut builder, Head::Rest)?;
     leave(&mut builder)?;
-    match certify(alloc, finished(builder)?) {
-        Ok(plan) => Ok(plan),
-        Err(_fault) => Err(Fail::from("not certified")),
-    }
+    certified(alloc, finished(builder)?)
 }
 
 // what the line comes to that comes in pieces of so many bytes
@@ -64,6 +61,12 @@ const LINES: &[LineCase] = &[
     (b"25", LineEnd::Text { bits: 8 }, b"[. 7'37]"),
 ];
 
+// what a line comes to, and what was written of it, is as wanted
+fn expect_line<R: Abort>(rt: &R, end: &LineEnd, out: &[u8], want: &LineEnd, written: &[u8]) {
+    assert_eq!(rt; *end, *want);
+    assert!(rt; out == written);
+}
+
 // a line of the table, in pieces of so many bytes
 fn reads_line<R: Abort>(
     rt: &R,
@@ -76,8 +79,8 @@ fn reads_line<R: Abort>(
 {
     let (line, want, written) = case;
     let mut out = Vec::new(alloc);
-    assert_eq!(rt; read(text, line, size, &mut out)?, *want);
-    assert!(rt; out.as_slice() == *written);
+    let end = read(text, line, size, &mut out)?;
+    expect_line(rt, &end, &out, want, written);
     Ok(())
 }
 
@@ -91,15 +94,20 @@ fn reads<R: Abort>(rt: &R, alloc: Global, text: &mut LineText<'_>, size: usize) 
     Ok(())
 }
 
+// what a line of so many digits comes to
+fn read_long(alloc: Global, text: &mut LineText<'_>, digits: usize) -> Result<LineEnd, Fail> {
+    let line = vec![in alloc; b'0'; digits]?;
+    let mut out = Vec::new(alloc);
+    read(text, &line, 1000, &mut out)
+}
+
 // lines of so many digits, the second of which spells the longest block
 fn long_lines<R: Abort>(rt: &R, alloc: Global, text: &mut LineText<'_>) -> Result<(), Fail> {
     for (digits, want) in [
         (131_074, LineEnd::Fault(LineWhy::TooManyBits)),
         (131_072, LineEnd::Text { bits: 524_288 }),
     ] {
-        let line = vec![in alloc; b'0'; digits]?;
-        let mut out = Vec::new(alloc);
-        assert_eq!(rt; read(text, &line, 1000, &mut out)?, want);
+        assert_eq!(rt; read_long(alloc, text, digits)?, want);
     }
     Ok(())
 }

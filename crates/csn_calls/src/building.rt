@@ -1,5 +1,6 @@
 //! Descriptions and words that are put together node by node and bit by bit.
 
+use csn_certify::{Plan, certify};
 use csn_desc::{Count, Desc, DescBuilder, Head, Label, MOST_SYMBOLS, Run, Symbol};
 use csn_look::{MOST_WORD, Word};
 use std::alloc::Global;
@@ -68,6 +69,14 @@ pub(crate) fn finished(builder: DescBuilder) -> Result<Desc, Fail> {
         return Err("a part is missing".into());
     }
     Ok(builder.finish().map_err(|_| "no description")?)
+}
+
+/// The plan of a description.
+pub(crate) fn certified(alloc: Global, desc: Desc) -> Result<Plan, Fail> {
+    match certify(alloc, desc) {
+        Ok(plan) => Ok(plan),
+        Err(_fault) => Err("not certified".into()),
+    }
 }
 
 /// A word of these bits.

@@ -1,8 +1,8 @@
 ghost use Rattle.std.specs.Prelude.{◌≡◌, ◌<◌};
 
-use crate::building::{bits, enter, finished, labelled, leaf, leave, literal};
+use crate::building::{bits, certified, enter, finished, labelled, leaf, leave, literal};
 use csn_bits::Bits;
-use csn_certify::{Plan, Steps, certify};
+use csn_certify::{Plan, Steps};
 use csn_desc::{DescBuilder, Head, Label, Reading, Rows, Shape, Symbol, Tree};
 use csn_encode::{EncodeFault, Misfit, MisfitWhy, encode, encode_text};
 use std::alloc::Global;
@@ -19,10 +19,7 @@ fn two_fields(alloc: Global) -> Result<Plan, Fail> {
     leaf(&mut builder, literal(alloc, &[Symbol::Zero])?)?;
     labelled(alloc, &mut builder, b"B", bits(4))?;
     leave(&mut builder)?;
-    match certify(alloc, finished(builder)?) {
-        Ok(plan) => Ok(plan),
-        Err(_fault) => Err(Fail::from("not certified")),
-    }
+    certified(alloc, finished(builder)?)
 }
 
 fn labelled_leaf(alloc: Global, name: &[u8], digits: &[u8]) -> Result<Tree, Fail> {

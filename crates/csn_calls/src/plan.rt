@@ -2,7 +2,7 @@ ghost use Rattle.std.specs.Prelude.{◌≡◌, ◌<◌, ◌≤◌, length, IfOk,
 ghost use Rattle.csn_look.specs.ReachV.{IsReachOf};
 ghost use Rattle.csn_certify.specs.Picks.{IsAsked};
 
-use crate::building::{bits, enter, finished, labelled, leaf, leave, literal, word_of};
+use crate::building::{bits, certified, enter, finished, labelled, leaf, leave, literal, word_of};
 use csn_certify::{Layout, Pick, Plan, Steps, certify};
 use csn_desc::{Desc, DescBuilder, Head, Node, Reading, Symbol};
 use csn_look::{Look, Reach};
@@ -198,9 +198,7 @@ fn nodes<L: Ledger, R: Abort>(rt: &R, alloc: Global, blank: Blank) -> Result<(),
     requires some { 0 < blank.parts }
 {
     let mut steps = Steps::<L>::new(blank);
-    let Ok(plan) = certify(alloc, choice(alloc)?) else {
-        return Err("not certified".into());
-    };
+    let plan = certified(alloc, choice(alloc)?)?;
     gives_nodes(rt, &plan, &mut steps);
     assert_eq!(rt; plan.into_desc().len(), 10);
     Ok(())
@@ -235,6 +233,14 @@ fn admits(plan: &Plan, i: u16, number: u64) -> Result<bool, Fail> {
         return Err("no layout".into());
     };
     Ok(layout.admits(number))
+}
+
+// A plan admits these numbers as all bits of a node, or does not.
+fn are_admitted<R: Abort>(rt: &R, plan: &Plan, cases: &[(u16, u64, bool)]) -> Result<(), Fail> {
+    for &(i, number, is_string) in cases {
+        assert_eq!(rt; admits(plan, i, number)?, is_string, "{i} {number}");
+    }
+    Ok(())
 }
 
 // A node, and the layout that it has.
@@ -299,19 +305,13 @@ const LAYOUTS_OF_LOW: &[LayoutCase] = &[
 
 #[test]
 fn a_plan_gives_the_layouts_of_its_nodes(rt: HostRuntime) -> Result<(), Fail> {
-    let Ok(plan) = certify(rt.alloc(), choice(rt.alloc())?) else {
-        return Err("not certified".into());
-    };
+    let plan = certified(rt.alloc(), choice(rt.alloc())?)?;
     are_laid_out(&rt, &plan, LAYOUTS_OF_CHOICE)?;
-    assert!(rt; admits(&plan, 5, 0b101)?);
-    assert!(rt; !admits(&plan, 5, 0b001)?);
-    Ok(())
+    are_admitted(&rt, &plan, &[(5, 0b101, true), (5, 0b001, false)])
 }
 
 #[test]
 fn bits_that_go_by_their_place_have_no_layout(rt: HostRuntime) -> Result<(), Fail> {
-    let Ok(plan) = certify(rt.alloc(), low(rt.alloc())?) else {
-        return Err("not certified".into());
-    };
+    let plan = certified(rt.alloc(), low(rt.alloc())?)?;
     are_laid_out(&rt, &plan, LAYOUTS_OF_LOW)
 }

@@ -117,6 +117,18 @@ impl Call {
     }
 }
 
+/// A run ended as the whole one did, and wrote as much.
+fn expect_whole(rt: &impl Abort, ran: &Ran, whole: &Ran, words: &[&str]) {
+    assert_eq!(rt; ran.ended.status(), whole.ended.status(), "{words:?}");
+    assert_eq!(rt; ran.text.as_slice(), whole.text.as_slice(), "{words:?}");
+}
+
+/// A run of which the call with this number failed wrote a front of the whole text.
+fn expect_front(rt: &impl Abort, ran: &Ran, whole: &Ran, words: &[&str], number: u32) {
+    let is_front = whole.text.starts_with(&ran.text);
+    assert!(rt; is_front, "{words:?}, call {number}");
+}
+
 /// Makes the calls of a kind fail, one in a run, until a run ends without a fault.
 fn fail_each(
     rt: &impl Abort,
@@ -129,14 +141,10 @@ fn fail_each(
     for number in 0..1000 {
         let ran = ran_failing(alloc, words, input, call.failing(alloc, number)?)?;
         if ran.ended.status() != call.status() {
-            assert_eq!(rt; ran.ended.status(), whole.ended.status(), "{words:?}");
-            assert_eq!(rt; ran.text.as_slice(), whole.text.as_slice(), "{words:?}");
+            expect_whole(rt, &ran, &whole, words);
             return Ok(());
         }
-        assert!(rt;
-            whole.text.starts_with(&ran.text),
-            "{words:?}, call {number}"
-        );
+        expect_front(rt, &ran, &whole, words, number);
     }
     assert!(rt; false, "{words:?} does not end");
     Ok(())

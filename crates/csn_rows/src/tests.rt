@@ -45,6 +45,41 @@ fn migrated(alloc: Global, input: &[u8]) -> Result<Ran, AllocError> {
     run_in_memory(alloc, &words, BTreeMap::new(alloc), input)
 }
 
+/// `show F M received` over the file and the input writes this text, and ends with this status.
+fn expect_shown(
+    rt: &impl Abort,
+    alloc: Global,
+    description: &[u8],
+    input: &[u8],
+    text: &[u8],
+    status: u8,
+    what: &str,
+) -> Result<(), AllocError> {
+    let ran = shown(alloc, description, input)?;
+    expect(rt, &ran, text, status, what);
+    Ok(())
+}
+
+/// `migrate` over the input writes this text, and ends with this status.
+fn expect_migrated(
+    rt: &impl Abort,
+    alloc: Global,
+    input: &[u8],
+    text: &[u8],
+    status: u8,
+    what: &str,
+) -> Result<(), AllocError> {
+    let ran = migrated(alloc, input)?;
+    expect(rt, &ran, text, status, what);
+    Ok(())
+}
+
+/// How long a text `migrate` writes over the input, and its status.
+fn migrated_len(alloc: Global, input: &[u8]) -> Result<(usize, u8), AllocError> {
+    let ran = migrated(alloc, input)?;
+    Ok((ran.text.len(), ran.ended.status()))
+}
+
 /// A run of which a call fails, by its kind and its number, ends with that fault, and has written this text.
 fn expect_fault(
     rt: &impl Abort,
@@ -95,8 +130,7 @@ const SHOWN: &[(&[u8], &[u8], &[u8], u8)] = &[
 #[test]
 fn blocks_are_shown(rt: HostRuntime) -> Result<(), Fail> {
     for &(description, input, text, status) in SHOWN {
-        let ran = shown(rt.alloc(), description, input)?;
-        expect(&rt, &ran, text, status, "a block");
+        expect_shown(&rt, rt.alloc(), description, input, text, status, "a block")?;
     }
     Ok(())
 }
@@ -134,8 +168,7 @@ const MIGRATED: &[(&[u8], &[u8], u8)] = &[
 #[test]
 fn old_texts_are_migrated(rt: HostRuntime) -> Result<(), Fail> {
     for &(input, text, status) in MIGRATED {
-        let ran = migrated(rt.alloc(), input)?;
-        expect(&rt, &ran, text, status, "an old text");
+        expect_migrated(&rt, rt.alloc(), input, text, status, "an old text")?;
     }
     Ok(())
 }
@@ -169,13 +202,28 @@ const WITHOUT_RULES: &[(&[u8], &[u8])] = &[
 fn texts_without_rules_are_refused(rt: HostRuntime) -> Result<(), Fail> {
     let alloc = rt.alloc();
     for &(description, text) in WITHOUT_RULES {
-        let ran = shown(alloc, description, b"A5\n")?;
-        expect(&rt, &ran, text, 3, "a text without rules");
+        expect_shown(
+            &rt,
+            alloc,
+            description,
+            b"A5\n",
+            text,
+            3,
+            "a text without rules",
+        )?;
     }
     let mut deep = Vec::from_slice(alloc, b"<M> ::= ")?;
     deep.extend_from_slice(&vec![in alloc; b'{'; 65]?)?;
-    let ran = shown(alloc, &deep, b"A5\n")?;
-    expect(&rt, &ran, b"syntax 72\n", 3, "a text of too many braces");
+    let text = b"syntax 72\n";
+    expect_shown(
+        &rt,
+        alloc,
+        &deep,
+        b"A5\n",
+        text,
+        3,
+        "a text of too many braces",
+    )?;
     Ok(())
 }
 
@@ -227,33 +275,50 @@ fn words_are_held_against_the_table(rt: HostRuntime) -> Result<(), Fail> {
 #[test]
 fn limits_are_kept(rt: HostRuntime) -> Result<(), Fail> {
     let alloc = rt.alloc();
-    let ran = shown(alloc, &vec![in alloc; b' '; 262_145]?, b"A5\n")?;
-    expect(&rt, &ran, b"", 8, "a long description");
-    let ran = shown(alloc, FIELDS, &vec![in alloc; b'\n'; 16_777_217]?)?;
-    expect(&rt, &ran, b"", 8, "a long input");
-    let ran = shown(alloc, FIELDS, &vec![in alloc; b'\n'; 16_777_216]?)?;
-    expect(&rt, &ran, b"", 0, "an input of the greatest length");
-    let mut line = vec![in alloc; b'0'; 131_072]?;
-    let ran = shown(alloc, FIELDS, &line)?;
-    expect(
+    let long = vec![in alloc; b' '; 262_145]?;
+    expect_shown(&rt, alloc, &long, b"A5\n", b"", 8, "a long description")?;
+    let mut input = vec![in alloc; b'\n'; 16_777_216]?;
+    expect_shown(
         &rt,
-        &ran,
-        b"no 8 bit\n",
+        alloc,
+        FIELDS,
+        &input,
+        b"",
+        0,
+        "an input of the greatest length",
+    )?;
+    input.push(b'\n')?;
+    expect_shown(&rt, alloc, FIELDS, &input, b"", 8, "a long input")?;
+    Ok(())
+}
+
+#[test]
+fn limits_of_lines_are_kept(rt: HostRuntime) -> Result<(), Fail> {
+    let alloc = rt.alloc();
+    let mut line = vec![in alloc; b'0'; 131_072]?;
+    let text = b"no 8 bit\n";
+    expect_shown(
+        &rt,
+        alloc,
+        FIELDS,
+        &line,
+        text,
         1,
         "a block of the greatest length",
-    );
+    )?;
     line.extend_from_slice(b"00")?;
-    let ran = shown(alloc, FIELDS, &line)?;
-    expect(&rt, &ran, b"bad 4\n", 1, "a long block");
+    expect_shown(&rt, alloc, FIELDS, &line, b"bad 4\n", 1, "a long block")?;
     line.push(b'G')?;
-    let ran = shown(alloc, FIELDS, &line)?;
-    expect(
+    let text = b"bad 1 131074\n";
+    expect_shown(
         &rt,
-        &ran,
-        b"bad 1 131074\n",
+        alloc,
+        FIELDS,
+        &line,
+        text,
         1,
         "a long block with a bad digit",
-    );
+    )?;
     Ok(())
 }
 
@@ -262,33 +327,42 @@ fn limits_of_old_texts_are_kept(rt: HostRuntime) -> Result<(), Fail> {
     let alloc = rt.alloc();
     let mut leaf = vec![in alloc; b'0'; 524_290]?;
     leaf[0] = b'b';
-    let ran = migrated(alloc, &leaf)?;
-    expect(&rt, &ran, b"bad 524289\n", 1, "a leaf that is too long");
+    let text = b"bad 524289\n";
+    expect_migrated(&rt, alloc, &leaf, text, 1, "a leaf that is too long")?;
     leaf.truncate(524_289);
-    let ran = migrated(alloc, &leaf)?;
-    assert_eq!(rt; ran.text.len(), 131_077);
-    assert_eq!(rt; ran.ended.status(), 0);
+    assert_eq!(rt; migrated_len(alloc, &leaf)?, (131_077, 0));
     let mut row = vec![in alloc; b'['; 64]?;
     row.extend_from_slice(&vec![in alloc; b']'; 64]?)?;
-    let ran = migrated(alloc, &row)?;
-    assert_eq!(rt; ran.ended.status(), 0);
+    assert_eq!(rt; migrated_len(alloc, &row)?, (132, 0));
     row.insert(0, b'[')?;
-    let ran = migrated(alloc, &row)?;
-    expect(&rt, &ran, b"bad 64\n", 1, "a tree that is too deep");
+    expect_migrated(&rt, alloc, &row, b"bad 64\n", 1, "a tree that is too deep")?;
+    Ok(())
+}
+
+#[test]
+fn limits_of_old_inputs_are_kept(rt: HostRuntime) -> Result<(), Fail> {
+    let alloc = rt.alloc();
     let mut input = vec![in alloc; b'\n'; 16_777_216]?;
     input[0] = b'b';
     input[16_777_215] = b'b';
-    let ran = migrated(alloc, &input)?;
-    expect(
+    let text = b"ok b\nok b\n";
+    expect_migrated(
         &rt,
-        &ran,
-        b"ok b\nok b\n",
+        alloc,
+        &input,
+        text,
         0,
         "an input of the greatest length",
-    );
+    )?;
     input.push(b'b')?;
-    let ran = migrated(alloc, &input)?;
-    expect(&rt, &ran, b"ok b\n", 8, "an input that is too long");
+    expect_migrated(
+        &rt,
+        alloc,
+        &input,
+        b"ok b\n",
+        8,
+        "an input that is too long",
+    )?;
     Ok(())
 }
 
