@@ -1,4 +1,4 @@
-use crate::building::{bits, end};
+use super::building::{bits, end};
 use csn_compat::compat;
 use csn_desc::{Count, Desc, DescBuilder, Head, Label, Reading, Run, Symbol};
 use std::alloc::Global;

@@ -1,4 +1,4 @@
-use crate::building::{bits, end};
+use super::building::{bits, end};
 use csn_desc::{Count, DescBuilder, DescFault, Head, Label, MOST_NODES, Reading, Run, Symbol};
 use std::alloc::Global;
 use std::test::Fail;

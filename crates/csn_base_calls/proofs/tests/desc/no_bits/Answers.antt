@@ -6,7 +6,7 @@ use Rattle.csn_desc.specs.Formed.{Spans}
 use Rattle.csn_desc.specs.Laid.{Laid, laid, laid_end}
 use Rattle.csn_desc.specs.WellFormed.{AreWellFormed}
 use Rattle.csn_desc.proofs.WellFormed.{laid_spans, well_formed}
-use Rattle.csn_base_calls.proofs.desc.no_bits.Goals as goal
+use Rattle.csn_base_calls.proofs.tests.desc.no_bits.Goals as goal
 
 record IsLaidOut (nodes : List Node) : Type 0 where
   few : length nodes ≤ 16384

@@ -1,0 +1,16 @@
+mod bits;
+mod builder;
+mod building;
+mod catalogue;
+mod cert;
+mod compat;
+mod desc;
+mod json;
+mod lexer;
+mod memory;
+mod real;
+mod replay;
+mod resolve;
+mod segment;
+mod tree_text;
+mod words;
