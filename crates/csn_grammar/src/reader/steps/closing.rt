@@ -1,39 +1,80 @@
 //! The end of braces, of a labelled part or of the body.
 
 ghost use Rattle.csn_grammar.specs.reader.Gives.{Gives};
-ghost use Rattle.csn_grammar.specs.reader.BodySteps.{close};
+ghost use Rattle.csn_grammar.specs.ExprV.{expr, group, labelled};
+ghost use Rattle.csn_grammar.specs.reader.BodySteps.{goes, close_in, close};
 
 use crate::expr::{Expr, Span};
-use crate::reader::body::{Frames, Mode, Next, Opening, Within};
+use crate::reader::body::{Frame, Frames, Mode, Next, Opening, Within};
 use crate::reader::build::{group_of, labelled_of};
 use crate::reader::steps::level::goes;
 use crate::reader::stop::Stop;
+use csn_desc::Label;
 use csn_lexer::{Token, TokenKind};
 use std::alloc::Global;
 
+// Leaves braces.
+fn close_braces(alloc: Global, within: Within, span: Span, body: Expr) -> Result<Next, Stop>
+    ensures { Gives result (goes within.frames within.level (Mode.Base (expr span.start span.end (group body)))) }
+{
+    let base = group_of(alloc, span, body)?;
+    Ok(goes(within, Mode::Base(base)))
+}
+
+// Leaves a labelled part.
+fn close_label(
+    alloc: Global,
+    within: Within,
+    span: Span,
+    label: Label,
+    body: Expr,
+) -> Result<Next, Stop>
+    ensures { Gives result (goes within.frames within.level (Mode.Base (expr span.start span.end (labelled label body)))) }
+{
+    let base = labelled_of(alloc, span, label, body)?;
+    Ok(goes(within, Mode::Base(base)))
+}
+
+// Leaves what is open in a frame.
+#[tactic(auto, unfolding(crate::specs::reader::BodySteps::close_in))]
+fn close_in(
+    alloc: Global,
+    frames: Frames,
+    frame: Frame,
+    body: Expr,
+    token: Token,
+) -> Result<Next, Stop>
+    ensures { Gives result (close_in frames frame.level frame.start frame.opening body token.kind token.end) }
+{
+    let Frame {
+        start,
+        opening,
+        level,
+    } = frame;
+    let span = Span {
+        start,
+        end: token.end,
+    };
+    let within = Within { frames, level };
+    match (opening, token.kind) {
+        (Opening::Brace, TokenKind::BraceRight) => close_braces(alloc, within, span, body),
+        (Opening::Label(label), TokenKind::Greater) => {
+            close_label(alloc, within, span, label, body)
+        }
+        _ => Err(Stop::Refused),
+    }
+}
+
 /// Leaves what is open, where the token closes it.
-#[tactic(auto, unfolding(crate::specs::reader::BodySteps::close, crate::specs::reader::BodySteps::close_in))]
+#[tactic(auto, unfolding(crate::specs::reader::BodySteps::close))]
 pub fn close(alloc: Global, mut frames: Frames, body: Expr, token: Token) -> Result<Next, Stop>
     ensures { Gives result (close frames body token.kind token.end) }
 {
-    let Some(frame) = frames.pop() else {
-        return match token.kind {
+    match frames.pop() {
+        Some(frame) => close_in(alloc, frames, frame, body, token),
+        None => match token.kind {
             TokenKind::Semicolon => Ok(Next::Ends(body)),
             _ => Err(Stop::Refused),
-        };
-    };
-    let span = Span {
-        start: frame.start,
-        end: token.end,
-    };
-    let base = match (frame.opening, token.kind) {
-        (Opening::Brace, TokenKind::BraceRight) => group_of(alloc, span, body)?,
-        (Opening::Label(label), TokenKind::Greater) => labelled_of(alloc, span, label, body)?,
-        _ => return Err(Stop::Refused),
-    };
-    let within = Within {
-        frames,
-        level: frame.level,
-    };
-    Ok(goes(within, Mode::Base(base)))
+        },
+    }
 }

@@ -1,7 +1,9 @@
 //! Behind an item that is whole.
 
 ghost use Rattle.csn_grammar.specs.reader.Gives.{Gives};
-ghost use Rattle.csn_grammar.specs.reader.BodySteps.{with_item, begin_side, after_item};
+ghost use Rattle.std.specs.Prelude.{◌≡◌};
+ghost use Rattle.csn_grammar.specs.reader.Building.{cut_with, seq_with};
+ghost use Rattle.csn_grammar.specs.reader.BodySteps.{goes, with_item, without_items, begin_side, after_seq, after_item};
 
 use crate::expr::{Expr, Exprs};
 use crate::reader::body::{Joint, Level, Mode, Next, Within};
@@ -11,7 +13,7 @@ use crate::reader::steps::choice::after_seq;
 use crate::reader::steps::level::goes;
 use crate::reader::steps::side::begin_side;
 use crate::reader::stop::Stop;
-use csn_lexer::TokenKind;
+use csn_lexer::{Token, TokenKind};
 use std::alloc::Global;
 
 // Begins the next item.
@@ -23,39 +25,57 @@ fn next_item(alloc: Global, mut within: Within, item: Expr, piece: Piece<'_>) ->
     begin_side(alloc, within, piece)
 }
 
+// The items of the level, and what is left without them.
+fn take_items(alloc: Global, within: Within) -> (Exprs, Within)
+    ensures items { result.0 ≡ within.level.items }
+    ensures frames { result.1.frames ≡ within.frames }
+    ensures level { result.1.level ≡ without_items within.level }
+{
+    let Within { frames, level } = within;
+    let rest = Level {
+        branches: level.branches,
+        error: level.error,
+        items: Exprs::new(alloc),
+        joint: Joint::Alone,
+    };
+    (
+        level.items,
+        Within {
+            frames,
+            level: rest,
+        },
+    )
+}
+
+// Ends a truncation.
+fn cut_items(alloc: Global, within: Within, item: Expr, end: u32) -> Result<Next, Stop>
+    ensures { Gives result (goes within.frames (without_items within.level) (Mode.Slashes (cut_with within.level.items item end))) }
+{
+    let (items, rest) = take_items(alloc, within);
+    let cut = cut_with(items, item, end)?;
+    Ok(goes(rest, Mode::Slashes(cut)))
+}
+
+// Ends a sequence.
+fn end_items(alloc: Global, within: Within, item: Expr, token: Token) -> Result<Next, Stop>
+    ensures { Gives result (after_seq within.frames (without_items within.level) (seq_with within.level.items item) token.kind token.end) }
+{
+    let (items, rest) = take_items(alloc, within);
+    let body = seq_with(items, item)?;
+    after_seq(alloc, rest, body, token)
+}
+
 /// Takes the token behind an item that is whole.
 #[tactic(auto, unfolding(crate::specs::reader::BodySteps::after_item))]
 pub fn after_item(alloc: Global, within: Within, item: Expr, piece: Piece<'_>) -> Result<Next, Stop>
     ensures { Gives result (after_item within.frames within.level item piece.entry.token.kind piece.entry.token.start piece.entry.token.end piece.entry.text.now) }
 {
     let token = piece.token;
-    if let TokenKind::Word | TokenKind::Less | TokenKind::BraceLeft = token.kind {
-        return next_item(alloc, within, item, piece);
-    }
-    let Within { frames, level } = within;
-    let Level {
-        branches,
-        error,
-        items,
-        ..
-    } = level;
-    let rest = Within {
-        frames,
-        level: Level {
-            branches,
-            error,
-            items: Exprs::new(alloc),
-            joint: Joint::Alone,
-        },
-    };
     match token.kind {
-        TokenKind::SlashSlash => {
-            let cut = cut_with(items, item, token.end)?;
-            Ok(goes(rest, Mode::Slashes(cut)))
+        TokenKind::Word | TokenKind::Less | TokenKind::BraceLeft => {
+            next_item(alloc, within, item, piece)
         }
-        _ => {
-            let body = seq_with(items, item)?;
-            after_seq(alloc, rest, body, token)
-        }
+        TokenKind::SlashSlash => cut_items(alloc, within, item, token.end),
+        _ => end_items(alloc, within, item, token),
     }
 }
