@@ -3,9 +3,9 @@
 ghost use Rattle.std.specs.Prelude.{◌≡◌};
 ghost use Rattle.csn_lexer.specs.declared.token.TokenKind.{TokenKind};
 ghost use Rattle.csn_grammar.specs.reader.Gives.{Gives};
-ghost use Rattle.csn_grammar.specs.reader.Building.{cut_group};
+ghost use Rattle.csn_grammar.specs.reader.Building.{cut_group, power_of};
 ghost use Rattle.csn_grammar.specs.reader.ExponentSteps.{exponent_step};
-ghost use Rattle.csn_grammar.specs.reader.BodySteps.{after_slashes, after_base, after_exponent};
+ghost use Rattle.csn_grammar.specs.reader.BodySteps.{goes, after_slashes, after_base, after_exponent};
 
 use crate::exponent::Exponent;
 use crate::expr::{Expr, Form, Span};
@@ -42,6 +42,20 @@ fn after_slashes(alloc: Global, within: Within, base: Expr, piece: Piece<'_>) ->
     }
 }
 
+// A base with its exponent, which ends before the place `end`.
+fn raised(
+    alloc: Global,
+    within: Within,
+    base: Expr,
+    end: u32,
+    exponent: Exponent,
+) -> Result<Next, Stop>
+    ensures { Gives result (goes within.frames within.level (Mode.Done (power_of base end exponent))) }
+{
+    let power = power_of(alloc, base, end, exponent)?;
+    Ok(goes(within, Mode::Done(power)))
+}
+
 /// Takes the token behind a base, which may have an exponent.
 #[tactic(auto, unfolding(crate::specs::reader::BodySteps::after_base))]
 pub fn after_base(alloc: Global, within: Within, base: Expr, piece: Piece<'_>) -> Result<Next, Stop>
@@ -51,8 +65,7 @@ pub fn after_base(alloc: Global, within: Within, base: Expr, piece: Piece<'_>) -
         TokenKind::ParenLeft => Progress::Bracket,
         TokenKind::Star => Progress::Star,
         TokenKind::StarStar => {
-            let power = power_of(alloc, base, piece.token.end, Exponent::Any)?;
-            return Ok(goes(within, Mode::Done(power)));
+            return raised(alloc, within, base, piece.token.end, Exponent::Any);
         }
         TokenKind::SlashSlash => return after_slashes(alloc, within, base, piece),
         _ => return after_side(alloc, within, base, piece),
@@ -73,9 +86,6 @@ pub fn in_exponent(
 {
     match exponent_step(alloc, progress, piece)? {
         ExponentNext::Goes(progress) => Ok(goes(within, Mode::Exponent { base, progress })),
-        ExponentNext::Ends(exponent) => {
-            let power = power_of(alloc, base, piece.token.end, exponent)?;
-            Ok(goes(within, Mode::Done(power)))
-        }
+        ExponentNext::Ends(exponent) => { raised(alloc, within, base, piece.token.end, exponent) }
     }
 }

@@ -1,7 +1,9 @@
 //! Behind an alternative that is whole.
 
+ghost use Rattle.std.specs.Prelude.{Some};
 ghost use Rattle.csn_grammar.specs.reader.Gives.{Gives};
-ghost use Rattle.csn_grammar.specs.reader.BodySteps.{goes, with_branch, after_seq};
+ghost use Rattle.csn_grammar.specs.reader.Building.{choice_with};
+ghost use Rattle.csn_grammar.specs.reader.BodySteps.{goes, with_branch, close, after_seq};
 
 use crate::expr::{Branch, Expr, Exprs};
 use crate::reader::body::{Joint, Level, Mode, Next, Within};
@@ -12,22 +14,46 @@ use crate::reader::stop::Stop;
 use csn_lexer::{Token, TokenKind};
 use std::alloc::Global;
 
+// The level with one alternative more, in front of the next one.
+fn with_branch(alloc: Global, level: Level, body: Expr, error: bool) -> Result<Level, Stop>
+    ensures { Gives result (Some (with_branch level body error)) }
+{
+    let mut branches = level.branches;
+    branches.add(Branch {
+        error: level.error,
+        body,
+    })?;
+    Ok(Level {
+        branches,
+        error,
+        items: Exprs::new(alloc),
+        joint: Joint::Alone,
+    })
+}
+
 // Begins the next alternative.
 fn next_branch(alloc: Global, within: Within, body: Expr, error: bool) -> Result<Next, Stop>
     ensures { Gives result (goes within.frames (with_branch within.level body error) Mode.Side) }
 {
-    let Within { frames, mut level } = within;
-    level.branches.add(Branch {
-        error: level.error,
-        body,
-    })?;
-    let level = Level {
-        branches: level.branches,
-        error,
-        items: Exprs::new(alloc),
-        joint: Joint::Alone,
-    };
+    let Within { frames, level } = within;
+    let level = with_branch(alloc, level, body, error)?;
     Ok(goes(Within { frames, level }, Mode::Side))
+}
+
+// The alternatives of a level, with the last one.
+fn choice_of(level: Level, last: Expr) -> Result<Expr, Stop>
+    ensures { Gives result (Some (choice_with level.branches level.error last)) }
+{
+    Ok(choice_with(level.branches, level.error, last)?)
+}
+
+// Ends the alternatives.
+fn end_branches(alloc: Global, within: Within, last: Expr, token: Token) -> Result<Next, Stop>
+    ensures { Gives result (close within.frames (choice_with within.level.branches within.level.error last) token.kind token.end) }
+{
+    let Within { frames, level } = within;
+    let body = choice_of(level, last)?;
+    close(alloc, frames, body, token)
 }
 
 /// Takes the token behind an alternative that is whole.
@@ -38,10 +64,6 @@ pub fn after_seq(alloc: Global, within: Within, body: Expr, token: Token) -> Res
     match token.kind {
         TokenKind::Bar => next_branch(alloc, within, body, false),
         TokenKind::Bang => next_branch(alloc, within, body, true),
-        _ => {
-            let Within { frames, level } = within;
-            let body = choice_with(level.branches, level.error, body)?;
-            close(alloc, frames, body, token)
-        }
+        _ => end_branches(alloc, within, body, token),
     }
 }

@@ -1,7 +1,7 @@
 //! Behind an item that is whole.
 
 ghost use Rattle.csn_grammar.specs.reader.Gives.{Gives};
-ghost use Rattle.std.specs.Prelude.{◌≡◌};
+ghost use Rattle.std.specs.Prelude.{◌≡◌, Some};
 ghost use Rattle.csn_grammar.specs.reader.Building.{cut_with, seq_with};
 ghost use Rattle.csn_grammar.specs.reader.BodySteps.{goes, with_item, without_items, begin_side, after_seq, after_item};
 
@@ -16,13 +16,22 @@ use crate::reader::stop::Stop;
 use csn_lexer::{Token, TokenKind};
 use std::alloc::Global;
 
+// The level with one item more.
+fn with_item(mut level: Level, item: Expr) -> Result<Level, Stop>
+    ensures { Gives result (Some (with_item level item)) }
+{
+    level.items.add(item)?;
+    level.joint = Joint::Alone;
+    Ok(level)
+}
+
 // Begins the next item.
-fn next_item(alloc: Global, mut within: Within, item: Expr, piece: Piece<'_>) -> Result<Next, Stop>
+fn next_item(alloc: Global, within: Within, item: Expr, piece: Piece<'_>) -> Result<Next, Stop>
     ensures { Gives result (begin_side within.frames (with_item within.level item) piece.entry.token.kind piece.entry.token.start piece.entry.token.end piece.entry.text.now) }
 {
-    within.level.items.add(item)?;
-    within.level.joint = Joint::Alone;
-    begin_side(alloc, within, piece)
+    let Within { frames, level } = within;
+    let level = with_item(level, item)?;
+    begin_side(alloc, Within { frames, level }, piece)
 }
 
 // The items of the level, and what is left without them.
