@@ -1,5 +1,5 @@
 -- How far the reader's code comes in a text, and where it stops.
-use Rattle.std.specs.Prelude.{slice_index}
+use Rattle.std.specs.Prelude.{slice_index, Result, Ok, Err, IfOk, IfErr}
 use Rattle.std.proofs.Common.{◌≡◌, ℕ, zero, suc, ◌+◌, ◌-◌, ◌*◌, ◌^◌, ◌<◌, ◌≤◌, ◌==◌, true, false, List, [], ◌∷◌, ◌++◌, length, take, drop, Option, Some, None, refl, sym, ap, ◌∙◌, subst, arith, inl, inr}
 use Rattle.std.proofs.lemmas.Bool.{cases_lt, le-leb}
 use Rattle.std.proofs.lemmas.List.{take_all, length-drop, get_or-drop}
@@ -10,13 +10,17 @@ use Rattle.csn_desc.specs.TreeV.{TreeV, bits}
 use Rattle.csn_treetext.specs.declared.version.Version.{Version}
 use Rattle.csn_treetext.specs.declared.version.Version.TheVariants.{First, Second}
 use Rattle.csn_treetext.specs.declared.stack.Frame.{Frame}
+use Rattle.csn_treetext.specs.declared.fault.TextFault.{TextFault}
+use Rattle.csn_treetext.specs.declared.fault.TextFault.TheVariants.{Place}
 use Rattle.csn_treetext.specs.declared.name.NameAt.{NameAt}
+use Rattle.csn_treetext.specs.declared.next.Taken.{Taken}
+use Rattle.csn_treetext.specs.declared.next.Taken.TheVariants.{Up, Whole, Refused}
 use Rattle.csn_treetext.specs.Text.{is_short}
-use Rattle.csn_treetext.specs.Place.{IsTextOf, IsFaultPlace}
+use Rattle.csn_treetext.specs.Place.{IsTextOf, IsFaultPlace, IsFaultOf}
 use Rattle.csn_treetext.specs.reader.Mode.{Mode, Start, Done, Width, Value, Number, Name, Octets, Bare}
 use Rattle.csn_treetext.specs.reader.Numeral.{digit_of, grown, greatest_of}
 use Rattle.csn_treetext.specs.reader.Machine.{State, state, with_tree, after_number, are_many, cut_octets, upper_value, is_bit_digit, name_after, step, steps, ended}
-use Rattle.csn_treetext.specs.reader.Reading.{Comes, Stands, Grows, LeadsTo}
+use Rattle.csn_treetext.specs.reader.Reading.{Comes, Stands, Takes, Grows, LeadsTo}
 use Rattle.csn_treetext.proofs.Numerals.{grew_next, at_most-some}
 use Rattle.csn_treetext.proofs.Names.{not_greater}
 use Rattle.csn_treetext.proofs.WholeTrees.{eqb-lt, eqb-below}
@@ -33,6 +37,16 @@ led_on version text at s next low h e = step_more version text at h.led low h.co
 
 pub came_on : (version : Version) (text : List ℕ) (at : ℕ) (s next : State) → at < length text → Comes version text at s → step version s.mode s.stack (slice_index text at) ≡ Some next → Comes version text (at + 1) next
 came_on version text at s next low h e = step_more version text at s low h ∙ e
+
+-- what reaches to a place reaches to the places before it
+takes_from : (version : Version) (text : List ℕ) (from at : ℕ) (stack : List Frame) (taken : Taken) → from ≤ at → Takes version text at stack taken → Takes version text from stack taken
+takes_from version text from at stack (Up next end) low h = (omega (arith, h.0), h.1, h.2, h.3)
+takes_from version text from at stack (Whole t end) low h = h
+takes_from version text from at stack (Refused place) low h = h
+
+pub gives_from : {E : Type 0} (version : Version) (text : List ℕ) (from at : ℕ) (stack : List Frame) (result : Result Taken E) → from ≤ at → IfOk result (Takes version text at stack) → IfOk result (Takes version text from stack)
+gives_from version text from at stack (Ok taken) low h = takes_from version text from at stack taken low h
+gives_from version text from at stack (Err e) low h = tt
 
 -- ---- the place where no text goes on
 
@@ -57,6 +71,19 @@ came_to_stop version text at s within e refuses nothing = stopped version text a
 
 pub whole_tree : (version : Version) (text : List ℕ) (at : ℕ) (t : TreeV) (stack : List Frame) → length text ≤ at → Stands version text at (state (Done t) stack) → IsTextOf version t text
 whole_tree version text at t stack past h = ended_tree version text h.led t (at_end version text at h.led past h.comes) (h.ends past)
+
+-- a whole tree is that of the text where the text ends with it
+pub whole_text : (version : Version) (text : List ℕ) (end : ℕ) (t : TreeV) (stack : List Frame) (result : Result TreeV TextFault) → Stands version text end (state (Done t) stack)
+    → IfOk result (λ u. (u ≡ t) × (end ≡ length text)) → IfOk result (λ u. IsTextOf version u text)
+whole_text version text end t stack (Ok u) stands (same, whole) = subst (λ x. IsTextOf version x text) (sym same) (whole_tree version text end t stack (omega arith) stands)
+whole_text version text end t stack (Err e) stands is = tt
+
+pub whole_refused : (version : Version) (text : List ℕ) (end : ℕ) (t : TreeV) (stack : List Frame) (result : Result TreeV TextFault) → end ≤ length text → Stands version text end (state (Done t) stack)
+    → IfErr result (λ fault. (fault ≡ Place end) × (end ≡ length text → ⊥)) → IfErr result (IsFaultOf version text)
+whole_refused version text end t stack (Ok u) within stands is = tt
+whole_refused version text end t stack (Err e) within stands (same, more) =
+    subst (IsFaultOf version text) (sym same)
+    (stopped version text end (state (Done t) stack) within stands (λ low. refl) (λ past. absurd (more (omega arith))))
 
 -- ---- numbers
 

@@ -10,7 +10,7 @@ use Rattle.csn_treetext.specs.Text.{text_of, row_text, rest_text}
 use Rattle.csn_desc.specs.TreeParts.{HasTreeParts, AllHaveTreeParts}
 
 -- a tree among others is smaller than all of them
-member_size : (trees : List TreeV) (at : ℕ) (t : TreeV) → slice_get trees at ≡ Some t → tree_size t < rows_size trees
+pub member_size : (trees : List TreeV) (at : ℕ) (t : TreeV) → slice_get trees at ≡ Some t → tree_size t < rows_size trees
 member_size [] at t h = absurd (cc)
 member_size (u ∷ trees) zero t h =
     let same : u ≡ t = cc in
@@ -54,7 +54,7 @@ AllHaveTreeParts-push [] t all this = (this, tt)
 AllHaveTreeParts-push (u ∷ ts) t all this = (all.0, AllHaveTreeParts-push ts t all.1 this)
 
 -- what is written after the first tree of a row, and after one more
-pub wrote_first : (version : Version) (before after : List ℕ) (trees : List TreeV) (at : ℕ) (t : TreeV) → slice_get trees at ≡ Some t → at ≡ 0
+wrote_first : (version : Version) (before after : List ℕ) (trees : List TreeV) (at : ℕ) (t : TreeV) → slice_get trees at ≡ Some t → at ≡ 0
     → before ≡ after ++ 91 ∷ row_text version (trees_of (take at trees))
     → before ++ text_of version t ≡ after ++ 91 ∷ row_text version (trees_of (take (at + 1) trees))
 wrote_first version before after trees (suc at) t h zeroth wrote = absurd (omega arith)
@@ -63,7 +63,7 @@ wrote_first version before after trees zero t h zeroth wrote =
     ap (λ l. l ++ text_of version t) wrote ∙ append_assoc after (91 ∷ []) (text_of version t)
     ∙ ap (λ l. after ++ 91 ∷ l) (sym (row_text-one version t) ∙ ap (λ l. row_text version (trees_of l)) (sym next))
 
-pub wrote_next : (version : Version) (before after : List ℕ) (trees : List TreeV) (at : ℕ) (t : TreeV) → slice_get trees at ≡ Some t → 0 < at
+wrote_next : (version : Version) (before after : List ℕ) (trees : List TreeV) (at : ℕ) (t : TreeV) → slice_get trees at ≡ Some t → 0 < at
     → before ≡ after ++ 91 ∷ row_text version (trees_of (take at trees))
     → (before ++ 32 ∷ []) ++ text_of version t ≡ after ++ 91 ∷ row_text version (trees_of (take (at + 1) trees))
 wrote_next version before after trees zero t h some wrote = absurd (omega arith)
@@ -77,6 +77,12 @@ wrote_next version before after (u ∷ trees) (suc at) t h some wrote =
     ∙ ap (λ l. after ++ 91 ∷ l) (sym (row_text-push version u (take at trees) t))
     ∙ ap (λ l. after ++ 91 ∷ row_text version (trees_of l)) (sym next)
     ∙ ap (λ n. after ++ 91 ∷ row_text version (trees_of (take n (u ∷ trees)))) (sym count)
+
+pub wrote_on : (version : Version) (before gap after : List ℕ) (trees : List TreeV) (at : ℕ) (t : TreeV) → slice_get trees at ≡ Some t
+    → (at ≡ 0 → gap ≡ before) → (0 < at → gap ≡ before ++ 32 ∷ []) → before ≡ after ++ 91 ∷ row_text version (trees_of (take at trees))
+    → gap ++ text_of version t ≡ after ++ 91 ∷ row_text version (trees_of (take (at + 1) trees))
+wrote_on version before gap after trees zero t h first later wrote = ap (λ l. l ++ text_of version t) (first (omega arith)) ∙ wrote_first version before after trees 0 t h (omega arith) wrote
+wrote_on version before gap after trees (suc at) t h first later wrote = ap (λ l. l ++ text_of version t) (later (omega arith)) ∙ wrote_next version before after trees (suc at) t h (omega arith) wrote
 
 pub have_next : (trees : List TreeV) (at : ℕ) (t : TreeV) → slice_get trees at ≡ Some t → AllHaveTreeParts (trees_of (take at trees)) → HasTreeParts t → AllHaveTreeParts (trees_of (take (at + 1) trees))
 have_next trees at t h all this =

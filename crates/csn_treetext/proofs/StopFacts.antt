@@ -222,11 +222,6 @@ bits_more text at b None stack e stops some there = absurd (cc)
 bits_more text at b (Some bit) stack e (inl full) (low, is, small) there = bits_full text at b bit stack e low is small full
 bits_more text at b (Some bit) stack e (inr stops) (low, is, small) there = elim (stops low) [ inl less ↦ absurd (omega arith) | inr more ↦ absurd (omega arith) ]
 
-pub bits_done : (text : List ℕ) (at : ℕ) (digit : Option ℕ) → IfNone digit (at < length text → (slice_index text at < 48) ⊎ (49 < slice_index text at)) → is_some digit ≡ false
-    → at < length text → is_bit_digit (slice_index text at) ≡ false
-bits_done text at None none is low = no_bit (slice_index text at) (none low)
-bits_done text at (Some bit) none is low = absurd (cc)
-
 pub bits_short : (text : List ℕ) (at : ℕ) (b : List ℕ) (stack : List Frame) → at ≤ length text → Comes First text at (state (Bare b) stack) → is_short b ≡ true
     → (length b ≡ MOST_BITS) ⊎ (at < length text → (slice_index text at < 48) ⊎ (49 < slice_index text at)) → IsFaultPlace First text at
 bits_short text at b stack within e short (inl full) = absurd (let (some, few) = and_parts (nat_le 1 (length b)) (nat_le (length b) MOST_SHORT) short in let most : length b ≤ 64 = leb-true (length b) 64 few in omega arith)

@@ -1,7 +1,8 @@
 //! What a whole tree ends.
 
-ghost use Rattle.std.specs.Prelude.{◌≡◌, ◌≤◌, length, IfOk, OnOk};
-ghost use Rattle.csn_treetext.specs.reader.Machine.{HasRoom, HasRoomBelow, with_tree};
+ghost use Rattle.std.specs.Prelude.{◌≡◌, ◌≤◌, ◌∷◌, [], List, false, length, IfOk, OnOk};
+ghost use Rattle.csn_treetext.specs.declared.stack.Frame.{Frame};
+ghost use Rattle.csn_treetext.specs.reader.Machine.{HasRoom, HasRoomBelow, is_in_row, with_tree};
 ghost use Rattle.csn_treetext.specs.reader.Reading.{Stands, Takes, ended_with};
 
 use crate::next::{Next, Taken};
@@ -10,6 +11,19 @@ use crate::stack::{Frame, Stack};
 use csn_bits::NoMemory;
 use csn_desc::{Shape, Tree};
 use std::alloc::Global;
+
+// The tree that an alternative or a labelled part is, with the tree inside it.
+fn around(alloc: Global, frame: Frame, tree: Tree) -> Result<Tree, NoMemory>
+    requires { is_in_row (frame ∷ []) ≡ false }
+    ensures { IfOk result (λ whole. (stack : List Frame) → with_tree (frame ∷ stack) tree ≡ with_tree stack whole) }
+{
+    let shape = match frame {
+        Frame::Alt(number) => Shape::Alt(number, Box::new(alloc, tree)?),
+        Frame::Named(label) => Shape::Named(label, Box::new(alloc, tree)?),
+        Frame::Row(_) => unreachable!(),
+    };
+    Ok(Tree { shape })
+}
 
 // After a whole tree: it ends the alternatives and labelled parts that it is the tree of. The outermost
 // tree that it ends, where that stands in no row.
@@ -20,13 +34,10 @@ fn with_tree(alloc: Global, stack: &mut Stack, tree: Tree) -> Result<Option<Tree
 {
     let mut tree = tree;
     while !stack.is_in_row() {
-        let shape = match stack.pop() {
-            Some(Frame::Alt(number)) => Shape::Alt(number, Box::new(alloc, tree)?),
-            Some(Frame::Named(label)) => Shape::Named(label, Box::new(alloc, tree)?),
-            Some(Frame::Row(_)) => unreachable!(),
+        match stack.pop() {
+            Some(frame) => tree = around(alloc, frame, tree)?,
             None => return Ok(Some(tree)),
-        };
-        tree = Tree { shape };
+        }
     }
     stack.push_tree(tree)?;
     Ok(None)

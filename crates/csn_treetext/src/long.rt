@@ -1,13 +1,14 @@
 //! Leaves of more than 64 bits.
 
-ghost use Rattle.std.specs.Prelude.{◌≡◌, ◌⊎◌, ◌+◌, ◌*◌, ◌<◌, ◌≤◌, ◌==◌, true, [], List, ℕ, length, slice_index, Some, None, IfOk, IfSome, IfNone};
+ghost use Rattle.std.specs.Prelude.{◌≡◌, ◌⊎◌, ◌+◌, ◌*◌, ◌<◌, ◌≤◌, ◌==◌, true, false, [], List, ℕ, length, slice_index, Some, None, IfOk, IfSome, IfNone};
 ghost use Rattle.csn_bits.specs.declared.bits.TheConstants.{MOST_BITS};
+ghost use Rattle.csn_treetext.specs.Text.{is_short};
 ghost use Rattle.csn_treetext.specs.declared.bounds.TheConstants.{MOST_OCTETS};
 ghost use Rattle.csn_treetext.specs.declared.stack.Frame.{Frame};
 ghost use Rattle.csn_treetext.specs.declared.version.Version.TheVariants.{First, Second};
-ghost use Rattle.csn_treetext.specs.reader.Machine.{HasRoom, state, upper_value};
+ghost use Rattle.csn_treetext.specs.reader.Machine.{HasRoom, cut_octets, is_bit_digit, state, upper_value, with_tree};
 ghost use Rattle.csn_treetext.specs.reader.Mode.{Octets, Slash, Bare};
-ghost use Rattle.csn_treetext.specs.reader.Reading.{Comes, Takes};
+ghost use Rattle.csn_treetext.specs.reader.Reading.{Comes, Stands, Takes};
 
 use crate::bounds::MOST_OCTETS;
 use crate::closing::close;
@@ -92,9 +93,27 @@ pub fn block_line(source: Source, stack: &mut Stack, from: usize) -> Result<Take
     requires comes { Comes Second source.text.now from (state (Octets [] None) stack.old) }
     ensures { IfOk result (Takes source.entry.version source.entry.text.now from stack.new) }
 {
+    let OctetRun { octets, end } = octet_run(source.alloc, source.text, from)?;
+    block_line_end(source, stack, octets.as_slice(), end)
+}
+
+// Behind the octets of a block line, which end at a place.
+fn block_line_end(
+    source: Source,
+    stack: &mut Stack,
+    octets: &[u8],
+    end: usize,
+) -> Result<Taken, NoMemory>
+    requires within { end ≤ length source.text.now }
+    requires second { source.version ≡ Second }
+    requires room { HasRoom stack.old }
+    requires few { length octets.now ≤ MOST_OCTETS }
+    requires comes { Comes Second source.text.now end (state (Octets octets.now None) stack.old) }
+    requires stops { (length octets.now ≡ MOST_OCTETS) ⊎ (end + 1 < length source.text.now
+        → (upper_value (slice_index source.text.now end) ≡ None) ⊎ (upper_value (slice_index source.text.now (end + 1)) ≡ None)) }
+    ensures { IfOk result (Takes source.entry.version source.entry.text.now end stack.new) }
+{
     let text = source.text;
-    let OctetRun { octets, end } = octet_run(source.alloc, text, from)?;
-    let octets = octets.as_slice();
     let count = octets.len();
     if digit_at(text, end).is_some() {
         // the digit has no partner, or is one of an octet too many
@@ -107,7 +126,26 @@ pub fn block_line(source: Source, stack: &mut Stack, from: usize) -> Result<Take
     if stands_at(text, end, b'/') {
         return slash(source, stack, octets, end);
     }
-    let tree = octets_leaf(source.alloc, octets, 8)?;
+    octets_end(source, stack, octets, 8, end)
+}
+
+// The leaf of octets of whose last one the first `used` bits belong to it, and which ends at a place.
+fn octets_end(
+    source: Source,
+    stack: &mut Stack,
+    octets: &[u8],
+    used: u8,
+    end: usize,
+) -> Result<Taken, NoMemory>
+    requires within { end ≤ length source.text.now }
+    requires room { HasRoom stack.old }
+    requires some { 1 ≤ length octets.now }
+    requires few { length octets.now ≤ MOST_OCTETS }
+    requires used { used ≤ 8 }
+    requires stands { Stands source.version source.text.now end (with_tree stack.old (cut_octets octets.now used)) }
+    ensures { IfOk result (Takes source.entry.version source.entry.text.now end stack.new) }
+{
+    let tree = octets_leaf(source.alloc, octets, used)?;
     close(source, stack, tree, end)
 }
 
@@ -142,8 +180,7 @@ fn slash(source: Source, stack: &mut Stack, octets: &[u8], at: usize) -> Result<
     if last_octet(octets) % (1 << (8 - used)) != 0 {
         return Ok(Taken::Refused(at + 1));
     }
-    let tree = octets_leaf(source.alloc, octets, used)?;
-    close(source, stack, tree, at + 2)
+    octets_end(source, stack, octets, used, at + 2)
 }
 
 // The bit whose digit stands at a place.
@@ -184,6 +221,18 @@ fn bit_run(alloc: Global, text: &[u8], from: usize) -> Result<BitRun, NoMemory>
     Ok(BitRun { bits, end })
 }
 
+// Whether the bits whose digits end at a place are a leaf that is written so.
+fn is_leaf(text: &[u8], bits: &Bits, end: usize) -> bool
+    ensures long { result ≡ true → is_short bits.now ≡ false }
+    ensures ends { result ≡ true → end < length text.now → is_bit_digit (slice_index text.now end) ≡ false }
+    ensures no { result ≡ false → (is_short bits.now ≡ true) ⊎ ((bit : ℕ) × (end < length text.now) × (slice_index text.now end ≡ 48 + bit) × (bit ≤ 1)) }
+{
+    match bit_at(text, end) {
+        Some(_) => false,
+        None => !is_short(bits),
+    }
+}
+
 /// Behind `b` in the first version: the bits of a leaf as digits.
 pub fn bit_digits(source: Source, stack: &mut Stack, from: usize) -> Result<Taken, NoMemory>
     requires within { from ≤ length source.text.now }
@@ -193,10 +242,7 @@ pub fn bit_digits(source: Source, stack: &mut Stack, from: usize) -> Result<Take
     ensures { IfOk result (Takes source.entry.version source.entry.text.now from stack.new) }
 {
     let BitRun { bits, end } = bit_run(source.alloc, source.text, from)?;
-    if is_short(&bits) {
-        return Ok(Taken::Refused(end));
-    }
-    if bit_at(source.text, end).is_some() {
+    if !is_leaf(source.text, &bits, end) {
         return Ok(Taken::Refused(end));
     }
     close(source, stack, leaf(bits), end)

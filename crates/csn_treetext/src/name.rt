@@ -1,6 +1,6 @@
 //! Labels.
 
-ghost use Rattle.std.specs.Prelude.{◌≡◌, ◌<◌, ◌≤◌, ◌-◌, [], List, length, slice_index, take, drop, None, IfOk};
+ghost use Rattle.std.specs.Prelude.{◌≡◌, ◌<◌, ◌≤◌, ◌-◌, ◌∷◌, [], List, length, slice_index, take, drop, None, IfOk, OnOk};
 ghost use Rattle.csn_desc.specs.Label.{IsLabel};
 ghost use Rattle.csn_treetext.specs.declared.stack.Frame.{Frame};
 ghost use Rattle.csn_treetext.specs.declared.version.Version.{Version};
@@ -17,7 +17,7 @@ use csn_desc::{Label, LabelFault};
 use std::alloc::Global;
 
 /// Where in a label one stands.
-#[derive(Clone, Copy, Debug, Drop)]
+#[derive(Clone, Copy, Drop)]
 pub enum NameAt {
     /// At the front of a word.
     Front,
@@ -86,6 +86,15 @@ fn new_label(alloc: Global, words: &[u8]) -> Result<Label, NoMemory>
     }
 }
 
+// Begins a labelled part with the label of these bytes.
+fn push_label(alloc: Global, stack: &mut Stack, words: &[u8]) -> Result<(), NoMemory>
+    requires { IsLabel words.now }
+    ensures { OnOk result (stack.new ≡ Frame.Named words.now ∷ stack.old) }
+{
+    let label = new_label(alloc, words)?;
+    stack.push(Frame::Named(label))
+}
+
 /// Behind `<`: a label, `>` and `=`.
 pub fn name(source: Source, stack: &mut Stack, from: usize) -> Result<Taken, NoMemory>
     requires within { from ≤ length source.text.now }
@@ -98,10 +107,9 @@ pub fn name(source: Source, stack: &mut Stack, from: usize) -> Result<Taken, NoM
     if !stands.may_end() || !stands_at(text, end, b'>') {
         return Ok(Taken::Refused(end));
     }
-    let label = new_label(source.alloc, &text[from..end])?;
     if !stands_at(text, end + 1, b'=') {
         return Ok(Taken::Refused(end + 1));
     }
-    stack.push(Frame::Named(label))?;
+    push_label(source.alloc, stack, &text[from..end])?;
     Ok(Taken::Up(Next::Start, end + 2))
 }

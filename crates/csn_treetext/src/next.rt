@@ -1,7 +1,7 @@
 use csn_desc::Tree;
 
 /// What may stand next in a text.
-#[derive(Clone, Copy, Debug, Drop)]
+#[derive(Clone, Copy, Drop)]
 pub enum Next {
     /// A tree.
     Start,

@@ -1,4 +1,4 @@
-ghost use Rattle.std.specs.Prelude.{◌≡◌, ◌≤◌, length, IfOk, IfErr};
+ghost use Rattle.std.specs.Prelude.{◌≡◌, ◌≤◌, [], length, IfOk, IfErr};
 ghost use Rattle.csn_bits.specs.declared.feed.TheConstants.{MOST_LINE};
 ghost use Rattle.csn_treetext.specs.declared.version.Version.TheVariants.{First, Second};
 ghost use Rattle.csn_treetext.specs.Place.{IsTextOf, TreeText, OldText, IsFaultOf};
@@ -41,20 +41,42 @@ fn read_text(alloc: Global, version: Version, text: &[u8]) -> Result<Tree, TextF
         text,
     };
     let mut stack = Stack::new(alloc);
+    read_source(source, &mut stack)
+}
+
+// The tree of what is read, where nothing has begun.
+fn read_source(source: Source, stack: &mut Stack) -> Result<Tree, TextFault>
+    requires line { length source.text.now ≤ MOST_LINE }
+    requires nothing { stack.old ≡ [] }
+    ensures ok { IfOk result (λ tree. IsTextOf source.entry.version tree source.entry.text.now) }
+    ensures refused { IfErr result (λ fault. IsFaultOf source.entry.version source.entry.text.now fault) }
+{
     let mut next = Next::Start;
     let mut at = 0;
-    while at < text.len() {
-        match take(source, &mut stack, next, at)? {
+    while at < source.text.len() {
+        match take(source, stack, next, at)? {
             Taken::Up(other, end) => {
                 next = other;
                 at = end;
             }
-            Taken::Whole(tree, end) if end == text.len() => return Ok(tree),
-            Taken::Whole(_, end) => return Err(fault_at(end)),
+            Taken::Whole(tree, end) => return whole(source.text, tree, end),
             Taken::Refused(place) => return Err(fault_at(place)),
         }
     }
     Err(fault_at(at))
+}
+
+// The tree whose text ends at a place, where a text ends there too.
+fn whole(text: &[u8], tree: Tree, end: usize) -> Result<Tree, TextFault>
+    requires { end ≤ MOST_LINE }
+    ensures ok { IfOk result (λ whole. (whole ≡ tree) × (end ≡ length text.now)) }
+    ensures refused { IfErr result (λ fault. (fault ≡ TextFault.Place end) × ¬ (end ≡ length text.now)) }
+{
+    if end == text.len() {
+        Ok(tree)
+    } else {
+        Err(fault_at(end))
+    }
 }
 
 // The fault at a place in a line.

@@ -26,8 +26,8 @@ returns-then-not-may_end c =
       | then-not-may_end-via-else-not-may_end+then-not-stands_at w ↦ ap (λ b. b && may_end stands) (w.if-not-stands_at.ensures.no refl low)
     ])
 
-pub new_label-requires : goal.new_label-requires
-new_label-requires c =
+pub push_label-requires : goal.push_label-requires
+push_label-requires c =
     let text = c.args.source.text.now in
     let (stands, end) = c.name_end-stands.result in
     let label = take (end - c.args.from) (drop c.args.from text) in
@@ -54,7 +54,7 @@ returns c =
     let (next, equals) = c.if-not-stands_at-2.ensures.yes refl in
     let begins = equals_ends c.args.source.version text (end + 1) label c.args.stack.now whole next equals in
     let count : end + 1 + 1 ≡ end + 2 = omega arith in
-    let same = sym (c.in_ok-push.ensures ∙ ap (λ l. Named l ∷ c.args.stack.now) c.in_ok-label.ensures) in (
+    let same = sym c.in_ok-push_label.ensures in (
       omega arith,
       omega arith,
       subst HasRoom same c.requires.room,
