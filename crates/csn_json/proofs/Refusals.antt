@@ -1,5 +1,5 @@
 -- What a value has to be, part by part, that shows a tree.
-use Rattle.std.proofs.Common.{◌≡◌, ℕ, ◌+◌, ◌<◌, Bool, List, Result, Err, IfErr, codes, refl, sym, ap, ◌∙◌, subst, arith, add-one}
+use Rattle.std.proofs.Common.{◌≡◌, ℕ, ◌+◌, ◌<◌, Bool, List, Result, Ok, Err, IfOk, IfErr, codes, refl, sym, ap, ◌∙◌, subst, arith, add-one}
 use Rattle.std.specs.Prelude.{IsErrAnd}
 use Rattle.std.proofs.lemmas.Result.{err_from_is_err_and}
 use Rattle.csn_desc.specs.Label.{IsLabel}
@@ -25,6 +25,14 @@ passed {T = T} {A = A} {B = B} r e handed by h =
     let p = err_from_is_err_and r handed in
     let G : Result T JsonFault → Type 0 = λ x. IfErr x (λ fault. Refuses fault B) in
     subst G (sym (p.1 ∙ ap (λ z. Err z) p.2)) (weaker e by h)
+
+-- where memory alone was wanting nothing is said
+pub memory_alone : {T : Type 0} (B : Type 0) (r : Result T JsonFault) → IfErr r (λ fault. fault ≡ NoMemory) → IfErr r (λ fault. Refuses fault B)
+memory_alone B (Ok x) only = tt
+memory_alone B (Err e) only = subst (λ fault. Refuses fault B) (sym only) tt
+
+pub passed_memory : {T : Type 0} (B : Type 0) (r : Result T JsonFault) (e : JsonFault) → IsErrAnd r (λ y. y ≡ e) → e ≡ NoMemory → IfErr r (λ fault. Refuses fault B)
+passed_memory B r e handed only = passed r e handed (λ (b : B). b) (subst (λ fault. Refuses fault B) (sym only) tt)
 
 -- ---- values that show nothing
 
@@ -108,3 +116,14 @@ no_inside round key of inside nothing (labelled l t same at label below) = nothi
 pub no_key : (round : ℕ) (key : List ℕ) (of inside : Data) → (key ≡ codes "alt" → ⊥) → (key ≡ codes "label" → ⊥) → Tag round key of inside → ⊥
 no_key round key of inside no_alt no_label (numbered j t same at low below) = no_alt same
 no_key round key of inside no_alt no_label (labelled l t same at label below) = no_label same
+
+pub labelled_shown : (round : ℕ) (of inside : Data) (l : List ℕ) (t : TreeV) (r : Result TreeV JsonFault) → IsLabel l → of ≡ string l → IsShown (round + 1) inside t
+    → IfOk r (λ whole. whole ≡ named l t) → IfOk r (IsShown round (tagged (codes "label") of inside))
+labelled_shown round of inside l t (Ok whole) label at below is =
+    let next = subst (λ n. IsShown n inside t) (add-one round) below in
+    subst (IsShown round (tagged (codes "label") of inside)) (sym is) (record {
+      fits = next.fits;
+      parts = (label, next.parts);
+      shown = ap (λ o. tagged (codes "label") o inside) at ∙ ap (λ i. tagged (codes "label") (string l) i) next.shown;
+    })
+labelled_shown round of inside l t (Err e) label at below is = tt

@@ -1,7 +1,7 @@
-ghost use Rattle.std.specs.Prelude.{◌≡◌, ◌+◌, ◌↔◌, ◌≤◌, ◌<◌, ℕ, List, codes, length, map, IsTrue, IfSome, IfNone, IfOk, IfErr};
+ghost use Rattle.std.specs.Prelude.{◌≡◌, ◌+◌, ◌↔◌, ◌≤◌, ◌<◌, ◌++◌, ◌∷◌, [], ℕ, List, codes, length, map, IsTrue, IfSome, IfNone, IfOk, IfErr, OnOk};
 ghost use Rattle.csn_bits.specs.Line.{upper};
 ghost use Rattle.csn_bits.specs.declared.feed.TheConstants.{MOST_LINE};
-ghost use Rattle.csn_desc.specs.TreeV.{TreeV, Trees, trees_of};
+ghost use Rattle.csn_desc.specs.TreeV.{TreeV, Trees, trees_of, named};
 ghost use Rattle.csn_desc.specs.Label.{IsLabel};
 ghost use Rattle.csn_desc.specs.declared.desc.TheConstants.{MOST_NODES};
 ghost use Rattle.csn_desc.specs.declared.tree.TheConstants.{MOST_TREES};
@@ -70,11 +70,21 @@ fn rows_of(alloc: Global, values: &Vec<Value>, round: u32) -> Result<Rows, JsonF
     let mut rows = Rows::new(alloc);
     for value in values {
         let tree = tree_of(alloc, value, round)?;
-        if rows.push(tree).is_err() {
-            return Err(JsonFault::NoMemory);
-        }
+        push_tree(&mut rows, tree)?;
     }
     Ok(rows)
+}
+
+// Adds a tree at the end of a row.
+fn push_tree(rows: &mut Rows, tree: Tree) -> Result<(), JsonFault>
+    requires { length rows.old < MOST_TREES }
+    ensures ok { OnOk result (rows.new ≡ rows.old ++ tree ∷ []) }
+    ensures memory { IfErr result (λ fault. fault ≡ JsonFault.NoMemory) }
+{
+    match rows.push(tree) {
+        Ok(()) => Ok(()),
+        Err(_) => Err(JsonFault::NoMemory),
+    }
 }
 
 // The tree that an object shows, an alternative or a labelled part.
@@ -90,22 +100,50 @@ fn tagged_of(alloc: Global, members: &Map<String, Value>, round: u32) -> Result<
         return Err(JsonFault::NotTree);
     };
     match key {
-        "alt" => {
-            let number = alternative_of(of)?;
-            let tree = tree_of(alloc, inside, round + 1)?;
-            Ok(Tree {
-                shape: Shape::Alt(number, Box::new(alloc, tree)?),
-            })
-        }
-        "label" => {
-            let label = label_of(alloc, of)?;
-            let tree = tree_of(alloc, inside, round + 1)?;
-            Ok(Tree {
-                shape: Shape::Named(label, Box::new(alloc, tree)?),
-            })
-        }
+        "alt" => numbered_of(alloc, of, inside, round),
+        "label" => labelled_of(alloc, of, inside, round),
         _ => Err(JsonFault::NotTree),
     }
+}
+
+// The alternative that a number and the value of its tree show.
+#[cycle(tree)]
+fn numbered_of(alloc: Global, of: &Value, inside: &Value, round: u32) -> Result<Tree, JsonFault>
+    requires round { round < MOST_LEVELS }
+    requires few { values_in (view inside.now) ≤ MOST_TREES + 1 }
+    ensures ok { IfOk result (λ tree. IsShown round (tagged (codes "alt") (view of.now) (view inside.now)) tree) }
+    ensures refused { IfErr result (λ fault. Refuses fault ((t : TreeV)
+        → IsShown round (tagged (codes "alt") (view of.now) (view inside.now)) t → ⊥)) }
+{
+    let number = alternative_of(of)?;
+    let tree = tree_of(alloc, inside, round + 1)?;
+    Ok(Tree {
+        shape: Shape::Alt(number, Box::new(alloc, tree)?),
+    })
+}
+
+// The labelled part that a label and the value of its tree show.
+#[cycle(tree)]
+fn labelled_of(alloc: Global, of: &Value, inside: &Value, round: u32) -> Result<Tree, JsonFault>
+    requires round { round < MOST_LEVELS }
+    requires few { values_in (view inside.now) ≤ MOST_TREES + 1 }
+    ensures ok { IfOk result (λ tree. IsShown round (tagged (codes "label") (view of.now) (view inside.now)) tree) }
+    ensures refused { IfErr result (λ fault. Refuses fault ((t : TreeV)
+        → IsShown round (tagged (codes "label") (view of.now) (view inside.now)) t → ⊥)) }
+{
+    let label = label_of(alloc, of)?;
+    let tree = tree_of(alloc, inside, round + 1)?;
+    labelled(alloc, label, tree)
+}
+
+// A labelled part.
+fn labelled(alloc: Global, label: Label, tree: Tree) -> Result<Tree, JsonFault>
+    ensures ok { IfOk result (λ whole. whole ≡ named label tree) }
+    ensures memory { IfErr result (λ fault. fault ≡ JsonFault.NoMemory) }
+{
+    Ok(Tree {
+        shape: Shape::Named(label, Box::new(alloc, tree)?),
+    })
 }
 
 // The key, what stands under it, and what stands under `tree`, of an object that has those two members.

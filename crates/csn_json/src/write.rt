@@ -2,15 +2,16 @@ ghost use Rattle.std.specs.Prelude.{◌≡◌, ◌↔◌, ◌≤◌, codes, leng
 ghost use Rattle.csn_bits.specs.Line.{written};
 ghost use Rattle.csn_bits.specs.Octets.{IsBits, most_bits};
 ghost use Rattle.csn_desc.specs.Label.{IsLabel};
-ghost use Rattle.csn_desc.specs.TreeParts.{HasTreeParts};
+ghost use Rattle.csn_desc.specs.TreeV.{trees_of};
+ghost use Rattle.csn_desc.specs.TreeParts.{HasTreeParts, AllHaveTreeParts};
 ghost use Rattle.csn_treetext.specs.Fits.{Fits};
 ghost use Rattle.serde_json.specs.Data.{Data, number as whole, string, unsigned};
-ghost use Rattle.serde_json.specs.View.{view};
-ghost use Rattle.csn_json.specs.JsonTree.{json_of, tagged};
+ghost use Rattle.serde_json.specs.View.{view, items_view};
+ghost use Rattle.csn_json.specs.JsonTree.{items_of, json_of, tagged};
 ghost use Rattle.csn_json.specs.JsonText.{JsonText, WrittenJson};
 
 use csn_bits::{Bits, NoMemory};
-use csn_desc::{Label, Shape, Tree};
+use csn_desc::{Label, Rows, Shape, Tree};
 use csn_treetext::fits;
 use serde_json::{Value, json};
 use std::alloc::Global;
@@ -33,6 +34,7 @@ pub fn write_json(alloc: Global, tree: &Tree) -> Result<Vec<u8>, NoMemory>
     Ok(value.to_vec(alloc)?)
 }
 
+#[cycle(write)]
 fn value_of(alloc: Global, tree: &Tree) -> Result<Value, NoMemory>
     ensures value { IfOk result (λ value. view value ≡ json_of tree.now) }
     ensures parts { OnOk result (HasTreeParts tree.now) }
@@ -40,13 +42,7 @@ fn value_of(alloc: Global, tree: &Tree) -> Result<Value, NoMemory>
     match &tree.shape {
         Shape::Empty => Ok(Value::Null),
         Shape::Bits(bits) => block_line(alloc, bits),
-        Shape::Row(rows) => {
-            let mut items = Vec::new(alloc);
-            for at in 0..rows.len() {
-                items.push(value_of(alloc, rows.get(at))?)?;
-            }
-            Ok(Value::Array(items))
-        }
+        Shape::Row(rows) => Ok(Value::Array(items_of(alloc, rows)?)),
         Shape::Alt(number, tree) => {
             let inside = value_of(alloc, tree)?;
             alternative(alloc, *number, inside)
@@ -56,6 +52,20 @@ fn value_of(alloc: Global, tree: &Tree) -> Result<Value, NoMemory>
             labelled(alloc, label, inside)
         }
     }
+}
+
+// The values of the trees of a row.
+#[cycle(write)]
+fn items_of(alloc: Global, rows: &Rows) -> Result<Vec<Value>, NoMemory>
+    ensures values { IfOk result (λ items. items_view items.items ≡ items_of (trees_of rows.now)) }
+    ensures parts { OnOk result (AllHaveTreeParts (trees_of rows.now)) }
+{
+    let mut items = Vec::new(alloc);
+    for at in 0..rows.len() {
+        let item = value_of(alloc, rows.get(at))?;
+        items.push(item)?;
+    }
+    Ok(items)
 }
 
 fn block_line(alloc: Global, bits: &Bits) -> Result<Value, NoMemory>

@@ -5,13 +5,19 @@ use Rattle.csn_json.specs.Reading.{AreShown, values_in, values_in_items, values_
 use Rattle.csn_json.proofs.read.+tree.Given as goal
 
 abbrev pub decreases-tree_of : goal.decreases-tree_of
-decreases-tree_of l = 2 * values_in (view l.value.now)
+decreases-tree_of l = 3 * values_in (view l.value.now)
 
 abbrev pub decreases-rows_of : goal.decreases-rows_of
-decreases-rows_of l = 2 * values_in_items (items_view l.values.now.items) + 1
+decreases-rows_of l = 3 * values_in_items (items_view l.values.now.items) + 1
 
 abbrev pub decreases-tagged_of : goal.decreases-tagged_of
-decreases-tagged_of l = 2 * values_in_members (members_view l.members.now.entries) + 1
+decreases-tagged_of l = 3 * values_in_members (members_view l.members.now.entries) + 2
+
+abbrev pub decreases-numbered_of : goal.decreases-numbered_of
+decreases-numbered_of l = 3 * values_in (view l.inside.now) + 1
+
+abbrev pub decreases-labelled_of : goal.decreases-labelled_of
+decreases-labelled_of l = 3 * values_in (view l.inside.now) + 1
 
 -- the trees so far are those that the values so far show
 abbrev pub invariant-rows_of-loop-value : goal.invariant-rows_of-loop-value
