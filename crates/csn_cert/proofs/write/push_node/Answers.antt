@@ -1,6 +1,6 @@
-use Rattle.std.proofs.Common.{◌++◌, ◌∷◌, [], ap, sym, ◌∙◌, flat_map, take, length, arith}
+use Rattle.std.proofs.Common.{◌++◌, ap, sym, ◌∙◌, flat_map, take, length, arith}
 use Rattle.std.proofs.lemmas.List.{flat_map_more, take_all}
-use Rattle.csn_cert.specs.CertificateText.{position_text, node_text}
+use Rattle.csn_cert.specs.CertificateText.{position_text}
 use Rattle.csn_cert.proofs.Appending.{appended}
 use Rattle.csn_cert.proofs.Finding.{read_item}
 use Rattle.csn_cert.proofs.Patterns.{take-next}
@@ -8,7 +8,7 @@ use Rattle.csn_cert.proofs.write.push_node.Goals as goal
 
 pub loop-position-preserved : goal.loop-position-preserved
 loop-position-preserved c =
-    let before = c.push-4.new.self.items in
+    let before = c.push_node_line.new.out.items in
     let same = c.deref-position-items.ensures.value ∙ ap (λ n. n.positions) c.node.view_is in
     let there = read_item c.deref-position-items.result.now c.args.node.now.positions c.loop-position.position-index c.position-item.result same c.loop-position-test.true c.position-item.is in
     c.in_ok-push_position.ensures ∙ ap (λ l. l ++ position_text c.position-item.result) c.loop-position.invariant
@@ -18,12 +18,7 @@ loop-position-preserved c =
 pub returns : goal.returns
 returns c =
     let before = c.args.out.now.items in
-    let number = appended before _ _ _ _ (appended before _ _ _ _ c.in_ok-extend_from_slice.ensures.items c.in_ok-push_number.ensures) c.in_ok-push.ensures.items in
-    let named = c.in_ok-push-2.ensures.items ∙ ap (λ d. c.push.new.self.items ++ d ∷ []) c.nullable_character.ensures in
-    let nullable = appended c.push.new.self.items _ _ _ _ named c.in_ok-push-3.ensures.items in
-    let follow = appended before _ _ _ _ (appended before _ _ _ _ number nullable) c.in_ok-push_digits.ensures in
-    let line = appended before _ _ _ _ follow c.in_ok-push-4.ensures.items in
     let same = c.deref-position-items.ensures.value ∙ ap (λ n. n.positions) c.node.view_is in
     let all = take_all c.loop-position.position-index c.args.node.now.positions (omega (arith, c.loop-position-test.false, ap length same)) in
-    let positions = c.loop-position.invariant ∙ ap (λ ps. c.push-4.new.self.items ++ flat_map position_text ps) (all ∙ sym (ap (λ n. n.positions) c.node.view_is)) in
-    appended before _ _ _ _ line positions ∙ ap (λ n. before ++ node_text c.args.number n) c.node.view_is
+    let positions = c.loop-position.invariant ∙ ap (λ ps. c.push_node_line.new.out.items ++ flat_map position_text ps) all in
+    appended before _ _ _ _ c.in_ok-push_node_line.ensures positions
