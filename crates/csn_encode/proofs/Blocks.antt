@@ -1,19 +1,24 @@
 -- The blocks of trees.
 use Rattle.std.proofs.Common.{◌≡◌, ℕ, ◌⊎◌, inl, inr, List, [], ◌++◌, length, refl, sym, ◌∙◌, ap, subst, arith}
-use Rattle.std.specs.Prelude.{◌↔◌}
+use Rattle.std.specs.Prelude.{◌↔◌, Option, Some, None, Result, ok_or, IfSome, IfOk, IfErr}
 use Rattle.csn_desc.specs.TreeV.{TreeV}
 use Rattle.csn_desc.specs.TreeParts.{HasTreeParts}
 use Rattle.csn_desc.specs.Nodes.{DescV}
 use Rattle.csn_desc.specs.Means.{NMeans}
+use Rattle.csn_desc.specs.Values.{Values}
 use Rattle.csn_desc.specs.Formed.{IsDescription}
 use Rattle.csn_desc.proofs.ValuesKept.{no_values_fit}
 use Rattle.csn_certify.specs.Conflicts.{Certified}
 use Rattle.csn_certify.specs.Laws.{FreeTurnsHaveBits}
 use Rattle.csn_encode.specs.declared.misfit.MisfitWhy.{MisfitWhy}
 use Rattle.csn_encode.specs.declared.draft.Draft.{Draft}
+use Rattle.csn_encode.specs.declared.fault.EncodeFault.{EncodeFault}
+use Rattle.csn_encode.specs.declared.fault.EncodeFault.TheVariants as fault
+use Rattle.csn_encode.specs.declared.fault.Stop.{Stop}
+use Rattle.csn_encode.specs.declared.fault.Stop.TheVariants as stop
 use Rattle.csn_encode.specs.Misfits.{Misses, IsMisfit}
-use Rattle.csn_encode.specs.Writing.{Stands, Adds, MissesBy}
-use Rattle.csn_encode.specs.Encoding.{IsBlockOf, HasNoBlock, HasNoMisfit}
+use Rattle.csn_encode.specs.Writing.{Stands, Adds, MissesBy, IfMisfit}
+use Rattle.csn_encode.specs.Encoding.{IsBlockOf, HasNoBlock, HasNoMisfit, IsFaultOf}
 use Rattle.csn_encode.proofs.OneBits.{one_bits}
 use Rattle.csn_encode.proofs.NoBits.{clash}
 use Rattle.csn_encode.proofs.Total.{fits, fails, settled}
@@ -67,3 +72,26 @@ root_misses d t old new why none start h =
     let Q : List ℕ → Type 0 = λ p. Misses d 0 0 [] t p why in
     let misfit : IsMisfit d t new.path why = subst Q (sym (h.path ∙ ap (λ l. l ++ h.below) start)) (subst P (ap length none) h.misfit) in
     (misfit, misses_block d t new.path why misfit)
+
+-- ---- what is answered
+
+-- the bits that were taken of a draft
+pub taken_block : (d : DescV) (t : TreeV) (draft : Draft) (taken : Option (List ℕ)) (r : Result (List ℕ) EncodeFault) → r ≡ ok_or taken fault.NoMemory → IfSome taken (λ b. b ≡ draft.bits)
+    → IsBlockOf d t draft.bits → IfOk r (λ b. IsBlockOf d t b)
+taken_block d t draft None r same is block = let P : Result (List ℕ) EncodeFault → Type 0 = λ x. IfOk x (λ b. IsBlockOf d t b) in subst P (sym same) tt
+taken_block d t draft (Some b) r same is block =
+    let P : Result (List ℕ) EncodeFault → Type 0 = λ x. IfOk x (λ l. IsBlockOf d t l) in
+    let Q : List ℕ → Type 0 = λ l. IsBlockOf d t l in
+    subst P (sym same) (subst Q (sym is) block)
+
+pub untaken : (d : DescV) (t : TreeV) (taken : Option (List ℕ)) (r : Result (List ℕ) EncodeFault) → r ≡ ok_or taken fault.NoMemory → IfErr r (λ e. IsFaultOf d t e)
+untaken d t None r same = let P : Result (List ℕ) EncodeFault → Type 0 = λ x. IfErr x (λ e. IsFaultOf d t e) in subst P (sym same) tt
+untaken d t (Some b) r same = let P : Result (List ℕ) EncodeFault → Type 0 = λ x. IfErr x (λ e. IsFaultOf d t e) in subst P (sym same) tt
+
+-- the fault of a draft that was stopped
+pub stopped : (d : DescV) (t : TreeV) (old new : Draft) (why : Stop) (e : EncodeFault) → old.bits ≡ [] → old.path ≡ [] → Stands d 0 0 [] old
+    → IfMisfit why (λ reason. (v : Values) → Stands d 0 0 v old → MissesBy d 0 v t old new reason)
+    → ((reason : MisfitWhy) → why ≡ stop.Misfit reason → e ≡ fault.Misfit (record { path = new.path; why = reason })) → (why ≡ stop.NoMemory → e ≡ fault.NoMemory) → IsFaultOf d t e
+stopped d t old new (stop.Misfit reason) e none start stands missed misfit memory =
+    subst (IsFaultOf d t) (sym (misfit reason refl)) (root_misses d t old new reason none start (missed [] stands))
+stopped d t old new stop.NoMemory e none start stands missed misfit memory = subst (IsFaultOf d t) (sym (memory refl)) tt

@@ -78,13 +78,13 @@ whole_text text front (x ∷ rest) is none = absurd (omega (arith, none))
 pub row_begins : (ts : List TreeV) (text inner rest : List ℕ) → text ≡ 91 ∷ inner → inner ≡ row_text Second (trees_of ts) ++ 93 ∷ rest → text ≡ text_of Second (row (trees_of ts)) ++ rest
 row_begins ts text inner rest is within = is ∙ ap (λ l. 91 ∷ l) (within ∙ sym (append_assoc (row_text Second (trees_of ts)) (93 ∷ []) rest))
 
-pub alternative_begins : (j : ℕ) (t : TreeV) (text counted tail inner rest : List ℕ) → text ≡ 35 ∷ counted → counted ≡ decimal j ++ tail → tail ≡ 58 ∷ inner → inner ≡ text_of Second t ++ rest → text ≡ text_of Second (alt j t) ++ rest
-alternative_begins j t text counted tail inner rest is count colon within =
-    is ∙ ap (λ l. 35 ∷ l) (count ∙ ap (λ l. decimal j ++ l) (colon ∙ ap (λ l. 58 ∷ l) within) ∙ sym (append_assoc (decimal j) (58 ∷ text_of Second t) rest))
+pub alternative_begins : (j : ℕ) (t : TreeV) (text inner rest : List ℕ) → text ≡ 35 ∷ (decimal j ++ 58 ∷ inner) → inner ≡ text_of Second t ++ rest → text ≡ text_of Second (alt j t) ++ rest
+alternative_begins j t text inner rest is within =
+    is ∙ ap (λ l. 35 ∷ (decimal j ++ 58 ∷ l)) within ∙ ap (λ l. 35 ∷ l) (sym (append_assoc (decimal j) (58 ∷ text_of Second t) rest))
 
-pub label_begins : (label : List ℕ) (t : TreeV) (text words name tail inner rest : List ℕ) → text ≡ 60 ∷ words → words ≡ label ++ name → name ≡ 62 ∷ tail → tail ≡ 61 ∷ inner → inner ≡ text_of Second t ++ rest → text ≡ text_of Second (named label t) ++ rest
-label_begins label t text words name tail inner rest is spelled closed equals within =
-    is ∙ ap (λ l. 60 ∷ l) (spelled ∙ ap (λ l. label ++ l) (closed ∙ ap (λ l. 62 ∷ l) (equals ∙ ap (λ l. 61 ∷ l) within)) ∙ sym (append_assoc label (62 ∷ 61 ∷ text_of Second t) rest))
+pub label_begins : (label : List ℕ) (t : TreeV) (text inner rest : List ℕ) → text ≡ 60 ∷ (label ++ 62 ∷ 61 ∷ inner) → inner ≡ text_of Second t ++ rest → text ≡ text_of Second (named label t) ++ rest
+label_begins label t text inner rest is within =
+    is ∙ ap (λ l. 60 ∷ (label ++ 62 ∷ 61 ∷ l)) within ∙ ap (λ l. 60 ∷ l) (sym (append_assoc label (62 ∷ 61 ∷ text_of Second t) rest))
 
 -- a row with one tree more
 pub row_more : (front : List TreeV) (count : ℕ) (t : TreeV) (text rest next behind : List ℕ) → length front ≡ count → text ≡ row_text Second (trees_of front) ++ rest

@@ -10,7 +10,7 @@ ghost use Rattle.csn_encode.specs.Following.{BeginsWith, BeginsWithRow};
 ghost use Rattle.csn_encode.specs.Writing.{Stands, StandsAtPart, StandsAtParts, Added, Adds, AddsNode, AddsParts};
 
 use crate::draft::Draft;
-use crate::text::{behind, behind_all, goes_on, next_tree, number};
+use crate::text::{alternative, behind, behind_label, goes_on, next_tree};
 use csn_certify::{Plan, Steps};
 use csn_desc::{Label, Node, Parts};
 use std::alloc::Global;
@@ -130,12 +130,8 @@ impl Draft {
         requires { (v : Values) × StandsAtParts ground.plan.now false parts.now round v self.old }
         ensures { IfSome result (λ rest. BeginsWith text.now (λ t. (v : Values) → StandsAtParts ground.entry.plan.now false parts.now round v self.old → AddsNode ground.entry.plan.now (node.Choice parts.now) v t self.old self.new) rest.now) }
     {
-        let (number, tail) = number(behind(text, b'#')?)?;
-        if number >= u64::from(parts.len()) {
-            return None;
-        }
-        let part = parts.get(number as u16);
-        self.write_text(ground, part, round + 1, behind(tail, b':')?, steps)
+        let (number, tail) = alternative(text, parts.len())?;
+        self.write_text(ground, parts.get(number), round + 1, tail, steps)
     }
 
     /// Writes the tree of a repetition by number.
@@ -273,8 +269,7 @@ impl Draft {
         requires { (v : Values) × StandsAtPart ground.plan.now part round v self.old }
         ensures { IfSome result (λ rest. BeginsWith text.now (λ t. (v : Values) → StandsAtPart ground.entry.plan.now part round v self.old → AddsNode ground.entry.plan.now (node.Named label.now part) v t self.old self.new) rest.now) }
     {
-        let name = behind_all(behind(text, b'<')?, label.bytes())?;
-        let tail = behind(behind(name, b'>')?, b'=')?;
+        let tail = behind_label(text, label.bytes())?;
         self.write_text(ground, part, round + 1, tail, steps)
     }
 }

@@ -2,6 +2,7 @@ ghost use Rattle.std.specs.Prelude.{◌≡◌, IfOk, IfErr, IfSome};
 ghost use Rattle.csn_desc.specs.TreeV.{TreeV};
 ghost use Rattle.csn_treetext.specs.declared.version.Version.TheVariants.{Second};
 ghost use Rattle.csn_treetext.specs.Text.{text_of};
+ghost use Rattle.csn_encode.specs.declared.misfit.MisfitWhy.{MisfitWhy};
 ghost use Rattle.csn_encode.specs.Encoding.{IsBlockOf, IsFaultOf};
 
 use crate::along::Ground;
@@ -28,17 +29,29 @@ pub fn encode<L: Ledger>(
     let _count = plan.len();
     let mut draft = Draft::new(alloc);
     match draft.write(plan, 0, 0, tree, steps) {
-        Ok(()) => {
-            let Ok(bits) = draft.bits.take(alloc) else {
-                return Err(EncodeFault::NoMemory);
-            };
-            Ok(bits)
-        }
-        Err(Stop::Misfit(why)) => Err(EncodeFault::Misfit(Misfit {
+        Ok(()) => taken(alloc, draft).ok_or(EncodeFault::NoMemory),
+        Err(stop) => Err(fault_of(draft, stop)),
+    }
+}
+
+/// The bits of a draft, where there is memory for them.
+fn taken(alloc: Global, mut draft: Draft) -> Option<Bits>
+    ensures { IfSome result (λ bits. bits ≡ draft.bits) }
+{
+    draft.bits.take(alloc).ok()
+}
+
+/// The fault that stopped a draft.
+fn fault_of(draft: Draft, stop: Stop) -> EncodeFault
+    ensures misfit { (why : MisfitWhy) → stop ≡ Stop.Misfit why → result ≡ EncodeFault.Misfit (record { path = draft.path; why = why }) }
+    ensures memory { stop ≡ Stop.NoMemory → result ≡ EncodeFault.NoMemory }
+{
+    match stop {
+        Stop::Misfit(why) => EncodeFault::Misfit(Misfit {
             path: draft.path,
             why,
-        })),
-        Err(Stop::NoMemory) => Err(EncodeFault::NoMemory),
+        }),
+        Stop::NoMemory => EncodeFault::NoMemory,
     }
 }
 
@@ -59,8 +72,5 @@ pub fn encode_text<L: Ledger>(
     if rest.len() != 0 {
         return None;
     }
-    let Ok(bits) = draft.bits.take(alloc) else {
-        return None;
-    };
-    Some(bits)
+    taken(alloc, draft)
 }

@@ -13,7 +13,7 @@ pub enum EncodeFault {
 }
 
 /// Why the writing of a tree stopped. Where it does not fit is told by the path.
-#[derive(Clone, Copy, Debug, Drop, PartialEq, Eq)]
+#[derive(Clone, Copy, Drop)]
 pub(crate) enum Stop {
     Misfit(MisfitWhy),
     NoMemory,

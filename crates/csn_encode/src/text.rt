@@ -76,6 +76,28 @@ pub(crate) fn number(text: &[u8]) -> Option<(u64, &[u8])>
     Some((number, rest))
 }
 
+/// The number of an alternative, one of so many, and the text of its tree.
+#[inline(always)]
+pub(crate) fn alternative(text: &[u8], count: u16) -> Option<(u16, &[u8])>
+    ensures begins { IfSome result (λ found. text.now ≡ 35 ∷ (decimal found.0 ++ 58 ∷ found.1.now)) }
+    ensures few { IfSome result (λ found. found.0 < count) }
+{
+    let (number, tail) = number(behind(text, b'#')?)?;
+    if number >= u64::from(count) {
+        return None;
+    }
+    Some((number as u16, behind(tail, b':')?))
+}
+
+/// The text of the tree of a labelled part, where its label has these bytes.
+#[inline(always)]
+pub(crate) fn behind_label<'a>(text: &'a [u8], label: &[u8]) -> Option<&'a [u8]>
+    ensures { IfSome result (λ rest. text.now ≡ 60 ∷ (label.now ++ 62 ∷ 61 ∷ rest.now)) }
+{
+    let tail = behind_all(behind(text, b'<')?, label)?;
+    behind(behind(tail, b'>')?, b'=')
+}
+
 /// The tree whose text ends before the first space or `]`, and the text behind it.
 pub(crate) fn leaf(alloc: Global, text: &[u8]) -> Option<(Tree, &[u8])>
     ensures { IfSome result (λ found. (front : List ℕ) × TreeText found.0 front × (text.now ≡ front ++ found.1.now)) }

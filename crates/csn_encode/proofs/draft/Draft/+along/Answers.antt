@@ -53,6 +53,18 @@ pub write_text-returns-in-Trunc : goal.write_text-returns-in-Trunc
 write_text-returns-in-Trunc g t c =
     on_some c.truncation_text.result (λ rest h. (h.0, h.1, λ v s. node_adds c.args.ground.plan.now (c.node.ensures.node ∙ ap (λ n. Some n) c.in-Trunc.is) (h.2 v (stands_at_parts c.args.ground.plan.now (Trunc c.in-Trunc.parts) (c.node.ensures.node ∙ ap (λ n. Some n) c.in-Trunc.is) refl refl s)))) c.truncation_text.ensures
 
+pub write_text-sequence_text-requires : goal.write_text-sequence_text-requires
+write_text-sequence_text-requires g t c κs within =
+    (omega (arith, c.decreases, c.requires.1.ready.few), (within, (c.requires.0, (stands_at_parts c.args.ground.plan.now (Seq c.in-Seq.parts) (c.node.ensures.node ∙ ap (λ n. Some n) c.in-Seq.is) refl refl c.requires.1))))
+
+pub write_text-choice_text-requires : goal.write_text-choice_text-requires
+write_text-choice_text-requires g t c κs within =
+    (omega (arith, c.decreases, c.requires.1.ready.few), (within, (c.requires.0, (stands_at_parts c.args.ground.plan.now (Choice c.in-Choice.parts) (c.node.ensures.node ∙ ap (λ n. Some n) c.in-Choice.is) refl refl c.requires.1))))
+
+pub write_text-truncation_text-requires : goal.write_text-truncation_text-requires
+write_text-truncation_text-requires g t c κs within =
+    (omega (arith, c.decreases, c.requires.1.ready.few), (within, (c.requires.0, (stands_at_parts c.args.ground.plan.now (Trunc c.in-Trunc.parts) (c.node.ensures.node ∙ ap (λ n. Some n) c.in-Trunc.is) refl refl c.requires.1))))
+
 pub write_text-times_text-requires : goal.write_text-times_text-requires
 write_text-times_text-requires g t c κs within =
     (omega (arith, c.decreases, c.requires.1.ready.few), (within, (c.requires.0, (stands_at_part c.args.ground.plan.now (Times c.in-Times.count c.in-Times.part) (c.node.ensures.node ∙ ap (λ n. Some n) c.in-Times.is) refl c.requires.1))))
@@ -87,15 +99,15 @@ write_text-returns-in-Named g t c =
 
 pub choice_text-write_text-requires : goal.choice_text-write_text-requires
 choice_text-write_text-requires g t c κs within =
-    (omega (arith, c.decreases, c.requires.1.ready.few), (within, (c.requires.0, stands_in_window c.args.ground.plan.now (alternative_stands c.args.ground.plan.now c.in_ok-number.number c.get-part.ensures c.requires.1))))
+    (omega (arith, c.decreases, c.requires.1.ready.few), (within, (c.requires.0, stands_in_window c.args.ground.plan.now (alternative_stands c.args.ground.plan.now c.in_ok-number.number c.get.ensures c.requires.1))))
 
 pub choice_text-returns : goal.choice_text-returns
 choice_text-returns g t c =
-    on_some c.write_text.result (λ rest h. (alt c.in_ok-number.number h.0, alternative_begins c.in_ok-number.number h.0 _ _ _ _ _ c.in_ok-behind.ensures c.in_ok-number.ensures c.in_ok-behind-2.ensures h.1, λ v s. choice_adds c.args.ground.plan.now c.in_ok-number.number h.0 refl c.get-part.ensures (h.2 v (stands_in_window c.args.ground.plan.now (alternative_stands c.args.ground.plan.now c.in_ok-number.number c.get-part.ensures s))))) c.write_text.ensures
+    on_some c.write_text.result (λ rest h. (alt c.in_ok-number.number h.0, alternative_begins c.in_ok-number.number h.0 _ _ _ c.in_ok-number.ensures.begins h.1, λ v s. choice_adds c.args.ground.plan.now c.in_ok-number.number h.0 refl c.get.ensures (h.2 v (stands_in_window c.args.ground.plan.now (alternative_stands c.args.ground.plan.now c.in_ok-number.number c.get.ensures s))))) c.write_text.ensures
 
 pub named_text-returns : goal.named_text-returns
 named_text-returns g t c =
-    on_some c.write_text.result (λ rest h. (named c.bytes.result.now h.0, label_begins c.bytes.result.now h.0 _ _ _ _ _ _ c.in_ok-behind.ensures c.in_ok-name.ensures c.in_ok-behind-2.ensures c.in_ok-tail.ensures h.1, λ v s. named_adds c.args.ground.plan.now c.bytes.result.now h.0 refl c.bytes.ensures.value (h.2 v (stands_in_window c.args.ground.plan.now s)))) c.write_text.ensures
+    on_some c.write_text.result (λ rest h. (named c.bytes.result.now h.0, label_begins c.bytes.result.now h.0 _ _ _ c.in_ok-tail.ensures h.1, λ v s. named_adds c.args.ground.plan.now c.bytes.result.now h.0 refl c.bytes.ensures.value (h.2 v (stands_in_window c.args.ground.plan.now s)))) c.write_text.ensures
 
 pub many_text-returns : goal.many_text-returns
 many_text-returns g t c =
@@ -116,6 +128,37 @@ truncation_text-returns g t c =
 pub window_text-returns : goal.window_text-returns
 window_text-returns g t c =
     let h = c.in_ok-rest.ensures in (h.0, h.1, λ v unit n count s counted all. window_adds c.args.ground.plan.now n c.args.wanted counted all (let same = c.if-len-from.false in omega (arith, same, c.len.ensures.count, c.len-from.ensures.count)) (h.2 v (stands_in_window c.args.ground.plan.now s)))
+
+pub times_text-turns_text-requires : goal.times_text-turns_text-requires
+times_text-turns_text-requires g t c κs within =
+    (omega (arith, c.decreases), (within, (c.requires.0, c.requires.1)))
+
+pub many_text-turns_text-requires : goal.many_text-turns_text-requires
+many_text-turns_text-requires g t c κs within =
+    (omega (arith, c.decreases), (within, (c.requires.0, c.requires.1)))
+
+pub window_text-write_text-requires : goal.window_text-write_text-requires
+window_text-write_text-requires g t c κs within =
+    (omega (arith, c.decreases, c.requires.1.ready.few), (within, (c.requires.0, stands_in_window c.args.ground.plan.now c.requires.1)))
+
+pub named_text-write_text-requires : goal.named_text-write_text-requires
+named_text-write_text-requires g t c κs within =
+    (omega (arith, c.decreases, c.requires.1.ready.few), (within, (c.requires.0, stands_in_window c.args.ground.plan.now c.requires.1)))
+
+pub choice_text-overflow_add-round : goal.choice_text-overflow_add-round
+choice_text-overflow_add-round g t c = omega (arith, c.requires.1.ready.few)
+
+pub window_text-overflow_add-round : goal.window_text-overflow_add-round
+window_text-overflow_add-round g t c = omega (arith, c.requires.1.ready.few)
+
+pub named_text-overflow_add-round : goal.named_text-overflow_add-round
+named_text-overflow_add-round g t c = omega (arith, c.requires.1.ready.few)
+
+pub parts_text-overflow_add-round : goal.parts_text-overflow_add-round
+parts_text-overflow_add-round g t c = omega (arith, c.requires.1.ready.few)
+
+pub turns_text-overflow_add-round : goal.turns_text-overflow_add-round
+turns_text-overflow_add-round g t c = omega (arith, c.requires.1.ready.few)
 
 pub sequence_text-parts_text-requires : goal.sequence_text-parts_text-requires
 sequence_text-parts_text-requires g t c κs within =

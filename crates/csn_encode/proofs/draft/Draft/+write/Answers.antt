@@ -19,6 +19,18 @@ pub write-count_of-requires-in-Window : goal.write-count_of-requires-in-Window
 write-count_of-requires-in-Window g t c =
     (c.args.plan.now, c.requires.0, window_keeps c.args.plan.now (c.node.ensures.node ∙ ap (λ n. Some n) c.in-Window.is) c.requires.1)
 
+pub write-sequence-requires : goal.write-sequence-requires
+write-sequence-requires g t c κs within =
+    (omega (arith, c.decreases, c.requires.1.ready.few), (within, (c.requires.0, stands_at_parts c.args.plan.now (Seq c.in-Seq.parts) (c.node.ensures.node ∙ ap (λ n. Some n) c.in-Seq.is) refl refl c.requires.1)))
+
+pub write-choice-requires : goal.write-choice-requires
+write-choice-requires g t c κs within =
+    (omega (arith, c.decreases, c.requires.1.ready.few), (within, (c.requires.0, stands_at_parts c.args.plan.now (Choice c.in-Choice.parts) (c.node.ensures.node ∙ ap (λ n. Some n) c.in-Choice.is) refl refl c.requires.1)))
+
+pub write-truncation-requires : goal.write-truncation-requires
+write-truncation-requires g t c κs within =
+    (omega (arith, c.decreases, c.requires.1.ready.few), (within, (c.requires.0, stands_at_parts c.args.plan.now (Trunc c.in-Trunc.parts) (c.node.ensures.node ∙ ap (λ n. Some n) c.in-Trunc.is) refl refl c.requires.1)))
+
 pub write-times-requires : goal.write-times-requires
 write-times-requires g t c κs within =
     (omega (arith, c.decreases, c.requires.1.ready.few), (within, (c.requires.0, stands_at_part c.args.plan.now (Times c.in-Times.count c.in-Times.part) (c.node.ensures.node ∙ ap (λ n. Some n) c.in-Times.is) refl c.requires.1)))
@@ -310,3 +322,33 @@ window-returns-then-found-wanted-clause-missed g t c =
 pub window-returns-clause-added : goal.window-returns-clause-added
 window-returns-clause-added g t c =
     λ v unit n count s counted all. window_adds c.args.plan.now n c.args.wanted counted all (let same = c.if-found-wanted.false in omega (arith, same, c.len.ensures.count, c.len-from.ensures.count)) (c.in_ok-write.ensures.added v (stands_in_window c.args.plan.now s))
+
+pub times-turns-requires : goal.times-turns-requires
+times-turns-requires g t c κs within =
+    (omega (arith, c.decreases), (within, (c.requires.0, c.requires.1)))
+
+pub many-turns-requires : goal.many-turns-requires
+many-turns-requires g t c κs within =
+    (omega (arith, c.decreases), (within, (c.requires.0, c.requires.1)))
+
+pub named-below-requires : goal.named-below-requires
+named-below-requires g t c κs within =
+    (omega (arith, c.decreases), (within, (c.requires.0, c.requires.1)))
+
+pub turns-below-requires : goal.turns-below-requires
+turns-below-requires g t c κs within =
+    (omega (arith, c.decreases), (within, (c.requires.0, (c.loop-at.invariant c.requires.0 c.requires.1).stands)))
+
+pub below-write-requires : goal.below-write-requires
+below-write-requires g t c κs within =
+    (omega (arith, c.decreases, c.requires.1.ready.few), (within, (c.requires.0, stands_inside c.args.plan.now c.args.at c.requires.1 refl refl c.in_ok-push.ensures.ok)))
+
+pub window-write-requires : goal.window-write-requires
+window-write-requires g t c κs within =
+    (omega (arith, c.decreases, c.requires.1.ready.few), (within, (c.requires.0, stands_in_window c.args.plan.now c.requires.1)))
+
+pub below-overflow_add-round : goal.below-overflow_add-round
+below-overflow_add-round g t c = omega (arith, c.requires.1.ready.few)
+
+pub window-overflow_add-round : goal.window-overflow_add-round
+window-overflow_add-round g t c = omega (arith, c.requires.1.ready.few)
