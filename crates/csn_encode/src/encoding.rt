@@ -9,7 +9,7 @@ use crate::along::Ground;
 use crate::draft::Draft;
 use crate::fault::{EncodeFault, Stop};
 use crate::misfit::Misfit;
-use csn_bits::Bits;
+use csn_bits::{Bits, PackedBits};
 use csn_certify::{Plan, Steps};
 use csn_desc::Tree;
 use std::alloc::Global;
@@ -29,16 +29,17 @@ pub fn encode<L: Ledger>(
     let _count = plan.len();
     let mut draft = Draft::new(alloc);
     match draft.write(plan, 0, 0, tree, steps) {
-        Ok(()) => taken(alloc, draft).ok_or(EncodeFault::NoMemory),
+        Ok(()) => taken(alloc, &mut draft.bits).ok_or(EncodeFault::NoMemory),
         Err(stop) => Err(fault_of(draft, stop)),
     }
 }
 
-/// The bits of a draft, where there is memory for them.
-fn taken(alloc: Global, mut draft: Draft) -> Option<Bits>
-    ensures { IfSome result (λ bits. bits ≡ draft.bits) }
+/// The bits that are written, where there is memory for them.
+#[inline(always)]
+fn taken(alloc: Global, written: &mut PackedBits) -> Option<Bits>
+    ensures { IfSome result (λ bits. bits ≡ written.old) }
 {
-    draft.bits.take(alloc).ok()
+    written.take(alloc).ok()
 }
 
 /// The fault that stopped a draft.
@@ -72,5 +73,5 @@ pub fn encode_text<L: Ledger>(
     if rest.len() != 0 {
         return None;
     }
-    taken(alloc, draft)
+    taken(alloc, &mut draft.bits)
 }
