@@ -55,18 +55,21 @@ pub goes_on_within : (old new : BlockV) (octet bits taken : ℕ) (answer : Answe
 goes_on_within old new octet bits taken answer same is stays continues b writes =
     subst (λ n. WritesOrWants new (b ++ take n (bits_of_octet octet))) same (goes_on old new (take taken (bits_of_octets (octet ∷ []))) answer is stays continues b writes)
 
+front_with : (b more : List ℕ) (size count : ℕ) → length b ≡ size → count ≤ length more → length (b ++ take count more) ≡ size + count
+front_with b more size count is few = length-append b (take count more) ∙ ap (λ n. n + length (take count more)) is ∙ ap (λ n. size + n) (length-take-le count more few)
+
 -- how many bits a block has that ends with some bits of an octet
 pub bits_with : (b : List ℕ) (octets octet bits : ℕ) → length b ≡ 8 * octets → bits ≤ 8 → length (b ++ take bits (bits_of_octet octet)) ≡ 8 * octets + bits
-bits_with b octets octet bits count few =
-    omega (arith, count, length-append b (take bits (bits_of_octet octet)), length-take-le bits (bits_of_octet octet) few)
+bits_with b octets octet bits count few = front_with b (bits_of_octet octet) (8 * octets) bits count few
 
 -- ---- the line goes on
 
+few_taken : (most : ℕ) (xs : List ℕ) → length (take most xs) ≤ most
+few_taken most xs = omega (arith, length-take most xs)
+
 -- a line gives no more octets than a block has
 pub few_given : (line : List ℕ) → length (octets_given line) ≤ 65536
-few_given line =
-    let all : List ℕ = all_but_last (octets_of_digits (leading_digits line)) in
-    omega (arith, length-take 65536 all)
+few_given line = few_taken 65536 (all_but_last (octets_of_digits (leading_digits line)))
 
 pub reads_none : (t : LineV) → Fed t.feed [] → t.seen ≡ 0 → t.octets ≡ 0 → t.block.seen ≡ 0 → WritesFor t.block [] → ReadsLine t []
 reads_none t fed count given seen writes =
@@ -95,8 +98,8 @@ reads_more old new line more octets reads fed gives seen given few writes =
     ap (λ l. bits_of_octets l) gives ∙ bits_of_octets-append (octets_given line) octets in
     record {
       fed = fed;
-      count = omega (arith, seen, reads.count, length-append line more);
-      given = omega (arith, given, reads.given, count);
+      count = seen ∙ ap (λ n. n + length more) reads.count ∙ sym (length-append line more);
+      given = given ∙ ap (λ n. n + length octets) reads.given ∙ sym count;
       few = few;
       writes = subst (λ l. WritesOrWants new.block l) (sym bits) (writes (bits_of_octets (octets_given line)) reads.writes);
     }

@@ -1,5 +1,6 @@
 -- Bits of an open leaf that are written as octets.
 use Rattle.std.proofs.Common.{◌≡◌, ℕ, ◌+◌, ◌-◌, ◌*◌, ◌/◌, ◌%◌, ◌^◌, ◌<◌, List, [], ◌∷◌, ◌++◌, length, drop, set, slice_index, refl, sym, ap, ◌∙◌, arith, append_assoc, append-nil, length-set}
+use Rattle.std.specs.Prelude.{Result, Ok, Err, OnOk}
 use Rattle.std.proofs.lemmas.List.{drop-set}
 use Rattle.hex.specs.Hex.{upper_digits, encode_upper, encode_with}
 use Rattle.csn_bits.specs.Octets.{IsBits, octets_of}
@@ -75,3 +76,8 @@ extends_then a b c first next = (first.0 ++ next.0, next.1 ∙ ap (λ l. l ++ ne
 
 pub extends_none : (a b : List ℕ) → b ≡ a → Extends a b
 extends_none a b same = ([], same ∙ sym (append-nil a))
+
+-- what a call makes true where it succeeds
+pub on_ok : {A E P Q : Type 0} (r : Result A E) → (P → Q) → OnOk r P → OnOk r Q
+on_ok (Ok a) by h = by h
+on_ok (Err e) by h = tt

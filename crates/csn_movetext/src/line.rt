@@ -164,12 +164,30 @@ impl<'a> LineText<'a> {
         ensures err { OnErr result ((tail : List ℕ) × (out.new.items ≡ out.old.items ++ tail)) }
     {
         let mut steps = Steps::<L>::new(blank);
+        self.end_along(out, &mut steps)
+    }
+
+    // The same beside the steps so far.
+    #[inline(always)]
+    fn end_along<L: Ledger>(
+        &mut self,
+        out: &mut Vec<u8>,
+        steps: &mut Steps<L>,
+    ) -> Result<LineEnd, AllocError>
+        ensures ends { IfOk result (λ end. (line : List ℕ) → ReadsLine self.old line
+            → EndsText self.old.form self.old.desc line end out.old.items out.new.items) }
+        ensures anew { ReadsLine self.new [] }
+        ensures seen { self.new.seen ≡ 0 }
+        ensures form { self.new.form ≡ self.old.form }
+        ensures desc { self.new.desc ≡ self.old.desc }
+        ensures err { OnErr result ((tail : List ℕ) × (out.new.items ≡ out.old.items ++ tail)) }
+    {
         let feed = mem::replace(&mut self.feed, HexFeed::new());
         match feed.finish() {
-            HexEnd::Empty => self.given.end(0, 0, out, &mut steps),
-            HexEnd::Last { octet, bits } => self.given.end(octet, bits, out, &mut steps),
+            HexEnd::Empty => self.given.end(0, 0, out, steps),
+            HexEnd::Last { octet, bits } => self.given.end(octet, bits, out, steps),
             HexEnd::Fault(why) => {
-                self.given.give_up(&mut steps);
+                self.given.give_up(steps);
                 Ok(LineEnd::Fault(why))
             }
         }

@@ -94,6 +94,22 @@ impl Openings {
         Openings { templates, ..self }
     }
 
+    /// That of a node behind the others, with its number where it is an alternative. It is made in `opening`.
+    fn add(
+        &mut self,
+        opening: &mut Vec<u8>,
+        form: TreeForm,
+        number: Option<u16>,
+        node: &Node,
+    ) -> Result<(), NoMemory>
+        ensures added { OnOk result (self.new ≡ record { form = self.old.form; texts = self.old.texts ++ opening_of form number node.now ∷ []; templates = self.old.templates }) }
+        ensures label { OnOk result (HasLabel node.now) }
+    {
+        opening.clear();
+        push_opening(opening, form, number, node)?;
+        self.push(opening.as_slice())
+    }
+
     /// One more behind the others.
     fn push(&mut self, opening: &[u8]) -> Result<(), NoMemory>
         ensures { OnOk result (self.new ≡ record { form = self.old.form; texts = self.old.texts ++ opening.now ∷ []; templates = self.old.templates }) }
@@ -156,10 +172,8 @@ fn bare_openings<L: Ledger>(
     };
     let mut opening = Vec::new(alloc);
     for i in 0..plan.len() {
-        opening.clear();
         let node = plan.node(i, steps);
-        push_opening(&mut opening, form, numbers[usize::from(i)], node)?;
-        openings.push(opening.as_slice())?;
+        openings.add(&mut opening, form, numbers[usize::from(i)], node)?;
     }
     Ok(openings)
 }

@@ -146,15 +146,19 @@ impl Writing {
         ensures extends { Extends self.old.out.items self.new.out.items }
     {
         match node {
-            Node::Seq(_) | Node::Times { .. } | Node::Many(_) | Node::Trunc(_) => self.shut(b']')?,
-            Node::Spare(_) => self.close(form, true)?,
-            Node::Field { .. } => self.close(form, is_told(node))?,
-            Node::Pad => self.close(form, false)?,
-            Node::Rest => self.close(form, false)?,
-            Node::Choice(_) | Node::Named { .. } => self.leave_part(form)?,
-            Node::Lits(_) | Node::Null | Node::Window { .. } => self.pass(),
+            Node::Seq(_) | Node::Times { .. } | Node::Many(_) | Node::Trunc(_) => {
+                Ok(self.shut(b']')?)
+            }
+            Node::Spare(_) => self.close(form, true),
+            Node::Field { .. } => self.close(form, is_told(node)),
+            Node::Pad => self.close(form, false),
+            Node::Rest => self.close(form, false),
+            Node::Choice(_) | Node::Named { .. } => Ok(self.leave_part(form)?),
+            Node::Lits(_) | Node::Null | Node::Window { .. } => {
+                self.pass();
+                Ok(())
+            }
         }
-        Ok(())
     }
 
     // A node is left that writes one byte then.

@@ -1,4 +1,5 @@
-use Rattle.std.proofs.Common.{◌∙◌, ap, arith, Some}
+use Rattle.std.proofs.Common.{◌≡◌, ◌∙◌, length, ap, arith, subst, Some}
+use Rattle.csn_movetext.specs.Numbers.{AreNumbers}
 use Rattle.csn_desc.specs.declared.node.Node.TheVariants.{Choice}
 use Rattle.csn_movetext.proofs.NumberFacts.{numbers_same, numbers_next, parts_within}
 use Rattle.csn_movetext.proofs.alternatives.alternatives.Goals as goal
@@ -14,3 +15,8 @@ loop-i-preserved g c = elim c.match-node.branch [
       (c.node.ensures.node ∙ ap Some w.in-Choice.is) w.number_parts.ensures.len w.number_parts.ensures.numbered c.loop-i.invariant)
   | in_default w ↦ rw w.numbers-is (numbers_same c.args.plan.now c.loop-i.i c.node.result.now c.loop-i.numbers.items c.node.ensures.node w.in_default.not-Choice c.loop-i.invariant)
 ]
+
+pub returns : goal.returns
+returns g c =
+    let all : c.loop-i.i ≡ length c.args.plan.now.nodes = omega (arith, c.loop-i-test.false, c.loop-i.auto.i-end, c.len-count.ensures.len) in
+    subst (λ n. AreNumbers c.args.plan.now n c.loop-i.numbers.items) all c.loop-i.invariant

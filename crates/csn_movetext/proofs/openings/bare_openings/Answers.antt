@@ -1,8 +1,8 @@
-use Rattle.std.proofs.Common.{◌≡◌, ℕ, ◌<◌, length, arith, ◌∙◌, sym, subst, ap, ◌++◌, ◌∷◌, [], Some, get_or}
+use Rattle.std.proofs.Common.{◌≡◌, ℕ, ◌<◌, length, arith, ◌∙◌, sym, subst, ap, Some, get_or}
 use Rattle.std.specs.Prelude.{slice_get}
 use Rattle.std.proofs.lemmas.Option.{slice_get-get_or}
 use Rattle.csn_movetext.specs.declared.form.TreeForm.{TreeForm}
-use Rattle.csn_movetext.specs.Openings.{OpeningsV, opening_of}
+use Rattle.csn_movetext.specs.Openings.{OpeningsV}
 use Rattle.csn_movetext.proofs.PoolFacts.{AreBegun, begun_next, are_opened}
 use Rattle.csn_movetext.proofs.openings.bare_openings.Goals as goal
 
@@ -12,14 +12,11 @@ loop-i-preserved g c =
     let given : slice_get c.in_ok-numbers.numbers.items c.loop-i.i ≡ Some c.index.result.now =
     slice_get-get_or c.in_ok-numbers.numbers.items c.loop-i.i c.index.result.now small
     ∙ ap (λ k. Some (get_or c.in_ok-numbers.numbers.items k c.index.result.now)) (sym c.from.ensures) ∙ ap Some (sym c.index.ensures) in
-    let text : c.as_slice.result.now ≡ opening_of c.args.form c.index.result.now c.node-node.result.now =
-    c.as_slice.ensures.value ∙ c.in_ok-push_opening.ensures.text ∙ ap (λ l. l ++ opening_of c.args.form c.index.result.now c.node-node.result.now) c.clear.ensures.items in
-    let form : c.push.new.self.form ≡ c.args.form = ap (λ (o : OpeningsV). o.form) c.in_ok-push.ensures ∙ c.loop-i.invariant.0 in
-    let texts : c.push.new.self.texts ≡ c.loop-i.openings.texts ++ c.as_slice.result.now ∷ [] = ap (λ (o : OpeningsV). o.texts) c.in_ok-push.ensures in (
+    let form : c.add.new.self.form ≡ c.args.form = ap (λ (o : OpeningsV). o.form) c.in_ok-add.ensures.added ∙ c.loop-i.invariant.0 in (
       form,
-      begun_next c.args.form c.args.plan.now c.in_ok-numbers.numbers.items c.loop-i.i c.index.result.now c.node-node.result.now c.loop-i.openings.texts c.push.new.self.texts
-          given c.node-node.ensures.node c.in_ok-push_opening.ensures.label (texts ∙ ap (λ x. c.loop-i.openings.texts ++ x ∷ []) text) c.loop-i.invariant.1,
-      ap (λ (o : OpeningsV). o.templates) c.in_ok-push.ensures ∙ c.loop-i.invariant.2,
+      begun_next c.args.form c.args.plan.now c.in_ok-numbers.numbers.items c.loop-i.i c.index.result.now c.node-node.result.now c.loop-i.openings.texts c.add.new.self.texts
+          given c.node-node.ensures.node c.in_ok-add.ensures.label (ap (λ (o : OpeningsV). o.texts) c.in_ok-add.ensures.added) c.loop-i.invariant.1,
+      ap (λ (o : OpeningsV). o.templates) c.in_ok-add.ensures.added ∙ c.loop-i.invariant.2,
     )
 
 pub returns-clause-opened : goal.returns-clause-opened

@@ -1,4 +1,4 @@
-use Rattle.std.proofs.Common.{ℕ, List, Err, OnOk, IfErr, sym, subst}
+use Rattle.std.proofs.Common.{ℕ, List, Err, OnOk, IfErr, sym, ◌∙◌, subst}
 use Rattle.std.specs.Prelude.{Result}
 use Rattle.csn_movetext.specs.declared.fault.BlockFault.{BlockFault}
 use Rattle.csn_movetext.specs.Blocks.{WritesFor, AddsText, Ends}
@@ -28,3 +28,21 @@ returns-clause-why g c =
           (text_wanting c.strings_are_followed.ensures c.args.self.now c.end.new.self.track.kept.text w.add_to-ended.result w.in-Ok.ensures.text w.add_to-ended.ensures.why)
       | in-Err w ↦ subst R (sym w.ended-is) w.in-Err.ensures.why
     ]
+
+pub returns-clause-answer : goal.returns-clause-answer
+returns-clause-answer g c = c.restart.ensures.answer
+
+pub returns-clause-writes : goal.returns-clause-writes
+returns-clause-writes g c = c.restart.ensures.writes
+
+pub returns-clause-form : goal.returns-clause-form
+returns-clause-form g c = c.restart.ensures.form ∙ c.end.ensures.form
+
+pub returns-clause-desc : goal.returns-clause-desc
+returns-clause-desc g c = c.restart.ensures.desc ∙ c.end.ensures.desc
+
+pub returns-clause-before : goal.returns-clause-before
+returns-clause-before g c = c.restart.ensures.before ∙ c.end.ensures.before
+
+pub returns-clause-seen : goal.returns-clause-seen
+returns-clause-seen g c = c.restart.ensures.seen ∙ c.end.ensures.seen

@@ -45,3 +45,27 @@ returns-clause-reads g c = λ line reads_now.
     reads_more old new line bytes (take (to - from) (drop from room)) reads (c.take_next-taken.ensures.fed line reads.fed)
     (c.take_next-taken.ensures.given line reads.fed ∙ ap (λ l. octets_given line ++ l) (part_is from to room c.take_next-taken.ensures.from))
     seen c.take.ensures.octets c.take.ensures.seen c.take.ensures.writes
+
+pub take_next-taken-requires-clause-some : goal.take_next-taken-requires-clause-some
+take_next-taken-requires-clause-some g c = c.requires.some
+
+pub take_next-taken-requires-clause-few : goal.take_next-taken-requires-clause-few
+take_next-taken-requires-clause-few g c = omega (arith, c.requires.few, ap (λ (t : LineV). t.seen) c.self.view_is)
+
+pub take-requires-clause-seen : goal.take-requires-clause-seen
+take-requires-clause-seen g c = let reads : ReadsLine (line_of c.self.inside) c.self.invariant.0 = c.self.invariant.1 in reads.few
+
+pub returns-clause-some : goal.returns-clause-some
+returns-clause-some g c = c.take_next-taken.ensures.some
+
+pub returns-clause-within : goal.returns-clause-within
+returns-clause-within g c = c.take_next-taken.ensures.within
+
+pub returns-clause-seen : goal.returns-clause-seen
+returns-clause-seen g c = c.take_next-taken.ensures.seen ∙ ap (λ (t : LineV). t.seen + c.take_next-taken.result.bytes) c.self.view_is
+
+pub returns-clause-form : goal.returns-clause-form
+returns-clause-form g c = c.take.ensures.form ∙ ap (λ (t : LineV). t.form) c.self.view_is
+
+pub returns-clause-desc : goal.returns-clause-desc
+returns-clause-desc g c = c.take.ensures.desc ∙ ap (λ (t : LineV). t.desc) c.self.view_is

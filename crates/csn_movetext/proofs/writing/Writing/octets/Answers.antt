@@ -4,7 +4,7 @@ use Rattle.hex.specs.Hex.{encode_upper}
 use Rattle.csn_bits.specs.Octets.{octets_of}
 use Rattle.csn_bits.specs.Numbers.{low_bits}
 use Rattle.csn_movetext.specs.Kept.{Flushed, sign}
-use Rattle.csn_movetext.proofs.Octets.{flushed}
+use Rattle.csn_movetext.proofs.Octets.{flushed, extends_then}
 use Rattle.csn_movetext.proofs.writing.Writing.octets.Goals as goal
 
 pub returns-clause-flushed : goal.returns-clause-flushed
@@ -15,3 +15,12 @@ returns-clause-flushed c = λ b are long number.
     subst P (sym (one_shl rest 64 (omega arith)))
     (flushed (c.in_ok-push_octets.ensures.digits ∙ ap (λ l. l ++ encode_upper (octets_of (low_bits (8 * (c.begin_long.new.self.held / 8)) (c.begin_long.new.self.bits / 2 ^ rest)))) begun.out)
     b are (long ∙ sym begun.held) (number ∙ sym begun.bits))
+
+pub returns-in_err-begin_long-clause-extends : goal.returns-in_err-begin_long-clause-extends
+returns-in_err-begin_long-clause-extends c = c.in_err-begin_long.ensures.extends
+
+pub returns-in_err-push_octets-clause-extends : goal.returns-in_err-push_octets-clause-extends
+returns-in_err-push_octets-clause-extends c = extends_then _ _ _ c.in_ok-begin_long.ensures.extends c.in_err-push_octets.ensures.extends
+
+pub returns-clause-extends : goal.returns-clause-extends
+returns-clause-extends c = extends_then _ _ _ c.in_ok-begin_long.ensures.extends c.in_ok-push_octets.ensures.extends
