@@ -1,4 +1,4 @@
-use Rattle.std.proofs.Common.{◌∷◌, sym, ap, ◌∙◌, subst}
+use Rattle.std.proofs.Common.{sym, ap, ◌∙◌, subst}
 use Rattle.csn_treetext.specs.reader.Machine.{HasRoom, is_in_row, with_tree}
 use Rattle.csn_treetext.proofs.Rooms.{room_inside, no_row}
 use Rattle.csn_treetext.proofs.closing.with_tree.Goals as goal

@@ -1,9 +1,9 @@
-use Rattle.std.proofs.Common.{◌+◌, refl, sym, ap, ◌∙◌, subst, arith}
-use Rattle.csn_treetext.specs.Place.{IsTextOf, IsFaultOf}
-use Rattle.csn_treetext.specs.reader.Mode.{Start, Done}
+use Rattle.std.proofs.Common.{◌+◌, refl, sym, subst, arith}
+use Rattle.csn_treetext.specs.Place.{IsFaultOf}
+use Rattle.csn_treetext.specs.reader.Mode.{Start}
 use Rattle.csn_treetext.specs.reader.Machine.{HasRoom, state}
 use Rattle.csn_treetext.specs.reader.Reading.{Stands, Takes, mode_of}
-use Rattle.csn_treetext.proofs.ReadingFacts.{led, stopped, whole_tree, whole_text, whole_refused}
+use Rattle.csn_treetext.proofs.ReadingFacts.{led, stopped, whole_text, whole_refused}
 use Rattle.csn_treetext.proofs.StopFacts.{next_ends}
 use Rattle.csn_treetext.proofs.read.read_source.Goals as goal
 

@@ -1,6 +1,5 @@
-use Rattle.std.proofs.Common.{ap, ◌∙◌, ◌++◌, List, ℕ, arith}
+use Rattle.std.proofs.Common.{◌∙◌, List, ℕ, arith}
 use Rattle.csn_desc.specs.TreeV.{TreeV}
-use Rattle.csn_treetext.specs.Text.{text_of}
 use Rattle.csn_treetext.specs.declared.version.Version.TheVariants.{Second}
 use Rattle.csn_treetext.proofs.Rows.{member_size, wrote_on, have_next}
 use Rattle.csn_treetext.proofs.write.+write.Goals as goal
