@@ -1,4 +1,4 @@
-use Rattle.std.proofs.Common.{◌≡◌, ◌+◌, ◌++◌, ◌∷◌, [], length, take, codes, IfOk, IfErr, refl, ap, sym, ◌∙◌, subst, arith, rules, inl, inr, length-append}
+use Rattle.std.proofs.Common.{◌≡◌, ◌+◌, ◌∷◌, [], length, take, codes, IfOk, IfErr, refl, ap, sym, ◌∙◌, subst, arith, rules, inl, inr, length-append}
 use Rattle.csn_desc.specs.TreeV.{TreeV, trees_of}
 use Rattle.serde_json.specs.Data.{boolean, number, string}
 use Rattle.serde_json.specs.View.{view, number_view, items_view, members_view}
@@ -92,6 +92,9 @@ tagged_of-returns-in-label-clause-refused t c =
 
 -- ---- an alternative
 
+pub numbered_of-tree_of-requires : goal.numbered_of-tree_of-requires
+numbered_of-tree_of-requires t c = (omega (arith, c.decreases), (omega (arith, c.requires.round), c.requires.few))
+
 pub numbered_of-returns-in_err-number-clause-refused : goal.numbered_of-returns-in_err-number-clause-refused
 numbered_of-returns-in_err-number-clause-refused t c =
     tag_refused c.args.round _ (codes "alt") (view c.args.of.now) (view c.args.inside.now) refl c.from_residual.result c.in_err-number.field-0.0 c.from_residual.ensures.1 (no_alternative _ _ _ _ refl) c.in_err-number.ensures.refused
@@ -101,6 +104,9 @@ numbered_of-returns-in_err-tree-clause-refused t c =
     tag_refused c.args.round _ (codes "alt") (view c.args.of.now) (view c.args.inside.now) refl c.from_residual-in_err-tree.result c.in_err-tree.field-0.0 c.from_residual-in_err-tree.ensures.1 (no_inside _ _ _ _) c.in_err-tree.ensures.refused
 
 -- ---- a labelled part
+
+pub labelled_of-tree_of-requires : goal.labelled_of-tree_of-requires
+labelled_of-tree_of-requires t c = (omega (arith, c.decreases), (omega (arith, c.requires.round), c.requires.few))
 
 pub labelled_of-returns-in_err-label-clause-refused : goal.labelled_of-returns-in_err-label-clause-refused
 labelled_of-returns-in_err-label-clause-refused t c =
@@ -118,6 +124,11 @@ pub labelled_of-returns-clause-refused : goal.labelled_of-returns-clause-refused
 labelled_of-returns-clause-refused t c = memory_alone _ c.labelled.result c.labelled.ensures.memory
 
 -- ---- a value
+
+pub tree_of-rows_of-requires : goal.tree_of-rows_of-requires
+tree_of-rows_of-requires t c =
+    let seen = ap values_in (ap view c.in-Array.is ∙ view-Array c.in-Array.values) in
+    (omega (arith, seen, c.decreases), (omega arith, omega (arith, seen, c.requires.few)))
 
 pub tree_of-returns-then-round-eq-MOST_LEVELS-clause-refused : goal.tree_of-returns-then-round-eq-MOST_LEVELS-clause-refused
 tree_of-returns-then-round-eq-MOST_LEVELS-clause-refused t c = λ t' is. no_room c.args.round (view c.args.value.now) (omega arith) t' is
