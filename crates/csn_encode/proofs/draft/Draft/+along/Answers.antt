@@ -219,3 +219,18 @@ turns_text-loop-self-preserved g t c =
 pub turns_text-returns : goal.turns_text-returns
 turns_text-returns g t c =
     turns_end c.args.ground.plan.now c.loop-self.invariant c.in_ok-rest-2.ensures
+
+pub parts_text-get-part-requires : goal.parts_text-get-part-requires
+parts_text-get-part-requires g t c = omega (arith, c.loop-part-test.ensures refl, c.from.ensures, c.len.ensures.len)
+
+pub parts_text-loop-part-smaller : goal.parts_text-loop-part-smaller
+parts_text-loop-part-smaller g t c = omega (arith, c.loop-part-test.ensures refl, c.from.ensures, c.len.ensures.len)
+
+pub parts_text-loop-part-smaller-then-len-from : goal.parts_text-loop-part-smaller-then-len-from
+parts_text-loop-part-smaller-then-len-from g t c = omega (arith, c.loop-part-test.ensures refl, c.from.ensures, c.len.ensures.len)
+
+pub turns_text-loop-self-smaller : goal.turns_text-loop-self-smaller
+turns_text-loop-self-smaller g t c = omega (arith, c.loop-self-test.ensures refl)
+
+pub turns_text-overflow_add-count : goal.turns_text-overflow_add-count
+turns_text-overflow_add-count g t c = omega (arith, c.loop-self-test.ensures refl, c.ranges.most.fits)
