@@ -10,7 +10,7 @@ use csn_look::Word;
 use std::marker::Model;
 
 /// How held bits stand to the keys of the alternatives of a choice.
-#[derive(Clone, Copy, Debug, PartialEq, Eq)]
+#[derive(Clone, Copy, PartialEq, Eq)]
 pub(crate) enum Entry {
     /// They begin with no key, and are the beginning of none.
     Refuse,
@@ -36,7 +36,7 @@ impl Entry {
 
 /// The entries of a choice at an octet position, one for each word of at most `width` bits, at the place of the
 /// word. Longer words are cut to the width.
-#[derive(Debug, Drop)]
+#[derive(Drop)]
 pub(crate) struct Filled {
     pub none: Option<u16>,
     pub width: u8,
@@ -48,7 +48,7 @@ pub(crate) const FIRST: usize = 8;
 
 /// The same, where the entries are kept in blocks: which block stands at each place. The first entries stand here too, so
 /// that one look does for them.
-#[derive(Debug, Drop)]
+#[derive(Drop)]
 pub(crate) struct KeptTable {
     pub none: Option<u16>,
     pub width: u8,

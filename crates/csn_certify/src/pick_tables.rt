@@ -63,17 +63,25 @@ impl PickTables {
     {
         let known = Search { desc, look, reach };
         let count = desc.len();
-        let mut picks = PickTables {
-            blocks: Blocks::new(alloc),
-            tables: Vec::new(alloc),
-            numbers: no_numbers(alloc, count)?,
-        };
+        let mut picks = PickTables::empty(alloc, count)?;
         for node in 0..count {
             if let Node::Choice(parts) = desc.node(node) {
                 picks.add_choice(alloc, &known, node, parts)?;
             }
         }
         Ok(picks)
+    }
+
+    /// No tables yet, for so many nodes.
+    fn empty(alloc: Global, count: u16) -> Result<PickTables, NoMemory>
+        ensures { IfOk result (λ picks. length picks.numbers ≡ 8 * count) }
+    {
+        let numbers = no_numbers(alloc, count)?;
+        Ok(PickTables {
+            blocks: Blocks::new(alloc),
+            tables: Vec::new(alloc),
+            numbers,
+        })
     }
 
     /// The table of a choice at an octet position.
