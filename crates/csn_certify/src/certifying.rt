@@ -5,10 +5,12 @@ ghost use Rattle.csn_look.specs.ReachV.{IsReachOf};
 ghost use Rattle.csn_look.specs.FollowV.{IsFollowOf};
 ghost use Rattle.csn_certify.specs.Conflicts.{Certified};
 ghost use Rattle.csn_certify.specs.Certifying.{IsFaultOf};
+ghost use Rattle.csn_certify.specs.PickTables.{ArePickTables};
+ghost use Rattle.csn_certify.specs.Layouts.{AreLayouts};
 ghost use Rattle.csn_certify.specs.Plans.{HasOneTree};
 
 use crate::conflict::Conflict;
-use crate::layouts::layouts;
+use crate::layouts::{Layout, layouts};
 use crate::pick_tables::PickTables;
 use crate::plan::Plan;
 use crate::search::first_conflict;
@@ -45,10 +47,24 @@ pub fn certify(alloc: Global, desc: Desc) -> Result<Plan, CertifyFault>
     ensures one_tree { IfOk result (λ plan. HasOneTree plan) }
     ensures conflict { IfErr result (IsFaultOf desc) }
 {
-    let look = Look::new(alloc, &desc)?;
-    let reach = Reach::new(alloc, &desc, &look)?;
-    refuse_conflict(alloc, &desc, &look, &reach)?;
-    Ok(plan_of(alloc, desc, look, reach)?)
+    let (look, reach) = survey(alloc, &desc)?;
+    let (picks, layouts) = tables(alloc, &desc, &look, &reach)?;
+    Ok(Plan::new(desc, look, reach, picks, layouts))
+}
+
+/// What look-ahead tells of a description, where it has no conflict.
+fn survey(alloc: Global, desc: &Desc) -> Result<(Look, Reach), CertifyFault>
+    ensures certified { IfOk result (λ told. Certified desc.now 12) }
+    ensures sets { IfOk result (λ told. IsLookOf desc.now told.0.sets) }
+    ensures keys { IfOk result (λ told. IsKeysOf desc.now told.0) }
+    ensures reached { IfOk result (λ told. IsReachOf desc.now told.1.reached) }
+    ensures follow { IfOk result (λ told. IsFollowOf desc.now told.1.follow) }
+    ensures conflict { IfErr result (IsFaultOf desc.now) }
+{
+    let look = Look::new(alloc, desc)?;
+    let reach = Reach::new(alloc, desc, &look)?;
+    refuse_conflict(alloc, desc, &look, &reach)?;
+    Ok((look, reach))
 }
 
 /// Refuses a description that has a conflict, and tells the first one.
@@ -71,17 +87,22 @@ fn refuse_conflict(
     }
 }
 
-/// The plan of a description that is certified.
-fn plan_of(alloc: Global, desc: Desc, look: Look, reach: Reach) -> Result<Plan, NoMemory>
-    requires certified { Certified desc 12 }
-    requires sets { IsLookOf desc look.sets }
-    requires keys { IsKeysOf desc look }
-    requires reached { IsReachOf desc reach.reached }
-    requires follow { IsFollowOf desc reach.follow }
-    ensures plan { IfOk result (λ plan. plan ≡ desc) }
-    ensures one_tree { IfOk result (λ plan. HasOneTree plan) }
+/// The tables of the choices of a description that is certified, and the layouts of its nodes.
+fn tables(
+    alloc: Global,
+    desc: &Desc,
+    look: &Look,
+    reach: &Reach,
+) -> Result<(PickTables, Vec<Option<Layout>>), NoMemory>
+    requires certified { Certified desc.now 12 }
+    requires sets { IsLookOf desc.now look.now.sets }
+    requires keys { IsKeysOf desc.now look.now }
+    requires reached { IsReachOf desc.now reach.now.reached }
+    requires follow { IsFollowOf desc.now reach.now.follow }
+    ensures picks { IfOk result (λ made. ArePickTables desc.now made.0) }
+    ensures layouts { IfOk result (λ made. AreLayouts desc.now made.1.items) }
 {
-    let picks = PickTables::new(alloc, &desc, &look, &reach)?;
-    let layouts = layouts(alloc, &desc)?;
-    Ok(Plan::new(desc, look, reach, picks, layouts))
+    let picks = PickTables::new(alloc, desc, look, reach)?;
+    let layouts = layouts(alloc, desc)?;
+    Ok((picks, layouts))
 }

@@ -10,7 +10,11 @@ use csn_look::{Begins, KeyTable, Word};
 pub(crate) fn touches(table: &KeyTable, word: &Word) -> bool
     ensures { IsTrue result ↔ Meets table.now word.now }
 {
-    !matches!(table.begins(word), Begins::Neither)
+    match table.begins(word) {
+        Begins::Key => true,
+        Begins::Proper => true,
+        Begins::Neither => false,
+    }
 }
 
 /// Whether two tables have keys of which one begins with the other, among those that the word begins and

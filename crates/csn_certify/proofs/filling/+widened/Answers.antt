@@ -30,3 +30,40 @@ returns-in-Some-clause-deep t c = deep_at_full c.args.table.now c.args.word.now 
 
 pub returns-in-Some-clause-most : goal.returns-in-Some-clause-most
 returns-in-Some-clause-most t c = c.greater-in-Some.ensures.one 12 (omega (arith, c.requires.width)) (omega (arith, c.len-in-Some.ensures.within))
+
+pub with-requires-clause-room : goal.with-requires-clause-room
+with-requires-clause-room t c = room_for_bit c.args.table.now c.args.word.now c.in-Starts.ensures.1
+
+pub with-requires-in-None-clause-room : goal.with-requires-in-None-clause-room
+with-requires-in-None-clause-room t c = room_for_bit c.args.table.now c.args.word.now c.in-Starts.ensures.1
+
+pub returns-then-width-eq-MOST_WORD-clause-deep : goal.returns-then-width-eq-MOST_WORD-clause-deep
+returns-then-width-eq-MOST_WORD-clause-deep t c =
+    λ held is begun long none starts. absurd (omega (arith, room_for_bit c.args.table.now held starts, long, c.if-width-eq-MOST_WORD.true))
+
+pub returns-in-Key-clause-deep : goal.returns-in-Key-clause-deep
+returns-in-Key-clause-deep t c =
+    let key = c.in-Key.ensures in
+    λ held is begun long none starts. absurd (none (record { front = c.args.word.now; back = begun.0; parts = begun.1; whole = key.0; key = key.1 }))
+
+pub returns-in-Key-clause-more : goal.returns-in-Key-clause-more
+returns-in-Key-clause-more t c = omega (arith, c.greater.ensures.second, c.len.ensures.count)
+
+pub returns-in-Neither-clause-more : goal.returns-in-Neither-clause-more
+returns-in-Neither-clause-more t c = omega (arith, c.greater-in-Neither.ensures.second, c.len-in-Neither.ensures.count)
+
+pub returns-in-Some-clause-more : goal.returns-in-Some-clause-more
+returns-in-Some-clause-more t c = omega (arith, c.greater-in-Some.ensures.second, c.len-in-Some.ensures.count)
+
+pub returns-in-Key-clause-most : goal.returns-in-Key-clause-most
+returns-in-Key-clause-most t c = c.greater.ensures.one 12 (omega (arith, c.requires.width)) (omega (arith, c.len.ensures.within))
+
+pub returns-in-Neither-clause-most : goal.returns-in-Neither-clause-most
+returns-in-Neither-clause-most t c = c.greater-in-Neither.ensures.one 12 (omega (arith, c.requires.width)) (omega (arith, c.len-in-Neither.ensures.within))
+
+pub returns-in-None-clause-more : goal.returns-in-None-clause-more
+returns-in-None-clause-more t c =
+    omega (arith, c.widened.ensures.more, ap length c.with-in-None.ensures.value, length-append c.args.word.now (1 ∷ []))
+
+pub returns-in-None-clause-wider : goal.returns-in-None-clause-wider
+returns-in-None-clause-wider t c = omega (arith, c.widened-first.ensures.wider, c.widened.ensures.wider)

@@ -1,7 +1,7 @@
 use Rattle.std.proofs.Common.{rules, ◌-◌, ◌<◌, [], ◌∷◌, length, length-append, ap, ◌∙◌, arith, inr}
 use Rattle.csn_certify.proofs.SearchFacts.{denied}
 use Rattle.csn_certify.specs.Overlaps.{MeetUnder}
-use Rattle.csn_certify.proofs.TablesMeet.{apart_left, apart_right, by_left_key, by_right_key, no_touch, never, always, met_at_zero, met_at_one}
+use Rattle.csn_certify.proofs.TablesMeet.{room_for_bit, apart_left, apart_right, by_left_key, by_right_key, no_touch, never, always, met_at_zero, met_at_one}
 use Rattle.csn_certify.proofs.meets.+tables_meet.Goals as goal
 
 pub returns-in-Neither : goal.returns-in-Neither
@@ -57,3 +57,9 @@ tables_meet-requires-in-Proper-begins t c =
     let short = c.longer-in-Proper-begins.ensures.word.short in
     let fewer : 12 - length c.longer-in-Proper-begins.result < 12 - length c.args.word.now = omega arith in
     (search rules, c.longer-in-Proper-begins.ensures.word)
+
+pub longer-requires-clause-room : goal.longer-requires-clause-room
+longer-requires-clause-room t c = room_for_bit c.args.left.now c.args.word.now c.in-Proper.ensures.1
+
+pub longer-requires-in-Proper-begins-clause-room : goal.longer-requires-in-Proper-begins-clause-room
+longer-requires-in-Proper-begins-clause-room t c = room_for_bit c.args.left.now c.args.word.now c.in-Proper.ensures.1

@@ -3,6 +3,7 @@ use Rattle.csn_look.specs.KeyMarks.{IsWord}
 use Rattle.csn_certify.proofs.TablesMeet.{longer_is_word}
 use Rattle.csn_certify.specs.Filling.{started, IsFilled, with_start}
 use Rattle.csn_certify.proofs.FillingFacts.{begins_itself, fresh_key, fresh_behind, fills_both, filled_none, filled_key, filled_full, deep_room, deep_behind}
+use Rattle.csn_certify.proofs.TablesMeet.{room_for_bit}
 use Rattle.csn_certify.proofs.filling.Filling.+fill.Goals as goal
 
 pub fill-requires : goal.fill-requires
@@ -49,3 +50,21 @@ pub returns-in-Some-clause-fills : goal.returns-in-Some-clause-fills
 returns-in-Some-clause-fills t c =
     filled_full c.args.self.now.table.now c.args.self.now.alternative c.args.word.now c.args.self.now.width c.in-Some.bits c.args.entries.now c.cover-in-Some.new.entries
     (fresh_key c.args.self.now.table.now c.args.word.now c.requires.fresh c.in-Starts.ensures.0) c.in-Some.ensures.full c.cover-in-Some.ensures.fills
+
+pub cover-requires-clause-within : goal.cover-requires-clause-within
+cover-requires-clause-within t c = c.requires.within
+
+pub cover-requires-in-Some-clause-within : goal.cover-requires-in-Some-clause-within
+cover-requires-in-Some-clause-within t c = c.requires.within
+
+pub entry-requires-clause-within : goal.entry-requires-clause-within
+entry-requires-clause-within t c = c.requires.within
+
+pub put-requires-clause-within : goal.put-requires-clause-within
+put-requires-clause-within t c = c.requires.within
+
+pub with-requires-clause-room : goal.with-requires-clause-room
+with-requires-clause-room t c = room_for_bit c.args.self.now.table.now c.args.word.now c.in-Starts.ensures.1
+
+pub with-requires-in-None-clause-room : goal.with-requires-in-None-clause-room
+with-requires-in-None-clause-room t c = room_for_bit c.args.self.now.table.now c.args.word.now c.in-Starts.ensures.1

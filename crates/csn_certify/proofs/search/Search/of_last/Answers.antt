@@ -2,6 +2,7 @@ use Rattle.std.proofs.Common.{[], ◌∷◌, arith}
 use Rattle.csn_certify.proofs.Searching.{none_more}
 use Rattle.csn_certify.proofs.SearchFacts.{not_both, both_hold}
 use Rattle.csn_certify.proofs.RepeatSearch.{last_none, last_found, lasts_end}
+use Rattle.std.proofs.lemmas.Option.{slice_get_within}
 use Rattle.csn_certify.proofs.search.Search.of_last.Goals as goal
 
 pub returns-then-has-is_followed : goal.returns-then-has-is_followed
@@ -21,3 +22,18 @@ loop-octet-preserved c =
 
 pub returns : goal.returns
 returns c = lasts_end c.args.self.now.desc.now c.args.node c.requires.last c.loop-octet.octet (omega (arith, c.loop-octet-test.false)) c.loop-octet.invariant
+
+pub loop-octet-init : goal.loop-octet-init
+loop-octet-init c = λ x less e under holds. absurd (omega (arith, less))
+
+pub has-requires : goal.has-requires
+has-requires c = omega (arith, c.loop-octet-test.true)
+
+pub ends_of-ends-requires-clause-node : goal.ends_of-ends-requires-clause-node
+ends_of-ends-requires-clause-node c = slice_get_within c.args.self.now.desc.now.nodes c.args.node c.requires.last.0 c.requires.last.1
+
+pub is_followed-requires-clause-node : goal.is_followed-requires-clause-node
+is_followed-requires-clause-node c = slice_get_within c.args.self.now.desc.now.nodes c.args.node c.requires.last.0 c.requires.last.1
+
+pub is_followed-requires-clause-octet : goal.is_followed-requires-clause-octet
+is_followed-requires-clause-octet c = omega (arith, c.loop-octet-test.true)
