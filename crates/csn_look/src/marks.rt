@@ -18,7 +18,7 @@ pub(crate) fn is_marked(marks: &[u64], at: usize) -> bool
 }
 
 /// What is sought among places: marks, words that are keys, whole or cut, or words that are none.
-#[derive(Clone, Copy, Debug)]
+#[derive(Clone, Copy)]
 pub(crate) enum Sought {
     Marked,
     Key,

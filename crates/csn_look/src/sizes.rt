@@ -15,7 +15,7 @@ const FEW: usize = 6;
 
 /// A bit for each size that keys of a table may have, the least significant one for 0 bits: whole ones, cut ones and
 /// words that begin keys.
-#[derive(Clone, Copy, Debug)]
+#[derive(Clone, Copy)]
 pub(crate) struct Sizes {
     pub whole: usize,
     pub cut: usize,

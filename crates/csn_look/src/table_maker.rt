@@ -15,7 +15,7 @@ use std::collections::BTreeMap;
 use std::marker::Model;
 
 /// That the table `at` has the keys of the table `first` and of what comes after it.
-#[derive(Clone, Copy, Debug)]
+#[derive(Clone, Copy)]
 pub(crate) struct Product {
     pub first: usize,
     pub rests: [usize; 8],
@@ -154,7 +154,7 @@ impl TableMaker {
         ensures kept { IfOk result (λ at. HasTable self.new at (LeafKeys leaf)) }
         ensures more { IsMore self.old self.new }
     {
-        let at = self.tables.keep(table.packed(alloc)?)?;
+        let at = self.keep(alloc, table)?;
         self.leaves.insert(leaf, at)?;
         Ok(at)
     }

@@ -1,9 +1,9 @@
 -- What the marks are that stand in blocks.
-use Rattle.std.proofs.Common.{◌≡◌, ℕ, zero, suc, ◌+◌, ◌-◌, ◌*◌, ◌⊎◌, inl, inr, ◌/◌, ◌%◌, ◌<◌, ◌≤◌, List, [], ◌∷◌, ◌++◌, take, length, get_or, refl, sym, ap, ◌∙◌, arith, append_assoc, append-nil}
+use Rattle.std.proofs.Common.{◌≡◌, ℕ, zero, suc, ◌+◌, ◌-◌, ◌*◌, ◌⊎◌, inl, inr, ◌/◌, ◌%◌, ◌^◌, ◌<◌, ◌≤◌, List, [], ◌∷◌, ◌++◌, take, drop, drop-cons, length, get_or, refl, sym, ap, ◌∙◌, arith, append_assoc, append-nil}
 use Rattle.std.specs.Int.Bits.{bit_or, or_zero_r}
 use Rattle.std.proofs.lemmas.Bool.{cases_lt}
-use Rattle.std.proofs.lemmas.List.{take_all}
-use Rattle.csn_look.specs.Blocks.{four, laid_out, marks_of, AreWithin, IsKept}
+use Rattle.std.proofs.lemmas.List.{take_all, drop_all}
+use Rattle.csn_look.specs.Blocks.{four, laid_out, marks_of, AreWithin, IsKept, digest_on, digest_of}
 
 -- where there is an index, the marks are laid out by it
 pub indexed : (index blocks : List ℕ) → 0 < length index → marks_of index blocks ≡ laid_out index blocks
@@ -67,6 +67,39 @@ block_within (block ∷ index) blocks (suc at) are small = block_within index bl
 pub laid_out-push : (index blocks : List ℕ) (block : ℕ) → laid_out (index ++ block ∷ []) blocks ≡ laid_out index blocks ++ four blocks block
 laid_out-push [] blocks block = append-nil (four blocks block)
 laid_out-push (first ∷ index) blocks block = ap (λ l. four blocks first ++ l) (laid_out-push index blocks block) ∙ sym (append_assoc (four blocks first) (laid_out index blocks) (four blocks block))
+
+-- what is laid out grows by one block
+pub laid_more :
+    (index blocks marks new block : List ℕ) (at : ℕ) → at < length index → marks ++ laid_out (drop at index) blocks ≡ laid_out index blocks
+    → block ≡ four blocks (get_or index at 0) → new ≡ marks ++ block
+    → new ++ laid_out (drop (at + 1) index) blocks ≡ laid_out index blocks
+laid_more index blocks marks new block at small before is grown =
+    let next : at + 1 ≡ suc at = omega arith in
+    let here = four blocks (get_or index at 0) in
+    let rest = laid_out (drop (suc at) index) blocks in
+    ap (λ n. new ++ laid_out (drop n index) blocks) next
+    ∙ ap (λ l. l ++ rest) (grown ∙ ap (λ b. marks ++ b) is)
+    ∙ append_assoc marks here rest
+    ∙ ap (λ l. marks ++ laid_out l blocks) (sym (drop-cons index at 0 small))
+    ∙ before
+
+pub laid_all : (index blocks marks : List ℕ) (at : ℕ) → length index ≤ at → marks ++ laid_out (drop at index) blocks ≡ laid_out index blocks → marks ≡ laid_out index blocks
+laid_all index blocks marks at all before =
+    sym (append-nil marks) ∙ ap (λ l. marks ++ laid_out l blocks) (sym (drop_all at index all)) ∙ before
+
+-- one number more of the digest
+pub digest_more :
+    (marks : List ℕ) (digest at number : ℕ) → at < length marks → number ≡ get_or marks at 0 → digest_on digest (drop at marks) ≡ digest_of marks
+    → digest_on ((digest * 11400714819323198485 % 2 ^ 64 + number) % 2 ^ 64) (drop (at + 1) marks) ≡ digest_of marks
+digest_more marks digest at number small is before =
+    let next : at + 1 ≡ suc at = omega arith in
+    ap (λ n. digest_on ((digest * 11400714819323198485 % 2 ^ 64 + number) % 2 ^ 64) (drop n marks)) next
+    ∙ ap (λ n. digest_on ((digest * 11400714819323198485 % 2 ^ 64 + n) % 2 ^ 64) (drop (suc at) marks)) is
+    ∙ ap (λ l. digest_on digest l) (sym (drop-cons marks at 0 small))
+    ∙ before
+
+pub digest_all : (marks : List ℕ) (digest at : ℕ) → length marks ≤ at → digest_on digest (drop at marks) ≡ digest_of marks → digest ≡ digest_of marks
+digest_all marks digest at all before = ap (λ l. digest_on digest l) (sym (drop_all at marks all)) ∙ before
 
 get_or-front : (front back : List ℕ) (at : ℕ) → at < length front → get_or (front ++ back) at 0 ≡ get_or front at 0
 get_or-front [] back at small = absurd (omega arith)

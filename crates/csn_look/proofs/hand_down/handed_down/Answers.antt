@@ -53,3 +53,9 @@ returns g c =
       same = c.loop-k.invariant.same;
       right = handed_end (λ i a. g.T.HandDown.is_right d i a) d c.len-count.ensures.description c.loop-k.k c.loop-k.table.items (omega (arith, c.loop-k-test.false, c.len-count.ensures.len)) c.loop-k.invariant;
     }
+
+pub index-above-requires : goal.index-above-requires
+index-above-requires g c = omega (arith, c.loop-k.invariant.same, c.loop-k-test.true, c.len-count.ensures.len)
+
+pub node-requires : goal.node-requires
+node-requires g c = omega (arith, c.loop-k-test.true, c.len-count.ensures.len)

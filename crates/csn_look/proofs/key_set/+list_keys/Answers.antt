@@ -3,6 +3,7 @@ use Rattle.csn_look.specs.KeyMarks.{is_marked, place_of}
 use Rattle.csn_look.specs.KeyLists.{keys_from}
 use Rattle.csn_look.proofs.Basics.Places.{place_of-push}
 use Rattle.csn_look.proofs.Tables.KeyLists.{small_place, word_longer, listed_none, listed_more, if_ok_then}
+use Rattle.std.proofs.lemmas.Nat.{pow-add}
 use Rattle.csn_look.proofs.key_set.+list_keys.Goals as goal
 
 pub list_key-requires-clause-small : goal.list_key-requires-clause-small
@@ -35,3 +36,32 @@ returns-then-is_marked t c = λ word is here many.
     small test (c.in_ok-list_key.ensures word is here) (c.in_ok-list_key-2.ensures word is here)
     (c.in_ok-list_keys.ensures (word ++ 0 ∷ []) (word_longer word 0 c.args.size (omega arith) many small is) zero_place zero_many) last)
     (c.list_keys-then-is_marked.ensures (word ++ 1 ∷ []) (word_longer word 1 c.args.size (omega arith) many small is) one_place one_many)
+
+pub overflow_mul-place : goal.overflow_mul-place
+overflow_mul-place t c = omega (arith, small_place c.args.place c.args.size c.requires.few c.requires.small)
+
+pub overflow_mul-place-then-is_marked : goal.overflow_mul-place-then-is_marked
+overflow_mul-place-then-is_marked t c = omega (arith, small_place c.args.place c.args.size c.requires.few c.requires.small)
+
+pub overflow_add-place : goal.overflow_add-place
+overflow_add-place t c = omega (arith, small_place c.args.place c.args.size c.requires.few c.requires.small)
+
+pub overflow_add-place-then-is_marked : goal.overflow_add-place-then-is_marked
+overflow_add-place-then-is_marked t c = omega (arith, small_place c.args.place c.args.size c.requires.few c.requires.small)
+
+pub list_keys-requires : goal.list_keys-requires
+list_keys-requires t c =
+    let power = pow-add 2 (c.args.size + 1) 1 in
+    let few = c.requires.few in
+    let some = c.requires.some in
+    let small = c.requires.small in
+    let less = c.if-size-eq-MOST_WORD.false in
+    (omega (arith, few, less, c.decreases), (c.requires.marks, (omega (arith, few, less), (omega (arith, some), omega (arith, power, small)))))
+
+pub list_keys-requires-then-is_marked : goal.list_keys-requires-then-is_marked
+list_keys-requires-then-is_marked t c =
+    let power = pow-add 2 (c.args.size + 1) 1 in
+    let few = c.requires.few in
+    let small = c.requires.small in
+    let less = c.if-size-eq-MOST_WORD.false in
+    (omega (arith, few, less, c.decreases), (c.requires.marks, (omega (arith, few, less), (omega arith, omega (arith, power, small)))))

@@ -18,3 +18,12 @@ loop-at-preserved c =
 
 pub returns : goal.returns
 returns c = choice_all c.args.self.now.desc.now c.args.parts.now c.args.octet c.loop-at.table c.loop-at.at (omega (arith, c.len-at-end.ensures.len)) c.loop-at.invariant
+
+pub of-row-requires : goal.of-row-requires
+of-row-requires c = c.requires.rowed c.loop-at.at c.get.result c.get.ensures
+
+pub bounds-row-octet : goal.bounds-row-octet
+bounds-row-octet c = omega (arith, c.of-row.ensures.eight, c.requires.octet)
+
+pub get-requires-in-loop-at : goal.get-requires-in-loop-at
+get-requires-in-loop-at c = (c.of-row.ensures.keys c.args.octet c.requires.octet).within

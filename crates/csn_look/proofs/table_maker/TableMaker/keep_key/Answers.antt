@@ -4,7 +4,7 @@ use Rattle.csn_look.specs.KeyMarks.{place_of, key_mark, KeysAre}
 use Rattle.csn_look.specs.KeyRows.{HasTable}
 use Rattle.csn_look.specs.MadeProducts.{LeafKeys}
 use Rattle.csn_look.proofs.Tables.ProductsMade.{leaf_is_key, has_leaf, back_and_forth}
-use Rattle.csn_look.proofs.Tables.RowFacts.{keys_as, keys_first}
+use Rattle.csn_look.proofs.Tables.RowFacts.{keys_as, keys_first, more_none}
 use Rattle.csn_look.proofs.table_maker.TableMaker.keep_key.Goals as goal
 
 pub returns-in-Some-clause-kept : goal.returns-in-Some-clause-kept
@@ -31,3 +31,15 @@ returns-clause-kept c =
     let Q : ℕ → Type 0 = λ leaf. HasTable new at (LeafKeys leaf) in
     has_leaf new at (LeafKeys (key_mark (place_of c.args.word.now) c.args.whole)) P (back_and_forth P (LeafKeys (key_mark (place_of c.args.word.now) c.args.whole)) (leaf_is_key c.args.word.now c.args.whole c.place.ensures.word)) (subst Q is has))
     c.keep_leaf.ensures.kept
+
+pub returns-in-Some-clause-more : goal.returns-in-Some-clause-more
+returns-in-Some-clause-more c = more_none c.args.self.now
+
+pub returns-in_err-table-clause-more : goal.returns-in_err-table-clause-more
+returns-in_err-table-clause-more c = more_none c.args.self.now
+
+pub returns-in_err-add-clause-more : goal.returns-in_err-add-clause-more
+returns-in_err-add-clause-more c = more_none c.args.self.now
+
+pub returns-clause-more : goal.returns-clause-more
+returns-clause-more c = c.keep_leaf.ensures.more

@@ -4,7 +4,7 @@ use Rattle.csn_look.specs.KeyMarks.{KeysAre}
 use Rattle.csn_look.specs.KeyRows.{HasTable}
 use Rattle.csn_look.specs.MadeProducts.{leaf_of_size, LeafKeys}
 use Rattle.csn_look.proofs.Tables.ProductsMade.{leaf_is_size, has_leaf, back_and_forth}
-use Rattle.csn_look.proofs.Tables.RowFacts.{keys_as, keys_first}
+use Rattle.csn_look.proofs.Tables.RowFacts.{keys_as, keys_first, more_none}
 use Rattle.csn_look.proofs.table_maker.TableMaker.keep_words.Goals as goal
 
 pub returns-in-Some-clause-kept : goal.returns-in-Some-clause-kept
@@ -31,3 +31,15 @@ returns-clause-kept c =
     let Q : ℕ → Type 0 = λ leaf. HasTable new at (LeafKeys leaf) in
     has_leaf new at (LeafKeys (leaf_of_size c.args.size c.args.whole)) P (back_and_forth P (LeafKeys (leaf_of_size c.args.size c.args.whole)) (leaf_is_size c.args.size c.args.whole c.requires)) (subst Q is has))
     c.keep_leaf.ensures.kept
+
+pub returns-in-Some-clause-more : goal.returns-in-Some-clause-more
+returns-in-Some-clause-more c = more_none c.args.self.now
+
+pub returns-in_err-table-clause-more : goal.returns-in_err-table-clause-more
+returns-in_err-table-clause-more c = more_none c.args.self.now
+
+pub returns-in_err-add_words-clause-more : goal.returns-in_err-add_words-clause-more
+returns-in_err-add_words-clause-more c = more_none c.args.self.now
+
+pub returns-clause-more : goal.returns-clause-more
+returns-clause-more c = c.keep_leaf.ensures.more
