@@ -325,6 +325,28 @@ module _ (d : DescV) (octet : ℕ) (parts : List ℕ) where
   least_none count all n up o =
       let inside = slice_get_within parts n o.p o.part.is_part in absurd (omega (arith, all, inside, up))
 
+  -- the least one stays where this one does not overlap
+  pub least_stays : (i : ℕ) (r : Option ℕ) → ¬ Overlaps d octet parts i → IsLeastFrom (i + 1) (Overlaps d octet parts) r → IsLeastFrom i (Overlaps d octet parts) r
+  least_stays i None good least =
+      λ n up o. elim (order n i) [
+        | first_less lower ↦ absurd (omega (arith, lower, up))
+        | equal_numbers same ↦ good (subst (λ (k : ℕ). Overlaps d octet parts k) same o)
+        | second_less higher ↦ least n (omega (arith, higher)) o
+      ]
+  least_stays i (Some k) good least = (
+    let up = least.0 in omega (arith, up),
+    least.1,
+    (λ m up less o. elim (order m i) [
+      | first_less lower ↦ absurd (omega (arith, lower, up))
+      | equal_numbers same ↦ good (subst (λ (k : ℕ). Overlaps d octet parts k) same o)
+      | second_less higher ↦ least.2 m (omega (arith, higher)) less o
+    ]),
+  )
+
+  -- and is this one where it does
+  pub least_here : (i : ℕ) → Overlaps d octet parts i → IsLeastFrom i (Overlaps d octet parts) (Some i)
+  least_here i o = (omega arith, o, (λ m up less. absurd (omega (arith, up, less))))
+
   -- an alternative that takes no bits adds nothing
   module _ (i p : ℕ) (at : slice_get parts i ≡ Some p) where
     from_next : (word : List ℕ) (mark : Bool) → HasKeyFrom d octet parts (i + 1) word mark → HasKeyFrom d octet parts i word mark
@@ -364,34 +386,11 @@ module _ (d : DescV) (octet : ℕ) (parts : List ℕ) where
       ])),
     )
 
-    -- the least one stays where this one does not overlap, and is this one where it does
-    pub least_stays : (r : Option ℕ) → ¬ Overlaps d octet parts i → IsLeastFrom (i + 1) (Overlaps d octet parts) r → IsLeastFrom i (Overlaps d octet parts) r
-    least_stays None good least =
-        λ n up o. elim (order n i) [
-          | first_less lower ↦ absurd (omega (arith, lower, up))
-          | equal_numbers same ↦ good (subst (λ (k : ℕ). Overlaps d octet parts k) same o)
-          | second_less higher ↦ least n (omega (arith, higher)) o
-        ]
-    least_stays (Some k) good least = (
-      let up = least.0 in omega (arith, up),
-      least.1,
-      (λ m up less o. elim (order m i) [
-        | first_less lower ↦ absurd (omega (arith, lower, up))
-        | equal_numbers same ↦ good (subst (λ (k : ℕ). Overlaps d octet parts k) same o)
-        | second_less higher ↦ least.2 m (omega (arith, higher)) less o
-      ]),
-    )
-
     pub null_overlaps : IsNull d p → ¬ Overlaps d octet parts i
     null_overlaps null o =
         let there = o.part.is_part in
         let one : o.p ≡ p = cc in
         o.part.real (subst (λ (k : ℕ). IsNull d k) (sym one) null)
-
-    pub later_null : (from : ℕ) (keys : List ℕ) (first : Option ℕ) → from ≡ i + 1 → IsNull d p → AreLater keys first from → AreLater keys first i
-    later_null from keys first next null later =
-        let before = subst (AreLater keys first) next later in
-        (keys_null keys null before.0, least_stays first (null_overlaps null) before.1)
 
     module _ (real : ¬ IsNull d p) (own : List ℕ) (are_own : KeysAre own (InKeys d 12 p octet)) (marks : List ℕ) (are : KeysAre marks (HasKeyFrom d octet parts (i + 1))) where
       overlaps_met : Overlaps d octet parts i → MeetUnder marks own []
@@ -418,14 +417,9 @@ module _ (d : DescV) (octet : ℕ) (parts : List ℕ) where
             begun = swapped m.v.key m.w.key m.begun;
           }
 
-      -- the least one after this alternative, by the test whether its table meets that of the later ones
-      module _ (b : Bool) (word : List ℕ) (new : Option ℕ) (empty : word ≡ []) (tells : IsTrue b ↔ MeetUnder marks own word) where
-        pub least_then : b ≡ true → new ≡ Some i → IsLeastFrom i (Overlaps d octet parts) new
-        least_then shown same =
-            let o = met_overlaps (subst (λ (w : List ℕ). MeetUnder marks own w) empty (tells.0 shown)) in
-            subst (λ (r : Option ℕ). IsLeastFrom i (Overlaps d octet parts) r) (sym same) (omega arith, o, (λ m up less. absurd (omega (arith, up, less))))
-
-        pub least_else : (old : Option ℕ) → b ≡ false → new ≡ old → IsLeastFrom (i + 1) (Overlaps d octet parts) old → IsLeastFrom i (Overlaps d octet parts) new
-        least_else old fails same before =
-            subst (λ (r : Option ℕ). IsLeastFrom i (Overlaps d octet parts) r) (sym same)
-            (least_stays old (λ o. denied b (MeetUnder marks own word) tells fails (subst (λ (w : List ℕ). MeetUnder marks own w) (sym empty) (overlaps_met o))) before)
+      -- the test whether its table meets that of the later ones tells it
+      pub meets_tell : (b : Bool) (word : List ℕ) → word ≡ [] → (IsTrue b ↔ MeetUnder marks own word) → IsTrue b ↔ Overlaps d octet parts i
+      meets_tell b word empty tells = (
+        (λ shown. met_overlaps (subst (λ (w : List ℕ). MeetUnder marks own w) empty (tells.0 shown))),
+        (λ o. tells.1 (subst (λ (w : List ℕ). MeetUnder marks own w) (sym empty) (overlaps_met o))),
+      )

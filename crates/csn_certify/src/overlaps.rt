@@ -1,12 +1,12 @@
 //! Overlaps of the keys of two alternatives.
 
-ghost use Rattle.std.specs.Prelude.{◌≡◌, ℕ, ◌+◌, ◌<◌, ◌≤◌, [], ◌∷◌, slice_get, Some, length, IfOk};
+ghost use Rattle.std.specs.Prelude.{◌≡◌, ℕ, ◌+◌, ◌<◌, ◌≤◌, ◌↔◌, [], ◌∷◌, slice_get, Some, length, IsTrue, IfOk};
 ghost use Rattle.csn_desc.specs.declared.node.Node.TheVariants.{Choice};
-ghost use Rattle.csn_look.specs.KeyMarks.{IsWord};
+ghost use Rattle.csn_look.specs.KeyMarks.{IsWord, KeysAre};
 ghost use Rattle.csn_look.specs.Reached.{Reached};
 ghost use Rattle.csn_certify.specs.Conflicts.{rank_octets, rank_overlap};
 ghost use Rattle.csn_certify.specs.Search.{IsSurveyed, IsFirstUnder, IsLeastFrom};
-ghost use Rattle.csn_certify.specs.Overlaps.{MeetsAt, IsPart, Overlaps, IsFirstBegun};
+ghost use Rattle.csn_certify.specs.Overlaps.{MeetsAt, IsPart, HasKeyFrom, Overlaps, IsFirstBegun};
 
 use crate::alternatives::Alternatives;
 use crate::conflict::Conflict;
@@ -47,17 +47,40 @@ impl Search<'_> {
         let mut first = None;
         let mut later = KeyTable::new(alloc)?;
         for i in (0..choice.parts.len()).rev() {
-            let part = choice.parts.get(i);
-            if self.is_null(part) {
-                continue;
-            }
-            let table = self.look.key_table(part, octet);
-            if tables_meet(&later, table, &Word::new()) {
+            let meets = self.meets_later(alloc, choice, octet, i, &mut later)?;
+            if meets {
                 first = Some(i);
             }
-            later.add_all(alloc, table)?;
         }
         Ok(first)
+    }
+
+    /// Whether an alternative has a key that overlaps with one of a later alternative, whose keys are in a
+    /// table. Its own keys are added to these.
+    fn meets_later(
+        &self,
+        alloc: Global,
+        choice: &Alternatives,
+        octet: u8,
+        i: u16,
+        later: &mut KeyTable,
+    ) -> Result<bool, NoMemory>
+        requires known { IsSurveyed self.now.desc.now self.now.look.now self.now.reach.now }
+        requires choice { slice_get self.now.desc.now.nodes choice.now.node ≡ Some (Choice choice.now.parts.now) }
+        requires octet { octet ≤ 7 }
+        requires within { i < length choice.now.parts.now }
+        requires later { KeysAre later.old (HasKeyFrom self.now.desc.now octet choice.now.parts.now (i + 1)) }
+        ensures later { IfOk result (λ meets. KeysAre later.new (HasKeyFrom self.now.desc.now octet choice.now.parts.now i)) }
+        ensures meets { IfOk result (λ meets. IsTrue meets ↔ Overlaps self.now.desc.now octet choice.now.parts.now i) }
+    {
+        let part = choice.parts.get(i);
+        if self.is_null(part) {
+            return Ok(false);
+        }
+        let table = self.look.key_table(part, octet);
+        let meets = tables_meet(later, table, &Word::new());
+        later.add_all(alloc, table)?;
+        Ok(meets)
     }
 
     /// The first overlap of an alternative with a later one.

@@ -1,4 +1,4 @@
-use Rattle.std.proofs.Common.{◌≡◌, ◌+◌, ◌*◌, ℕ, List, sym, ap, ◌∙◌, subst, arith}
+use Rattle.std.proofs.Common.{◌≡◌, ◌+◌, ◌*◌, ℕ, List, sym, ap, ◌∙◌, subst, arith, length}
 use Rattle.std.specs.Prelude.{slice_set}
 use Rattle.std.proofs.lemmas.Option.{slice_get_within}
 use Rattle.csn_desc.specs.declared.node.Node.TheVariants.{Choice}
@@ -6,6 +6,7 @@ use Rattle.csn_look.specs.Reached.{Reached}
 use Rattle.csn_certify.specs.PickTables.{PickTableV, PickTablesV, HasNumber, HaveTables}
 use Rattle.csn_certify.proofs.TableFacts.{tables_more, tables_past}
 use Rattle.csn_certify.proofs.pick_tables.PickTables.add_choice.Goals.{then-has+in_ok-number, else-has}
+use Rattle.csn_certify.proofs.SearchFacts.{in_table}
 use Rattle.csn_certify.proofs.pick_tables.PickTables.add_choice.Goals as goal
 
 pub loop-octet-preserved : goal.loop-octet-preserved
@@ -40,3 +41,27 @@ loop-octet-preserved c =
           cc)
           c.loop-octet.invariant)
     ]
+
+pub reached-requires : goal.reached-requires
+reached-requires c =
+    in_table c.requires.known.reached.same (slice_get_within c.args.known.now.desc.now.nodes c.args.node (Choice c.args.parts.now) c.requires.choice)
+
+pub has-requires : goal.has-requires
+has-requires c = omega (arith, c.loop-octet-test.true)
+
+pub number-requires-clause-octet : goal.number-requires-clause-octet
+number-requires-clause-octet c = omega (arith, c.loop-octet-test.true)
+
+pub number-requires-clause-reached : goal.number-requires-clause-reached
+number-requires-clause-reached c =
+    (c.reached.ensures c.args.known.now.desc.now c.requires.known.reached c.loop-octet.octet (omega (arith, c.loop-octet-test.true))).0 (sym c.has.ensures ∙ c.if-has.true)
+
+pub put-requires : goal.put-requires
+put-requires c =
+    let inside = slice_get_within c.args.known.now.desc.now.nodes c.args.node (Choice c.args.parts.now) c.requires.choice in
+    omega (arith, inside, c.place.ensures, ap length c.in_ok-number.ensures.numbers, c.loop-octet.invariant.size, c.loop-octet-test.true)
+
+pub returns : goal.returns
+returns c =
+    let all : 8 * c.args.node + c.loop-octet.octet ≡ 8 * (c.args.node + 1) = omega (arith, c.loop-octet-test.false) in
+    subst (λ (n : ℕ). HaveTables c.args.known.now.desc.now n c.loop-octet.self) all c.loop-octet.invariant

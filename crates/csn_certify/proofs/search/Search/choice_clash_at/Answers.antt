@@ -1,8 +1,10 @@
 use Rattle.std.proofs.Common.{[], ◌∷◌}
 use Rattle.csn_look.specs.Reached.{Reached}
 use Rattle.csn_certify.proofs.Searching.{known_some, known_none}
-use Rattle.csn_certify.proofs.SearchFacts.{reached_there, denied}
+use Rattle.csn_certify.proofs.SearchFacts.{reached_there, denied, in_table}
 use Rattle.csn_certify.proofs.ChoiceSearch.{not_reached, overlap_found, clashes_after}
+use Rattle.std.proofs.lemmas.Option.{slice_get_within}
+use Rattle.csn_desc.specs.declared.node.Node.TheVariants.{Choice}
 use Rattle.csn_certify.proofs.search.Search.choice_clash_at.Goals as goal
 
 pub returns-then-not-has : goal.returns-then-not-has
@@ -25,6 +27,17 @@ returns c =
 
 pub empty_clash-requires-clause-reached : goal.empty_clash-requires-clause-reached
 empty_clash-requires-clause-reached c =
+    let d = c.args.self.now.desc.now in
+    let there = reached_there d c.args.choice.now.node c.args.octet c.reached.result c.has.result (c.reached.ensures d c.requires.known.reached) c.requires.octet c.has.ensures in
+    there.0 c.if-not-has.false
+
+pub reached-requires : goal.reached-requires
+reached-requires c =
+    in_table c.requires.known.reached.same
+    (slice_get_within c.args.self.now.desc.now.nodes c.args.choice.now.node (Choice c.args.choice.now.parts.now) c.requires.choice)
+
+pub overlap-requires-clause-reached : goal.overlap-requires-clause-reached
+overlap-requires-clause-reached c =
     let d = c.args.self.now.desc.now in
     let there = reached_there d c.args.choice.now.node c.args.octet c.reached.result c.has.result (c.reached.ensures d c.requires.known.reached) c.requires.octet c.has.ensures in
     there.0 c.if-not-has.false
