@@ -1,5 +1,5 @@
 -- Blocks of entries that are kept once, and the tables that they make.
-use Rattle.std.proofs.Common.{◌≡◌, ◌≢◌, ℕ, zero, suc, ◌+◌, ◌*◌, ◌/◌, ◌%◌, ◌^◌, ◌<◌, ◌≤◌, ◌⊎◌, inl, inr, Bool, true, false, List, [], ◌∷◌, ◌++◌, map, length, take, sym, ◌∙◌, ap, subst, arith, length-append, append-nil, get_or, refl, rules, Option}
+use Rattle.std.proofs.Common.{◌≡◌, ◌≢◌, ℕ, zero, suc, ◌+◌, ◌*◌, ◌/◌, ◌%◌, ◌^◌, ◌<◌, ◌≤◌, ◌⊎◌, inl, inr, Bool, true, false, List, [], ◌∷◌, ◌++◌, map, length, take, drop, drop-cons, sym, ◌∙◌, ap, subst, arith, length-append, append-nil, get_or, refl, rules, Option}
 use Rattle.std.specs.Prelude.{slice_get, slice_set, slice_index, slice_index_or, replicate, if◌then◌else◌, ◌&&◌, Some}
 use Rattle.std.specs.Option.{option_map}
 use Rattle.std.specs.List.{IsDistinct}
@@ -9,7 +9,7 @@ use Rattle.csn_desc.specs.Nodes.{DescV}
 use Rattle.csn_look.specs.KeyMarks.{place_of}
 use Rattle.csn_look.proofs.Basics.Places.{word_take}
 use Rattle.std.proofs.Math.ListN.{length-set}
-use Rattle.std.proofs.lemmas.List.{get_or-set_same, get_or-set_other, get_or_past, length-take, get_or_append_left, get_or-map, map-append, length-map}
+use Rattle.std.proofs.lemmas.List.{drop_all, get_or-set_same, get_or-set_other, get_or_past, length-take, get_or_append_left, get_or-map, map-append, length-map}
 use Rattle.std.proofs.lemmas.Nat.{pow_pos}
 use Rattle.std.proofs.lemmas.Map.Keys.{apart_from_distinct}
 use Rattle.std.proofs.lemmas.Option.{slice_get_within, get_or_from_slice_get, slice_get_read, slice_get-map}
@@ -17,12 +17,28 @@ use Rattle.csn_certify.specs.declared.pick_table.Entry.{Entry}
 use Rattle.csn_certify.specs.declared.pick_table.Entry.TheVariants.{Refuse, Wait, Take}
 use Rattle.csn_certify.specs.declared.pick_table.Filled.{Filled}
 use Rattle.csn_certify.specs.declared.pick_table.KeptTable.{KeptTable}
-use Rattle.csn_certify.specs.PickTables.{PickTableV, HasEntries, entry_of, entry_in, blocks_at, table_in, IsBlockOf, AreFirstBlocks, AreOnce, IsWithin, AreWithin, IsTableOf, Tells, IsPickTable, AreEntries}
+use Rattle.csn_certify.specs.PickTables.{PickTableV, HasEntries, entry_of, entry_in, blocks_at, table_in, IsBlockOf, AreFirstBlocks, AreOnce, IsWithin, AreWithin, IsTableOf, Tells, IsPickTable, AreEntries, number_of, digest_on, digest_of}
 use Rattle.csn_certify.proofs.PickTables.{place_within}
 use Rattle.csn_certify.specs.SameEntries.{same_entry, block_told}
 
 either : (m n : ℕ) → m < n + 1 → (m < n) ⊎ (m ≡ n)
 either m n le = grind arith
+
+-- ---- the number that tells entries apart
+
+-- one entry more
+pub digest_more :
+    (entries : List Entry) (digest at number : ℕ) (other : Entry) → at < length entries → number ≡ number_of (get_or entries at other) → digest_on digest (drop at entries) ≡ digest_of entries
+    → digest_on ((digest * 11400714819323198485 % 2 ^ 64 + number) % 2 ^ 64) (drop (at + 1) entries) ≡ digest_of entries
+digest_more entries digest at number other small is before =
+    let next : at + 1 ≡ suc at = omega arith in
+    ap (λ n. digest_on ((digest * 11400714819323198485 % 2 ^ 64 + number) % 2 ^ 64) (drop n entries)) next
+    ∙ ap (λ n. digest_on ((digest * 11400714819323198485 % 2 ^ 64 + n) % 2 ^ 64) (drop (suc at) entries)) is
+    ∙ ap (λ l. digest_on digest l) (sym (drop-cons entries at other small))
+    ∙ before
+
+pub digest_all : (entries : List Entry) (digest at : ℕ) → length entries ≤ at → digest_on digest (drop at entries) ≡ digest_of entries → digest ≡ digest_of entries
+digest_all entries digest at all before = ap (λ l. digest_on digest l) (sym (drop_all at entries all)) ∙ before
 
 -- the same blocks are told to be equal
 entry_itself : (a : Entry) → same_entry a a ≡ true

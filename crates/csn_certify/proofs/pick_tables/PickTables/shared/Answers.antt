@@ -4,6 +4,7 @@ use Rattle.std.proofs.lemmas.Option.{slice_get_within}
 use Rattle.csn_desc.specs.declared.node.Node.TheVariants.{Choice}
 use Rattle.csn_look.proofs.Handing.ReachedParts.{parts_below}
 use Rattle.csn_certify.proofs.TableFacts.{table_shared}
+use Rattle.csn_certify.proofs.SearchFacts.{in_table}
 use Rattle.csn_certify.proofs.pick_tables.PickTables.shared.Goals as goal
 
 pub have_same_keys-requires-clause-below : goal.have_same_keys-requires-clause-below
@@ -39,3 +40,7 @@ returns-then-have_same_keys c =
       ap (λ n. slice_get c.args.self.now.tables n) read ∙ h.1,
       table_shared d c.args.known.now.look.now parts c.args.octet other c.requires.known.keys below c.requires.octet (omega arith) (c.have_same_keys.ensures c.if-have_same_keys.true) h.0 h.2,
     )
+
+pub reached-requires : goal.reached-requires
+reached-requires c =
+    in_table c.requires.known.reached.same (slice_get_within c.args.known.now.desc.now.nodes c.args.node (Choice c.args.parts.now) c.requires.choice)

@@ -13,3 +13,12 @@ loop-j-preserved c =
 
 pub returns-clause-least : goal.returns-clause-least
 returns-clause-least c = null_end c.args.self.now.desc.now c.args.choice.now.parts.now c.args.from c.loop-j.j (omega (arith, c.loop-j-test.false, c.len-j-end.ensures.len)) c.loop-j.invariant
+
+pub get-requires : goal.get-requires
+get-requires c = omega (arith, c.len-j-end.ensures.len, c.loop-j-test.true)
+
+pub returns-then-is_null-clause-least : goal.returns-then-is_null-clause-least
+returns-then-is_null-clause-least c = (c.loop-j.auto.j, (c.get.result, c.get.ensures, c.is_null.ensures.0 c.if-is_null.true), c.loop-j.invariant)
+
+pub returns-then-is_null-clause-small : goal.returns-then-is_null-clause-small
+returns-then-is_null-clause-small c = omega (arith, c.len-j-end.ensures.bound, c.loop-j-test.true)

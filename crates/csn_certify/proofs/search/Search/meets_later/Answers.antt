@@ -38,3 +38,9 @@ returns-clause-meets c =
     let real = denied c.is_null.result (IsNull d c.get-part.result) c.is_null.ensures c.if-is_null.false in
     meets_tell d c.args.octet c.args.choice.now.parts.now c.args.i c.get-part.result c.get-part.ensures real c.key_table-table.result.now
     (c.key_table-table.ensures.keys d c.requires.known.keys) c.args.later.now c.requires.later c.tables_meet-meets.result c.new.result c.new.ensures c.tables_meet-meets.ensures
+
+pub get-part-requires : goal.get-part-requires
+get-part-requires c = c.requires.within
+
+pub key_table-table-requires-clause-octet : goal.key_table-table-requires-clause-octet
+key_table-table-requires-clause-octet c = c.requires.octet

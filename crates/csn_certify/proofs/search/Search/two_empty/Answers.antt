@@ -1,4 +1,4 @@
-use Rattle.std.proofs.Common.{[], ◌∷◌}
+use Rattle.std.proofs.Common.{[], ◌∷◌, arith}
 use Rattle.csn_certify.proofs.Searching.{as_none}
 use Rattle.csn_certify.proofs.ChoiceSearch.{two_none, two_one, two_some}
 use Rattle.csn_certify.proofs.search.Search.two_empty.Goals as goal
@@ -17,3 +17,12 @@ returns-in_err-j c =
 
 pub returns : goal.returns
 returns c = two_some c.args.self.now.desc.now c.args.choice.now.node c.args.choice.now.parts.now c.requires.choice c.in_ok-i.i c.in_ok-j.j c.in_ok-i.ensures.least c.in_ok-j.ensures.least
+
+pub overflow_add-i : goal.overflow_add-i
+overflow_add-i c = omega (arith, c.in_ok-i.ensures.small)
+
+pub first_null-requires-2-clause-known : goal.first_null-requires-2-clause-known
+first_null-requires-2-clause-known c = c.requires.known
+
+pub first_null-requires-2-clause-choice : goal.first_null-requires-2-clause-choice
+first_null-requires-2-clause-choice c = c.requires.choice
