@@ -19,3 +19,20 @@ returns-then-not-are_all-clause-some c = λ no.
     let P : ℕ → Type 0 = λ first. IsOther c.args.table.now false first (c.args.place * 2 ^ c.loop-less.less + 2 ^ c.loop-less.less) in
     let Q : ℕ → Type 0 = λ end. IsOther c.args.table.now false (c.args.place * 2 ^ c.loop-less.less % 2 ^ 64) end in
     (c.loop-less.less, c.loop-less-test.true, subst P level.first_is (subst Q level.end_is (c.are_all.ensures.other c.if-not-are_all.true)))
+
+pub are_all-requires-clause-order : goal.are_all-requires-clause-order
+are_all-requires-clause-order c =
+    let level = level_at c.args.place c.args.more c.loop-less.less c.requires.within (omega (arith, c.loop-less-test.true)) in
+    level.order
+
+pub overflow_cast-first : goal.overflow_cast-first
+overflow_cast-first c = omega arith
+
+pub overflow_shl-first : goal.overflow_shl-first
+overflow_shl-first c = omega arith
+
+pub overflow_cast-less : goal.overflow_cast-less
+overflow_cast-less c = omega arith
+
+pub overflow_shl-less : goal.overflow_shl-less
+overflow_shl-less c = omega arith
