@@ -1,5 +1,5 @@
 -- The search for the first overlap of a choice at an octet position.
-use Rattle.std.proofs.Common.{◌≡◌, ℕ, ◌+◌, ◌<◌, ◌≤◌, ◌⊎◌, ◌↔◌, inl, inr, Bool, true, false, List, [], ◌∷◌, ◌++◌, length, refl, sym, ◌∙◌, ap, subst, arith, Option, Some, None, slice_get}
+use Rattle.std.proofs.Common.{◌≡◌, ℕ, ◌+◌, ◌<◌, ◌≤◌, ◌⊎◌, ◌↔◌, inl, inr, Bool, true, List, [], ◌∷◌, ◌++◌, length, refl, sym, ◌∙◌, ap, subst, arith, Option, Some, None, slice_get}
 use Rattle.std.specs.Prelude.{IsTrue}
 use Rattle.std.proofs.lemmas.Option.{slice_get_within, slice_get_read, get_or_from_slice_get}
 use Rattle.csn_desc.specs.declared.node.Node.TheVariants.{Choice}
@@ -15,7 +15,6 @@ use Rattle.csn_certify.specs.declared.conflict.Conflict.TheVariants.{TwoEmpty, N
 use Rattle.csn_certify.specs.Conflicts.{IsNull, IsConflict, overlap, text_of, rank_of, NotAfter}
 use Rattle.csn_certify.specs.Search.{IsUnder, IsFirstUnder, IsLeastFrom}
 use Rattle.csn_certify.specs.Overlaps.{AreBegun, Meets, MeetsAt, KeyUnder, MeetUnder, HasKey, IsFirstBegun, IsPart, HasKeyFrom, Overlaps}
-use Rattle.csn_certify.proofs.SearchFacts.{denied}
 use Rattle.csn_certify.proofs.Searching.{NoneBelow, branch_at, found_at, least_number, first_behind}
 use Rattle.csn_certify.proofs.ConflictKinds.{ChoiceFits, choice_fits}
 use Rattle.csn_look.proofs.Tables.KeyWords.{key_word}
