@@ -127,7 +127,10 @@ impl Frames {
     {
         match self.frames.push(frame) {
             Ok(()) => Ok(self),
-            Err(_) => Err(NoMemory),
+            Err(failed) => {
+                drop(failed.value);
+                Err(NoMemory)
+            }
         }
     }
 

@@ -21,12 +21,28 @@ fn across(first: Span, last: Span) -> Span
     }
 }
 
+// Two expressions that a larger one holds.
+fn boxed(alloc: Global, x: Expr, y: Expr) -> Result<(Box<Expr>, Box<Expr>), NoMemory>
+    ensures x { IfOk result (λ pair. pair.0.value ≡ x) }
+    ensures y { IfOk result (λ pair. pair.1.value ≡ y) }
+{
+    match Box::new(alloc, x) {
+        Ok(x) => Ok((x, Box::new(alloc, y)?)),
+        Err(failed) => {
+            drop(failed.value);
+            drop(y);
+            Err(NoMemory)
+        }
+    }
+}
+
 /// `x & y`
 pub fn both_of(alloc: Global, x: Expr, y: Expr) -> Result<Expr, NoMemory>
     ensures { IfOk result (λ whole. whole ≡ both_of x y) }
 {
     let span = across(x.span, y.span);
-    let form = Form::Both(Box::new(alloc, x)?, Box::new(alloc, y)?);
+    let (x, y) = boxed(alloc, x, y)?;
+    let form = Form::Both(x, y);
     Ok(Expr { span, form })
 }
 
@@ -35,7 +51,8 @@ pub fn sends_of(alloc: Global, x: Expr, y: Expr) -> Result<Expr, NoMemory>
     ensures { IfOk result (λ whole. whole ≡ sends_of x y) }
 {
     let span = across(x.span, y.span);
-    let form = Form::Sends(Box::new(alloc, x)?, Box::new(alloc, y)?);
+    let (x, y) = boxed(alloc, x, y)?;
+    let form = Form::Sends(x, y);
     Ok(Expr { span, form })
 }
 

@@ -1,9 +1,9 @@
 //! Where the reader stands in a text.
 
-ghost use Rattle.std.specs.Prelude.{◌≡◌, []};
+ghost use Rattle.std.specs.Prelude.{◌≡◌, [], ◌∷◌, ◌++◌};
 ghost use Rattle.csn_grammar.specs.reader.Gives.{Gives};
 ghost use Rattle.csn_grammar.specs.reader.BodySteps.{body_step};
-ghost use Rattle.csn_grammar.specs.reader.RuleSteps.{after_body, name_step, named_step, reader_step};
+ghost use Rattle.csn_grammar.specs.reader.RuleSteps.{reading, after_body, between_step, less_step, name_step, named_step, reader_step};
 
 use crate::expr::Span;
 use crate::reader::body::{Body, Mode, Next};
@@ -12,7 +12,7 @@ use crate::reader::steps::{body_of, body_step};
 use crate::reader::stop::Stop;
 use crate::rules::{Rule, RulesRead};
 use csn_desc::Label;
-use csn_lexer::TokenKind;
+use csn_lexer::{Token, TokenKind};
 use std::alloc::Global;
 
 /// Where the reader stands.
@@ -49,6 +49,55 @@ impl Reader {
     }
 }
 
+fn between_step(rules: RulesRead, token: Token) -> Result<Reader, Stop>
+    ensures { Gives result (between_step rules token.kind token.start) }
+{
+    match token.kind {
+        TokenKind::Less => Ok(Reader {
+            rules,
+            state: State::Less(token.start),
+        }),
+        _ => Err(Stop::Refused),
+    }
+}
+
+fn less_step(alloc: Global, rules: RulesRead, start: u32, piece: Piece<'_>) -> Result<Reader, Stop>
+    ensures { Gives result (less_step rules start piece.entry.token.kind piece.entry.text.now) }
+{
+    match piece.token.kind {
+        TokenKind::Word => {
+            let words = Label::of_word(alloc, piece.text)?;
+            Ok(Reader {
+                rules,
+                state: State::Name { start, words },
+            })
+        }
+        _ => Err(Stop::Refused),
+    }
+}
+
+fn named_step(
+    alloc: Global,
+    rules: RulesRead,
+    start: u32,
+    name: Label,
+    kind: TokenKind,
+) -> Result<Reader, Stop>
+    ensures { Gives result (named_step rules start name kind) }
+{
+    match kind {
+        TokenKind::Define => Ok(Reader {
+            rules,
+            state: State::Body {
+                start,
+                name,
+                body: body_of(alloc),
+            },
+        }),
+        _ => Err(Stop::Refused),
+    }
+}
+
 fn name_step(rules: RulesRead, start: u32, words: Label, piece: Piece<'_>) -> Result<Reader, Stop>
     ensures { Gives result (name_step rules start words piece.entry.token.kind piece.entry.text.now) }
 {
@@ -63,9 +112,20 @@ fn name_step(rules: RulesRead, start: u32, words: Label, piece: Piece<'_>) -> Re
     Ok(Reader { rules, state })
 }
 
+// Ends a rule.
+fn end_rule(mut rules: RulesRead, rule: Rule) -> Result<Reader, Stop>
+    ensures { Gives result (reading (rules ++ rule ∷ []) State.Between) }
+{
+    rules.add(rule)?;
+    Ok(Reader {
+        rules,
+        state: State::Between,
+    })
+}
+
 fn in_body(
     alloc: Global,
-    mut rules: RulesRead,
+    rules: RulesRead,
     start: u32,
     name: Label,
     body: Body,
@@ -85,11 +145,7 @@ fn in_body(
                 start,
                 end: piece.token.end,
             };
-            rules.add(Rule { name, span, body })?;
-            Ok(Reader {
-                rules,
-                state: State::Between,
-            })
+            end_rule(rules, Rule { name, span, body })
         }
     }
 }
@@ -99,25 +155,12 @@ pub fn reader_step(alloc: Global, reader: Reader, piece: Piece<'_>) -> Result<Re
     ensures { Gives result
         (reader_step reader.rules reader.state piece.entry.token.kind piece.entry.token.start piece.entry.token.end piece.entry.text.now) }
 {
-    let rules = reader.rules;
-    let state = match (reader.state, piece.token.kind) {
-        (State::Between, TokenKind::Less) => State::Less(piece.token.start),
-        (State::Less(start), TokenKind::Word) => State::Name {
-            start,
-            words: Label::of_word(alloc, piece.text)?,
-        },
-        (State::Name { start, words }, _) => {
-            return name_step(rules, start, words, piece);
-        }
-        (State::Named { start, name }, TokenKind::Define) => State::Body {
-            start,
-            name,
-            body: body_of(alloc),
-        },
-        (State::Body { start, name, body }, _) => {
-            return in_body(alloc, rules, start, name, body, piece);
-        }
-        _ => return Err(Stop::Refused),
-    };
-    Ok(Reader { rules, state })
+    let Reader { rules, state } = reader;
+    match state {
+        State::Between => between_step(rules, piece.token),
+        State::Less(start) => less_step(alloc, rules, start, piece),
+        State::Name { start, words } => name_step(rules, start, words, piece),
+        State::Named { start, name } => { named_step(alloc, rules, start, name, piece.token.kind) }
+        State::Body { start, name, body } => in_body(alloc, rules, start, name, body, piece),
+    }
 }

@@ -1,7 +1,9 @@
 //! Behind a base, where an exponent or `//` may come.
 
-ghost use Rattle.std.specs.Prelude.{◌≡◌};
+ghost use Rattle.std.specs.Prelude.{◌≡◌, Some};
 ghost use Rattle.csn_lexer.specs.declared.token.TokenKind.{TokenKind};
+ghost use Rattle.csn_grammar.specs.ExprV.{expr, group};
+ghost use Rattle.csn_grammar.specs.Grammar.{components_of};
 ghost use Rattle.csn_grammar.specs.reader.Gives.{Gives};
 ghost use Rattle.csn_grammar.specs.reader.Building.{cut_group, power_of};
 ghost use Rattle.csn_grammar.specs.reader.ExponentSteps.{exponent_step};
@@ -15,10 +17,18 @@ use crate::reader::exponents::exponent_step;
 use crate::reader::piece::Piece;
 use crate::reader::progress::{ExponentNext, Progress};
 use crate::reader::steps::joint::after_side;
-use crate::reader::steps::level::goes;
+use crate::reader::steps::level::{gives_up, goes, goes_on};
 use crate::reader::stop::Stop;
 use csn_lexer::TokenKind;
 use std::alloc::Global;
+
+// Braces that are a truncation.
+fn cut_braces(alloc: Global, span: Span, inner: Expr) -> Result<Mode, Stop>
+    ensures { Gives result (Some (Mode.Done (expr span.start span.end (group (components_of inner))))) }
+{
+    let cut = components_of(alloc, inner)?;
+    Ok(Mode::Done(group_of(alloc, span, cut)?))
+}
 
 // Takes the `//` behind a base: it belongs to braces that stand directly before it, and else to
 // the sequence.
@@ -31,15 +41,21 @@ fn after_slashes(alloc: Global, within: Within, base: Expr, piece: Piece<'_>) ->
     let span = base.span;
     match base.form {
         Form::Group(inner) => {
-            let cut = components_of(alloc, Box::into_inner(inner))?;
             let whole = Span {
                 start: span.start,
                 end: piece.token.end,
             };
-            Ok(goes(within, Mode::Done(group_of(alloc, whole, cut)?)))
+            goes_on(within, cut_braces(alloc, whole, Box::into_inner(inner)))
         }
         form => after_side(alloc, within, Expr { span, form }, piece),
     }
+}
+
+// A side that is a base with its exponent.
+fn power(alloc: Global, base: Expr, end: u32, exponent: Exponent) -> Result<Mode, Stop>
+    ensures { Gives result (Some (Mode.Done (power_of base end exponent))) }
+{
+    Ok(Mode::Done(power_of(alloc, base, end, exponent)?))
 }
 
 // A base with its exponent, which ends before the place `end`.
@@ -52,8 +68,7 @@ fn raised(
 ) -> Result<Next, Stop>
     ensures { Gives result (goes within.frames within.level (Mode.Done (power_of base end exponent))) }
 {
-    let power = power_of(alloc, base, end, exponent)?;
-    Ok(goes(within, Mode::Done(power)))
+    goes_on(within, power(alloc, base, end, exponent))
 }
 
 /// Takes the token behind a base, which may have an exponent.
@@ -84,8 +99,14 @@ pub fn in_exponent(
 ) -> Result<Next, Stop>
     ensures { Gives result (after_exponent within.frames within.level base piece.entry.token.end (exponent_step progress piece.entry.token.kind piece.entry.text.now)) }
 {
-    match exponent_step(alloc, progress, piece)? {
-        ExponentNext::Goes(progress) => Ok(goes(within, Mode::Exponent { base, progress })),
-        ExponentNext::Ends(exponent) => { raised(alloc, within, base, piece.token.end, exponent) }
+    match exponent_step(alloc, progress, piece) {
+        Ok(ExponentNext::Goes(progress)) => Ok(goes(within, Mode::Exponent { base, progress })),
+        Ok(ExponentNext::Ends(exponent)) => {
+            raised(alloc, within, base, piece.token.end, exponent)
+        }
+        Err(stop) => {
+            drop(base);
+            gives_up(within, stop)
+        }
     }
 }

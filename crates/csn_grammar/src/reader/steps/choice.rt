@@ -18,9 +18,16 @@ use std::alloc::Global;
 fn with_branch(alloc: Global, level: Level, body: Expr, error: bool) -> Result<Level, Stop>
     ensures { Gives result (Some (with_branch level body error)) }
 {
-    let mut branches = level.branches;
+    let Level {
+        mut branches,
+        error: this_error,
+        items,
+        joint,
+    } = level;
+    drop(items);
+    drop(joint);
     branches.add(Branch {
-        error: level.error,
+        error: this_error,
         body,
     })?;
     Ok(Level {
@@ -44,7 +51,15 @@ fn next_branch(alloc: Global, within: Within, body: Expr, error: bool) -> Result
 fn choice_of(level: Level, last: Expr) -> Result<Expr, Stop>
     ensures { Gives result (Some (choice_with level.branches level.error last)) }
 {
-    Ok(choice_with(level.branches, level.error, last)?)
+    let Level {
+        branches,
+        error,
+        items,
+        joint,
+    } = level;
+    drop(items);
+    drop(joint);
+    Ok(choice_with(branches, error, last)?)
 }
 
 // Ends the alternatives.

@@ -1,34 +1,70 @@
 //! Behind a side, where `&` or `=` may come.
 
+ghost use Rattle.std.specs.Prelude.{◌≡◌};
 ghost use Rattle.csn_grammar.specs.reader.Gives.{Gives};
-ghost use Rattle.csn_grammar.specs.reader.BodySteps.{after_window, after_side};
+ghost use Rattle.csn_grammar.specs.reader.Building.{both_of, sends_of};
+ghost use Rattle.csn_grammar.specs.reader.BodySteps.{goes, with_joint, after_item, after_window, after_side};
 
 use crate::expr::Expr;
 use crate::reader::body::{Joint, Level, Mode, Next, Within};
 use crate::reader::build::{both_of, sends_of};
 use crate::reader::piece::Piece;
-use crate::reader::steps::level::goes;
+use crate::reader::steps::level::{gives_up, goes, with_joint};
 use crate::reader::steps::sequence::after_item;
 use crate::reader::stop::Stop;
+use csn_bits::NoMemory;
 use csn_lexer::TokenKind;
 use std::alloc::Global;
 
+// Another side has to come in the same item.
+fn begin_other(within: Within, joint: Joint) -> Result<Next, Stop>
+    ensures { Gives result (goes within.frames (with_joint within.level joint) Mode.Side) }
+{
+    let Within { frames, level } = within;
+    let level = with_joint(level, joint);
+    Ok(goes(Within { frames, level }, Mode::Side))
+}
+
 // Behind a side, or two with `&` between.
 #[tactic(auto, unfolding(crate::specs::reader::BodySteps::after_window))]
-fn after_window(
-    alloc: Global,
-    mut within: Within,
-    window: Expr,
-    piece: Piece<'_>,
-) -> Result<Next, Stop>
+fn after_window(alloc: Global, within: Within, window: Expr, piece: Piece<'_>) -> Result<Next, Stop>
     ensures { Gives result (after_window within.frames within.level window piece.entry.token.kind piece.entry.token.start piece.entry.token.end piece.entry.text.now) }
 {
     match piece.token.kind {
-        TokenKind::Equal => {
-            within.level.joint = Joint::Sends(window);
-            Ok(goes(within, Mode::Side))
-        }
+        TokenKind::Equal => begin_other(within, Joint::Sends(window)),
         _ => after_item(alloc, within, window, piece),
+    }
+}
+
+// Behind a side and another with `&` between.
+fn after_both(
+    alloc: Global,
+    within: Within,
+    left: Expr,
+    side: Expr,
+    piece: Piece<'_>,
+) -> Result<Next, Stop>
+    ensures { Gives result (after_window within.frames within.level (both_of left side) piece.entry.token.kind piece.entry.token.start piece.entry.token.end piece.entry.text.now) }
+{
+    match both_of(alloc, left, side) {
+        Ok(window) => after_window(alloc, within, window, piece),
+        Err(NoMemory) => gives_up(within, Stop::NoMemory),
+    }
+}
+
+// Behind two sides with `=` between.
+fn after_sends(
+    alloc: Global,
+    within: Within,
+    left: Expr,
+    side: Expr,
+    piece: Piece<'_>,
+) -> Result<Next, Stop>
+    ensures { Gives result (after_item within.frames within.level (sends_of left side) piece.entry.token.kind piece.entry.token.start piece.entry.token.end piece.entry.text.now) }
+{
+    match sends_of(alloc, left, side) {
+        Ok(item) => after_item(alloc, within, item, piece),
+        Err(NoMemory) => gives_up(within, Stop::NoMemory),
     }
 }
 
@@ -44,7 +80,7 @@ pub fn after_side(alloc: Global, within: Within, side: Expr, piece: Piece<'_>) -
         items,
         joint,
     } = level;
-    let mut rest = Within {
+    let rest = Within {
         frames,
         level: Level {
             branches,
@@ -55,19 +91,10 @@ pub fn after_side(alloc: Global, within: Within, side: Expr, piece: Piece<'_>) -
     };
     match joint {
         Joint::Alone => match piece.token.kind {
-            TokenKind::Ampersand => {
-                rest.level.joint = Joint::Window(side);
-                Ok(goes(rest, Mode::Side))
-            }
+            TokenKind::Ampersand => begin_other(rest, Joint::Window(side)),
             _ => after_window(alloc, rest, side, piece),
         },
-        Joint::Window(left) => {
-            let window = both_of(alloc, left, side)?;
-            after_window(alloc, rest, window, piece)
-        }
-        Joint::Sends(left) => {
-            let item = sends_of(alloc, left, side)?;
-            after_item(alloc, rest, item, piece)
-        }
+        Joint::Window(left) => after_both(alloc, rest, left, side, piece),
+        Joint::Sends(left) => after_sends(alloc, rest, left, side, piece),
     }
 }

@@ -10,19 +10,31 @@ use crate::reader::body::{Joint, Level, Mode, Next, Within};
 use crate::reader::build::{cut_with, seq_with};
 use crate::reader::piece::Piece;
 use crate::reader::steps::choice::after_seq;
-use crate::reader::steps::level::goes;
+use crate::reader::steps::level::{gives_up, goes_on};
 use crate::reader::steps::side::begin_side;
 use crate::reader::stop::Stop;
+use csn_bits::NoMemory;
 use csn_lexer::{Token, TokenKind};
 use std::alloc::Global;
 
 // The level with one item more.
-fn with_item(mut level: Level, item: Expr) -> Result<Level, Stop>
+fn with_item(level: Level, item: Expr) -> Result<Level, Stop>
     ensures { Gives result (Some (with_item level item)) }
 {
-    level.items.add(item)?;
-    level.joint = Joint::Alone;
-    Ok(level)
+    let Level {
+        branches,
+        error,
+        mut items,
+        joint,
+    } = level;
+    drop(joint);
+    items.add(item)?;
+    Ok(Level {
+        branches,
+        error,
+        items,
+        joint: Joint::Alone,
+    })
 }
 
 // Begins the next item.
@@ -41,14 +53,21 @@ fn take_items(alloc: Global, within: Within) -> (Exprs, Within)
     ensures level { result.1.level ≡ without_items within.level }
 {
     let Within { frames, level } = within;
+    let Level {
+        branches,
+        error,
+        items,
+        joint,
+    } = level;
+    drop(joint);
     let rest = Level {
-        branches: level.branches,
-        error: level.error,
+        branches,
+        error,
         items: Exprs::new(alloc),
         joint: Joint::Alone,
     };
     (
-        level.items,
+        items,
         Within {
             frames,
             level: rest,
@@ -56,13 +75,19 @@ fn take_items(alloc: Global, within: Within) -> (Exprs, Within)
     )
 }
 
+// What may come behind a truncation, which ends before the place `end`.
+fn behind_cut(items: Exprs, item: Expr, end: u32) -> Result<Mode, Stop>
+    ensures { Gives result (Some (Mode.Slashes (cut_with items item end))) }
+{
+    Ok(Mode::Slashes(cut_with(items, item, end)?))
+}
+
 // Ends a truncation.
 fn cut_items(alloc: Global, within: Within, item: Expr, end: u32) -> Result<Next, Stop>
     ensures { Gives result (goes within.frames (without_items within.level) (Mode.Slashes (cut_with within.level.items item end))) }
 {
     let (items, rest) = take_items(alloc, within);
-    let cut = cut_with(items, item, end)?;
-    Ok(goes(rest, Mode::Slashes(cut)))
+    goes_on(rest, behind_cut(items, item, end))
 }
 
 // Ends a sequence.
@@ -70,8 +95,10 @@ fn end_items(alloc: Global, within: Within, item: Expr, token: Token) -> Result<
     ensures { Gives result (after_seq within.frames (without_items within.level) (seq_with within.level.items item) token.kind token.end) }
 {
     let (items, rest) = take_items(alloc, within);
-    let body = seq_with(items, item)?;
-    after_seq(alloc, rest, body, token)
+    match seq_with(items, item) {
+        Ok(body) => after_seq(alloc, rest, body, token),
+        Err(NoMemory) => gives_up(rest, Stop::NoMemory),
+    }
 }
 
 /// Takes the token behind an item that is whole.

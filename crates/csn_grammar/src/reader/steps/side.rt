@@ -1,6 +1,7 @@
 //! The beginning of a side.
 
 ghost use Rattle.std.specs.Prelude.{◌≡◌};
+ghost use Rattle.csn_lexer.specs.declared.token.TokenKind.{TokenKind};
 ghost use Rattle.csn_grammar.specs.reader.Gives.{Gives};
 ghost use Rattle.csn_grammar.specs.FormView.{form_view};
 ghost use Rattle.csn_grammar.specs.reader.BodySteps.{open_frame, word_mode, begin_side};
@@ -9,7 +10,7 @@ use crate::expr::{Expr, Form, MOST_OPEN, Span};
 use crate::reader::body::{Frame, Mode, Next, Opening, Within};
 use crate::reader::piece::Piece;
 use crate::reader::spellings::word_form;
-use crate::reader::steps::level::{fresh, goes};
+use crate::reader::steps::level::{fresh, gives_up, goes};
 use crate::reader::stop::Stop;
 use csn_lexer::TokenKind;
 use std::alloc::Global;
@@ -20,12 +21,13 @@ pub fn open_frame(alloc: Global, within: Within, start: u32, opening: Opening) -
     ensures { Gives result (open_frame within.frames within.level start opening) }
 {
     if within.frames.len() >= MOST_OPEN {
-        return Err(Stop::Refused);
+        return gives_up(within, Stop::Refused);
     }
-    let frames = within.frames.push(Frame {
+    let Within { frames, level } = within;
+    let frames = frames.push(Frame {
         start,
         opening,
-        level: within.level,
+        level,
     })?;
     let inner = Within {
         frames,
@@ -44,6 +46,21 @@ fn word_mode(span: Span, form: Form) -> Mode
     }
 }
 
+// Takes a word, which is a side alone.
+#[tactic(auto, unfolding(crate::specs::reader::BodySteps::begin_side))]
+fn begin_word(alloc: Global, within: Within, piece: Piece<'_>) -> Result<Next, Stop>
+    ensures { Gives result (begin_side within.frames within.level TokenKind.Word piece.entry.token.start piece.entry.token.end piece.entry.text.now) }
+{
+    let span = Span {
+        start: piece.token.start,
+        end: piece.token.end,
+    };
+    match word_form(alloc, piece.text) {
+        Ok(form) => Ok(goes(within, word_mode(span, form))),
+        Err(stop) => gives_up(within, stop),
+    }
+}
+
 /// Takes the token that begins a side.
 #[tactic(auto, unfolding(crate::specs::reader::BodySteps::begin_side))]
 pub fn begin_side(alloc: Global, within: Within, piece: Piece<'_>) -> Result<Next, Stop>
@@ -51,16 +68,9 @@ pub fn begin_side(alloc: Global, within: Within, piece: Piece<'_>) -> Result<Nex
 {
     let token = piece.token;
     match token.kind {
-        TokenKind::Word => {
-            let span = Span {
-                start: token.start,
-                end: token.end,
-            };
-            let form = word_form(alloc, piece.text)?;
-            Ok(goes(within, word_mode(span, form)))
-        }
+        TokenKind::Word => begin_word(alloc, within, piece),
         TokenKind::Less => Ok(goes(within, Mode::Less(token.start))),
         TokenKind::BraceLeft => open_frame(alloc, within, token.start, Opening::Brace),
-        _ => Err(Stop::Refused),
+        _ => gives_up(within, Stop::Refused),
     }
 }
