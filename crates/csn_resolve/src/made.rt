@@ -60,8 +60,12 @@ impl Made {
         requires { length self.old < MOST_NODES }
         ensures { OnOk result (self.new ≡ self.old ++ placed node place ∷ []) }
     {
-        self.places.push(place)?;
-        if self.nodes.push(node).is_err() {
+        if self.places.push(place).is_err() {
+            drop(node);
+            return Err(NoMemory);
+        }
+        if let Err(failed) = self.nodes.push(node) {
+            drop(failed.value);
             self.places.pop();
             return Err(NoMemory);
         }
@@ -75,7 +79,8 @@ impl Made {
             → self.old ≡ before ++ other ∷ after → number ≡ length before
             → self.new ≡ before ++ placed node other.place ∷ after }
     {
-        self.nodes[number as usize] = node;
+        let before = std::mem::replace(&mut self.nodes[number as usize], node);
+        drop(before);
     }
 
     /// The description that has these nodes, which are numbered through and well formed. A field that some

@@ -11,7 +11,7 @@ use Rattle.csn_grammar.specs.Names.{same_name, rule_of}
 use Rattle.csn_grammar.specs.Forms.{WidthV, WindowV, width_of, window_of}
 use Rattle.csn_grammar.specs.Void.{Void, SomeVoid, AllVoid, void_none, void_name, void_group, void_labelled, void_window, void_seq, void_choice, void_received, void_sent, void_here, void_later, all_end, all_next, all_error}
 use Rattle.csn_resolve.specs.Tests.{window_part, is_void, form_void, some_void, all_void}
-use Rattle.csn_resolve.proofs.Basics.Bools.{or_wider}
+use Rattle.csn_resolve.proofs.Basics.Bools.{or_wider, no_both}
 use Rattle.csn_resolve.proofs.Emptiness.Levels.{level, decided, by_reading, side_taken, NamesAre, level_names, rule_test}
 
 part_wider :
@@ -29,18 +29,18 @@ module _ (h g : List ℕ → Bool) (wide : (n : List ℕ) → h n ≡ true → g
     void_wider r (expr s e f) p = form_wider r f p
 
     form_wider : (r : Reading) (f : FormV) → form_void r h f ≡ true → form_void r g f ≡ true
-    form_wider r (lits run) p = cc
-    form_wider r null p = cc
-    form_wider r bit p = cc
-    form_wider r octet p = cc
+    form_wider r (lits run) p = p
+    form_wider r null p = p
+    form_wider r bit p = p
+    form_wider r octet p = p
     form_wider r (name n) p =
         or_wider (same_name n (codes "no string")) (h n) (same_name n (codes "no string")) (g n) (λ q. q) (wide n) p
     form_wider r (labelled label x) p = void_wider r x p
     form_wider r (group x) p = void_wider r x p
     form_wider r (seq xs) p = some_wider r xs p
     form_wider r (choice bs) p = all_wider r bs p
-    form_wider r (power x k) p = cc
-    form_wider r (cut xs) p = cc
+    form_wider r (power x k) p = p
+    form_wider r (cut xs) p = p
     form_wider r (both x y) p =
         part_wider (width_of x) (width_of y) (is_void r h x) (is_void r h y) (is_void r g x) (is_void r g y)
         (λ q. void_wider r x q) (λ q. void_wider r y q) p
@@ -48,7 +48,7 @@ module _ (h g : List ℕ → Bool) (wide : (n : List ℕ) → h n ≡ true → g
     form_wider Sent (sends x y) p = void_wider Sent y p
 
     some_wider : (r : Reading) (xs : ExprsV) → some_void r h xs ≡ true → some_void r g xs ≡ true
-    some_wider r no_item p = cc
+    some_wider r no_item p = p
     some_wider r (item x xs) p =
         or_wider (is_void r h x) (some_void r h xs) (is_void r g x) (some_void r g xs)
         (λ q. void_wider r x q) (λ q. some_wider r xs q) p
@@ -96,17 +96,17 @@ module _ (rules : RulesV) (r : Reading) where
       void_found (expr s e f) p = form_found s e f p
 
       form_found : (s e : ℕ) (f : FormV) → form_void r h f ≡ true → Void rules r (expr s e f)
-      form_found s e (lits run) p = cc
-      form_found s e null p = cc
-      form_found s e bit p = cc
-      form_found s e octet p = cc
+      form_found s e (lits run) p = absurd (no_both p refl)
+      form_found s e null p = absurd (no_both p refl)
+      form_found s e bit p = absurd (no_both p refl)
+      form_found s e octet p = absurd (no_both p refl)
       form_found s e (name n) p = by_name s e n (or_cases (same_name n (codes "no string")) (h n) p)
       form_found s e (labelled label x) p = void_labelled (void_found x p)
       form_found s e (group x) p = void_group (void_found x p)
       form_found s e (seq xs) p = void_seq (some_found xs p)
       form_found s e (choice bs) p = void_choice (all_found bs p)
-      form_found s e (power x k) p = cc
-      form_found s e (cut xs) p = cc
+      form_found s e (power x k) p = absurd (no_both p refl)
+      form_found s e (cut xs) p = absurd (no_both p refl)
       form_found s e (both x y) p =
           by_window h s e x y (width_of x) (width_of y) refl refl p (λ q. void_found x q) (λ q. void_found y q)
       form_found s e (sends x y) p =
@@ -114,7 +114,7 @@ module _ (rules : RulesV) (r : Reading) where
           (λ is q. void_sent is (void_found y (ap (λ z. is_void z h y) is ∙ q)))
 
       pub some_found : (xs : ExprsV) → some_void r h xs ≡ true → SomeVoid rules r xs
-      some_found no_item p = cc
+      some_found no_item p = absurd (no_both p refl)
       some_found (item x xs) p =
           in_item x xs (or_cases (is_void r h x) (some_void r h xs) p) (λ q. void_found x q) (λ q. some_found xs q)
 

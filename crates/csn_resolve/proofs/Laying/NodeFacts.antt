@@ -10,6 +10,7 @@ use Rattle.csn_grammar.specs.RulesV.{RulesV}
 use Rattle.csn_grammar.specs.Environment.{label_of}
 use Rattle.csn_resolve.specs.Seen.{Frame, Seen}
 use Rattle.csn_resolve.specs.Gives.{Placed, Gives, ItemsGive, RuleGives, gives_lits, gives_null, gives_bit, gives_octet, gives_field, gives_rest, gives_spare_bit, gives_spare_low, gives_padding, gives_seq, gives_choice, gives_only, gives_times, gives_many, gives_cut, gives_window, gives_labelled, gives_name, gives_group, gives_received, gives_sent, items_end, items_next, rule_plain, rule_tail}
+use Rattle.csn_resolve.proofs.Basics.Options.{no_none}
 use Rattle.csn_resolve.proofs.Laying.Holding.{Holds, holds_along}
 use Rattle.csn_resolve.proofs.Meaning.SameTails.{AllFrom}
 
@@ -67,25 +68,25 @@ module _ (rules : RulesV) (r : Reading) where
   pub label_named :
       (all : List Node) {x : ExprV} {at : ℕ} {seen : Seen ℕ} {nodes : List Placed}
       → Gives rules r x at seen nodes → Holds all at nodes → (label : List ℕ) → label_of r x ≡ Some label → is_named all at ≡ true
-  label_named all (gives_lits p) h label is = cc
-  label_named all (gives_null p) h label is = cc
-  label_named all (gives_bit p) h label is = cc
-  label_named all (gives_octet p) h label is = cc
-  label_named all (gives_field unit count is' counted p) h label is = cc
-  label_named all (gives_rest is' p) h label is = cc
-  label_named all (gives_spare_bit is' p) h label is = cc
-  label_named all (gives_spare_low is' p) h label is = cc
-  label_named all (gives_padding is' p) h label is = cc
-  label_named all (gives_seq g p) h label is = cc
-  label_named all (gives_choice xs kept two g p) h label is = cc
-  label_named all (gives_only kept g) h label is = cc
-  label_named all (gives_times count is' counted g p) h label is = cc
-  label_named all (gives_many is' g p) h label is = cc
-  label_named all (gives_cut g p) h label is = cc
-  label_named all (gives_window w count is' counted g p) h label is = cc
+  label_named all (gives_lits p) h label is = absurd (no_none is refl)
+  label_named all (gives_null p) h label is = absurd (no_none is refl)
+  label_named all (gives_bit p) h label is = absurd (no_none is refl)
+  label_named all (gives_octet p) h label is = absurd (no_none is refl)
+  label_named all (gives_field unit count is' counted p) h label is = absurd (no_none is refl)
+  label_named all (gives_rest is' p) h label is = absurd (no_none is refl)
+  label_named all (gives_spare_bit is' p) h label is = absurd (no_none is refl)
+  label_named all (gives_spare_low is' p) h label is = absurd (no_none is refl)
+  label_named all (gives_padding is' p) h label is = absurd (no_none is refl)
+  label_named all (gives_seq g p) h label is = absurd (no_none is refl)
+  label_named all (gives_choice xs kept two g p) h label is = absurd (no_none is refl)
+  label_named all (gives_only kept g) h label is = absurd (no_none is refl)
+  label_named all (gives_times count is' counted g p) h label is = absurd (no_none is refl)
+  label_named all (gives_many is' g p) h label is = absurd (no_none is refl)
+  label_named all (gives_cut g p) h label is = absurd (no_none is refl)
+  label_named all (gives_window w count is' counted g p) h label is = absurd (no_none is refl)
   label_named all {at = at} (gives_labelled g p) h label is = let here = holds_along all at p h in ap is_labelled here.0
-  label_named all (gives_name rule is' g) h label is = cc
-  label_named all (gives_group g) h label is = cc
+  label_named all (gives_name rule is' g) h label is = absurd (no_none is refl)
+  label_named all (gives_group g) h label is = absurd (no_none is refl)
   label_named all (gives_received {s = s} {e = e} {x = x} {y = y} is' g) h label is =
       label_named all g h label (sym (label_received s e x y is') ∙ is)
   label_named all (gives_sent {s = s} {e = e} {x = x} {y = y} is' g) h label is =

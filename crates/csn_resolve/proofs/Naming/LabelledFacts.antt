@@ -20,6 +20,7 @@ use Rattle.csn_grammar.proofs.VoidFacts.{no_rule, same_rule}
 use Rattle.csn_resolve.specs.Seen.{Seen, inner_of}
 use Rattle.csn_resolve.specs.Counts.{Narrow, narrow_field, narrow_name, narrow_group, narrow_received, narrow_sent}
 use Rattle.csn_resolve.specs.Gives.{Placed, placed, count_at, Gives, RuleGives, gives_lits, gives_null, gives_bit, gives_octet, gives_field, gives_rest, gives_spare_bit, gives_spare_low, gives_padding, gives_seq, gives_choice, gives_only, gives_times, gives_many, gives_cut, gives_window, gives_labelled, gives_name, gives_group, gives_received, gives_sent, rule_plain, rule_tail}
+use Rattle.csn_resolve.proofs.Basics.Options.{no_none}
 
 -- one field of constant width, of 1 to 16 bits
 pub record IsShort (nodes : List Placed) : Type 0 where
@@ -79,33 +80,33 @@ module _ (rules : RulesV) (r : Reading) where
       record { unit = 1; count = 1; place = s; is = p; some = omega arith; few = omega arith }
   field_short w n is number low high (gives_octet {s = s} p) =
       record { unit = 8; count = 1; place = s; is = p; some = omega arith; few = omega arith }
-  field_short w n is number low high (gives_field {k = Any} unit count at given p) = absurd (cc)
+  field_short w n is number low high (gives_field {k = Any} unit count at given p) = absurd (no_none is refl)
   field_short {seen = seen} w n is number low high (gives_field {x = x} {k = Number m} unit count at given p) =
       power_short seen (Number m) w n (power_width x unit (Number m) w is at) number low high given p
   field_short {seen = seen} w n is number low high (gives_field {x = x} {k = Linear m label c} unit count at given p) =
       power_short seen (Linear m label c) w n (power_width x unit (Linear m label c) w is at) number low high given p
-  field_short w n is number low high (gives_times {k = Any} count none given h p) = absurd (cc)
+  field_short w n is number low high (gives_times {k = Any} count none given h p) = absurd (no_none is refl)
   field_short w n is number low high (gives_times {k = Number m} count none given h p) =
-      let nothing = ap (option_map {U = WidthV} (λ unit. record { unit = unit; count = Number m })) none in absurd (cc)
+      absurd (no_none is (ap (option_map {U = WidthV} (λ unit. record { unit = unit; count = Number m })) none))
   field_short w n is number low high (gives_times {k = Linear m label c} count none given h p) =
-      let nothing = ap (option_map {U = WidthV} (λ unit. record { unit = unit; count = Linear m label c })) none in absurd (cc)
-  field_short w n is number low high (gives_lits p) = absurd (cc)
-  field_short w n is number low high (gives_null p) = absurd (cc)
-  field_short w n is number low high (gives_rest one p) = absurd (cc)
-  field_short w n is number low high (gives_spare_bit named p) = absurd (cc)
-  field_short w n is number low high (gives_spare_low named p) = absurd (cc)
-  field_short w n is number low high (gives_padding named p) = absurd (cc)
-  field_short w n is number low high (gives_seq h p) = absurd (cc)
-  field_short w n is number low high (gives_choice xs kept two h p) = absurd (cc)
-  field_short w n is number low high (gives_only kept h) = absurd (cc)
-  field_short w n is number low high (gives_many other h p) = absurd (cc)
-  field_short w n is number low high (gives_cut h p) = absurd (cc)
-  field_short w n is number low high (gives_window v count window given h p) = absurd (cc)
-  field_short w n is number low high (gives_labelled h p) = absurd (cc)
-  field_short w n is number low high (gives_name rule at h) = absurd (cc)
-  field_short w n is number low high (gives_group h) = absurd (cc)
-  field_short w n is number low high (gives_received taken h) = absurd (cc)
-  field_short w n is number low high (gives_sent taken h) = absurd (cc)
+      absurd (no_none is (ap (option_map {U = WidthV} (λ unit. record { unit = unit; count = Linear m label c })) none))
+  field_short w n is number low high (gives_lits p) = absurd (no_none is refl)
+  field_short w n is number low high (gives_null p) = absurd (no_none is refl)
+  field_short w n is number low high (gives_rest one p) = absurd (no_none is refl)
+  field_short w n is number low high (gives_spare_bit named p) = absurd (no_none is refl)
+  field_short w n is number low high (gives_spare_low named p) = absurd (no_none is refl)
+  field_short w n is number low high (gives_padding named p) = absurd (no_none is refl)
+  field_short w n is number low high (gives_seq h p) = absurd (no_none is refl)
+  field_short w n is number low high (gives_choice xs kept two h p) = absurd (no_none is refl)
+  field_short w n is number low high (gives_only kept h) = absurd (no_none is refl)
+  field_short w n is number low high (gives_many other h p) = absurd (no_none is refl)
+  field_short w n is number low high (gives_cut h p) = absurd (no_none is refl)
+  field_short w n is number low high (gives_window v count window given h p) = absurd (no_none is refl)
+  field_short w n is number low high (gives_labelled h p) = absurd (no_none is refl)
+  field_short w n is number low high (gives_name rule at h) = absurd (no_none is refl)
+  field_short w n is number low high (gives_group h) = absurd (no_none is refl)
+  field_short w n is number low high (gives_received taken h) = absurd (no_none is refl)
+  field_short w n is number low high (gives_sent taken h) = absurd (no_none is refl)
 
   tail_wide : (n : List ℕ) (x : ExprV) (tail : TailV) → tail_of_body n x ≡ Some tail → Narrow rules r x → ⊥
   tail_wide n x tail p (narrow_field w m is number low high) = not_tail n x tail w p is
@@ -178,21 +179,21 @@ module _ (rules : RulesV) (r : Reading) where
   item_labelled label has (gives_sent {s = s} {e = e} {x = x} {y = y} is h) =
       let side = sent_side r s e x y is in
       labelled_along (sym side.1) (item_labelled label (sym side.0 ∙ has) h)
-  item_labelled label has (gives_lits p) = absurd (cc)
-  item_labelled label has (gives_null p) = absurd (cc)
-  item_labelled label has (gives_bit p) = absurd (cc)
-  item_labelled label has (gives_octet p) = absurd (cc)
-  item_labelled label has (gives_field unit count at given p) = absurd (cc)
-  item_labelled label has (gives_rest one p) = absurd (cc)
-  item_labelled label has (gives_spare_bit named p) = absurd (cc)
-  item_labelled label has (gives_spare_low named p) = absurd (cc)
-  item_labelled label has (gives_padding named p) = absurd (cc)
-  item_labelled label has (gives_seq h p) = absurd (cc)
-  item_labelled label has (gives_choice xs kept two h p) = absurd (cc)
-  item_labelled label has (gives_only kept h) = absurd (cc)
-  item_labelled label has (gives_times count none given h p) = absurd (cc)
-  item_labelled label has (gives_many other h p) = absurd (cc)
-  item_labelled label has (gives_cut h p) = absurd (cc)
-  item_labelled label has (gives_window v count window given h p) = absurd (cc)
-  item_labelled label has (gives_name rule at h) = absurd (cc)
-  item_labelled label has (gives_group h) = absurd (cc)
+  item_labelled label has (gives_lits p) = absurd (no_none has refl)
+  item_labelled label has (gives_null p) = absurd (no_none has refl)
+  item_labelled label has (gives_bit p) = absurd (no_none has refl)
+  item_labelled label has (gives_octet p) = absurd (no_none has refl)
+  item_labelled label has (gives_field unit count at given p) = absurd (no_none has refl)
+  item_labelled label has (gives_rest one p) = absurd (no_none has refl)
+  item_labelled label has (gives_spare_bit named p) = absurd (no_none has refl)
+  item_labelled label has (gives_spare_low named p) = absurd (no_none has refl)
+  item_labelled label has (gives_padding named p) = absurd (no_none has refl)
+  item_labelled label has (gives_seq h p) = absurd (no_none has refl)
+  item_labelled label has (gives_choice xs kept two h p) = absurd (no_none has refl)
+  item_labelled label has (gives_only kept h) = absurd (no_none has refl)
+  item_labelled label has (gives_times count none given h p) = absurd (no_none has refl)
+  item_labelled label has (gives_many other h p) = absurd (no_none has refl)
+  item_labelled label has (gives_cut h p) = absurd (no_none has refl)
+  item_labelled label has (gives_window v count window given h p) = absurd (no_none has refl)
+  item_labelled label has (gives_name rule at h) = absurd (no_none has refl)
+  item_labelled label has (gives_group h) = absurd (no_none has refl)

@@ -4,10 +4,10 @@ use Rattle.csn_resolve.specs.Made.{paired}
 use Rattle.csn_resolve.proofs.Giving.MadeFacts.{paired_long, paired_push}
 use Rattle.csn_resolve.proofs.made.Made.push.Goals as goal
 
-pub invariant_of-self-else-is_err : goal.invariant_of-self-else-is_err
-invariant_of-self-else-is_err c =
+pub invariant_of-self-in_default : goal.invariant_of-self-in_default
+invariant_of-self-in_default c =
     let nodes : c.push-2.new.self.items ≡ c.self.inside.nodes.items ++ c.args.node ∷ [] = search rules in
-    let places : c.push.new.self.items ≡ c.self.inside.places.items ++ c.args.place ∷ [] = c.in_ok-push.ensures.items in
+    let places : c.push.new.self.items ≡ c.self.inside.places.items ++ c.args.place ∷ [] = search rules in
     let nodes_long = ap length nodes ∙ length-append c.self.inside.nodes.items (c.args.node ∷ []) in
     let places_long = ap length places ∙ length-append c.self.inside.places.items (c.args.place ∷ []) in
     let long = paired_long c.self.inside.nodes.items c.self.inside.places.items c.self.invariant.0 in
@@ -18,7 +18,7 @@ invariant_of-self-else-is_err c =
 pub returns : goal.returns
 returns c =
     let nodes : c.push-2.new.self.items ≡ c.self.inside.nodes.items ++ c.args.node ∷ [] = search rules in
-    let places : c.push.new.self.items ≡ c.self.inside.places.items ++ c.args.place ∷ [] = c.in_ok-push.ensures.items in
+    let places : c.push.new.self.items ≡ c.self.inside.places.items ++ c.args.place ∷ [] = search rules in
     ap (λ l. paired l c.push.new.self.items) nodes ∙ (ap (λ l. paired (c.self.inside.nodes.items ++ c.args.node ∷ []) l) places
     ∙ (paired_push c.self.inside.nodes.items c.self.inside.places.items c.args.node c.args.place c.self.invariant.0
     ∙ ap (λ l. l ++ placed c.args.node c.args.place ∷ []) c.self.view_is))
