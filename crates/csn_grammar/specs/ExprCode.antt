@@ -1,5 +1,5 @@
 -- How the logic stores an expression, and how large one is, so that code that goes down one ends.
-use Rattle.std.specs.Prelude.{◌≡◌, ℕ, ◌+◌, ◌≤◌, Bool, List, [], ◌∷◌, max, refl}
+use Rattle.std.specs.Prelude.{◌≡◌, ℕ, ◌+◌, ◌≤◌, Bool, true, false, nat_eq, List, [], ◌∷◌, max, refl}
 use Rattle.std.specs.Coded.{Coded, code_by, coded×, coded_ℕ, coded_bool, coded_list}
 use Rattle.std.proofs.Common.{ap, arith}
 use base.Stored.{Gv, gnil, gnum, gcons}
@@ -67,6 +67,14 @@ abbrev mutual
   code_branches no_branch = gnil
   code_branches (branch error x bs) = gcons (coded_bool.code error) (gcons (code_expr x) (code_branches bs))
 
+-- the number that tells the form
+abbrev tag : Gv → ℕ
+tag (gcons (gnum k) g) = k
+tag g = 0
+
+no_number : true ≡ false → ⊥
+no_number p = cc
+
 mutual
   pub code_expr-one : (x y : ExprV) → code_expr x ≡ code_expr y → x ≡ y
   code_expr-one (expr s e f) (expr s' e' f') p =
@@ -92,7 +100,7 @@ mutual
       let lefts : x ≡ u = code_expr-one x u (cc) in let rights : y ≡ v = code_expr-one y v (cc) in cc
   code_form-one (sends x y) (sends u v) p =
       let lefts : x ≡ u = code_expr-one x u (cc) in let rights : y ≡ v = code_expr-one y v (cc) in cc
-  code_form-one _ _ p = cc
+  code_form-one f g p = absurd (no_number (ap (λ h. nat_eq (tag (code_form f)) (tag h)) p))
 
   pub code_exprs-one : (x y : ExprsV) → code_exprs x ≡ code_exprs y → x ≡ y
   code_exprs-one (item x xs) (item y ys) p =
