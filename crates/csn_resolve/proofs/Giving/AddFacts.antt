@@ -258,18 +258,18 @@ module _ (rules : RulesV) (r : Reading) where
   pub adds-rest :
       {s e : ℕ} {x : ExprV} {seen : Seen ℕ} (before after : List Placed) → is_bit x ≡ true
       → after ≡ before ++ placed Rest s ∷ [] → Adds rules r (expr s e (power x Any)) seen before after
-  adds-rest before after one is nodes (gives_field unit count u c p) = absurd (no_none c refl)
+  adds-rest before after one is nodes (gives_field unit count u c p) = absurd (cc)
   adds-rest before after one is nodes (gives_rest one' p) = as-nodes before after nodes _ is p
-  adds-rest before after one is nodes (gives_times count none c g p) = absurd (no_none c refl)
+  adds-rest before after one is nodes (gives_times count none c g p) = absurd (cc)
   adds-rest before after one is nodes (gives_many not g p) = absurd (no_both one not)
 
   pub adds-many :
       {s e : ℕ} {x : ExprV} {seen : Seen ℕ} (before middle after : List Placed) (inner : ℕ) → is_bit x ≡ false
       → inner ≡ length before + 1 → middle ≡ before ++ placed (Many inner) s ∷ []
       → Adds rules r x seen middle after → Adds rules r (expr s e (power x Any)) seen before after
-  adds-many before middle after number not at is h nodes (gives_field unit count u c p) = absurd (no_none c refl)
+  adds-many before middle after number not at is h nodes (gives_field unit count u c p) = absurd (cc)
   adds-many before middle after number not at is h nodes (gives_rest one p) = absurd (no_both one not)
-  adds-many before middle after number not at is h nodes (gives_times count none c g p) = absurd (no_none c refl)
+  adds-many before middle after number not at is h nodes (gives_times count none c g p) = absurd (cc)
   adds-many {s = s} before middle after number not at is h nodes (gives_many {inner = inner} not' g p) =
       let same : suc (length before) ≡ number = omega (arith, at) in
       as-nodes before after nodes _ (behind-one before middle after inner _ is (h inner (gives-at (part-at before middle _ is) g)))
@@ -281,9 +281,9 @@ module _ (rules : RulesV) (r : Reading) where
   few-many {s} {e} {x} {seen} before middle p not is h = by h.1
     where
       by : Gives rules r (expr s e (power x Any)) (length before) seen h.0 → GivesFew rules r x (length middle) seen
-      by (gives_field unit count u c q) = absurd (no_none c refl)
+      by (gives_field unit count u c q) = absurd (cc)
       by (gives_rest one q) = absurd (no_both one not)
-      by (gives_times count none c g q) = absurd (no_none c refl)
+      by (gives_times count none c g q) = absurd (cc)
       by (gives_many {inner = inner} not' g q) = (inner, gives-at (part-at before middle p is) g, few-inside before middle inner h.0 p _ is q h.2)
 
   pub adds-field :
@@ -294,9 +294,9 @@ module _ (rules : RulesV) (r : Reading) where
       let unit_same : unit' ≡ unit = same_some u is in
       let count_same : count' ≡ count = same_some c at in
       as-nodes before after nodes _ now (p ∙ (ap (λ z. placed (Field z count') s ∷ []) unit_same ∙ ap (λ z. placed (Field unit z) s ∷ []) count_same))
-  adds-field before after unit count is at now nodes (gives_rest one p) = absurd (no_none at refl)
+  adds-field before after unit count is at now nodes (gives_rest one p) = absurd (cc)
   adds-field before after unit count is at now nodes (gives_times count' none c g p) = absurd (no_none is none)
-  adds-field before after unit count is at now nodes (gives_many not g p) = absurd (no_none at refl)
+  adds-field before after unit count is at now nodes (gives_many not g p) = absurd (cc)
 
   pub adds-times :
       {s e : ℕ} {x : ExprV} {k : Exponent} {seen : Seen ℕ} (before middle after : List Placed) (inner : ℕ) (count : Count)
@@ -304,22 +304,22 @@ module _ (rules : RulesV) (r : Reading) where
       → middle ≡ before ++ placed (Times count inner) s ∷ []
       → Adds rules r x seen middle after → Adds rules r (expr s e (power x k)) seen before after
   adds-times before middle after number count no_unit at here is h nodes (gives_field unit' count' u c p) = absurd (no_none u no_unit)
-  adds-times before middle after number count no_unit at here is h nodes (gives_rest one p) = absurd (no_none at refl)
+  adds-times before middle after number count no_unit at here is h nodes (gives_rest one p) = absurd (cc)
   adds-times {s = s} before middle after number count no_unit at here is h nodes (gives_times {inner = inner} count' none c g p) =
       let same : suc (length before) ≡ number = omega (arith, here) in
       let count_same : count' ≡ count = same_some c at in
       as-nodes before after nodes _ (behind-one before middle after inner _ is (h inner (gives-at (part-at before middle _ is) g)))
       (p ∙ (ap (λ z. placed (Times count' z) s ∷ inner) same ∙ ap (λ z. placed (Times z number) s ∷ inner) count_same))
-  adds-times before middle after number count no_unit at here is h nodes (gives_many not g p) = absurd (no_none at refl)
+  adds-times before middle after number count no_unit at here is h nodes (gives_many not g p) = absurd (cc)
 
   times-inner :
       {s e : ℕ} {x : ExprV} {k : Exponent} {at : ℕ} {seen : Seen ℕ} {nodes : List Placed} {count : Count} → unit_of x ≡ None
       → count_at seen k ≡ Some count → Gives rules r (expr s e (power x k)) at seen nodes
       → (inner : List Placed) × (p : Placed) × Gives rules r x (suc at) seen inner × (nodes ≡ p ∷ inner)
   times-inner no_unit at (gives_field unit count u c q) = absurd (no_none u no_unit)
-  times-inner no_unit at (gives_rest one q) = absurd (no_none at refl)
+  times-inner no_unit at (gives_rest one q) = absurd (cc)
   times-inner no_unit at (gives_times {inner = inner} count none c g q) = (inner, _, g, q)
-  times-inner no_unit at (gives_many not g q) = absurd (no_none at refl)
+  times-inner no_unit at (gives_many not g q) = absurd (cc)
 
   pub few-times :
       {s e : ℕ} {x : ExprV} {k : Exponent} {seen : Seen ℕ} {count : Count} (before middle : List Placed) (p : Placed) → unit_of x ≡ None

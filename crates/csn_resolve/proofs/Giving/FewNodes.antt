@@ -20,7 +20,6 @@ use Rattle.csn_resolve.specs.Walk as walk
 use Rattle.csn_resolve.specs.Gives.{Placed, start_of, Gives, ItemsGive, EachGives, RuleGives, gives_lits, gives_null, gives_bit, gives_octet, gives_field, gives_rest, gives_spare_bit, gives_spare_low, gives_padding, gives_seq, gives_choice, gives_only, gives_times, gives_many, gives_cut, gives_window, gives_labelled, gives_name, gives_group, gives_received, gives_sent, items_end, items_next, each_end, each_next, rule_plain, rule_tail}
 use Rattle.csn_resolve.specs.Resolved.{ResolveSteps, asked_unknown, asked_rule, NameGives, AreRefusals, twice_steps}
 use Rattle.csn_resolve.proofs.Giving.Once.{same_tail}
-use Rattle.csn_resolve.proofs.Basics.Options.{no_none}
 use Rattle.csn_resolve.proofs.Basics.Windows.{only_is, left_window, right_window}
 use Rattle.csn_resolve.proofs.Walking.Quiet.{Quiet, first_of, rest_of, quiet_from, rest_empty, tail_quiet}
 use Rattle.csn_resolve.proofs.Basics.Bools.{no_both}
@@ -133,22 +132,22 @@ module _ (rules : RulesV) (r : Reading) where
     gives_few {a} (walk_field {s = s} {counts = counts} is c p) q (gives_field unit count at_unit at_count g) =
         node_few a s counts p g (omega arith)
     gives_few (walk_field is c p) q (gives_rest one g) = elim c [ ]
-    gives_few (walk_field is c p) q (gives_times count none at_count g given) = absurd (no_none is none)
+    gives_few (walk_field is c p) q (gives_times count none at_count g given) = absurd (cc)
     gives_few (walk_field is c p) q (gives_many other g given) = elim c [ ]
-    gives_few (walk_rest is p) q (gives_field unit count at_unit at_count g) = absurd (no_none at_count refl)
+    gives_few (walk_rest is p) q (gives_field unit count at_unit at_count g) = absurd (cc)
     gives_few {a} (walk_rest {s = s} is p) q (gives_rest one g) = leaf_few a s p g
-    gives_few (walk_rest is p) q (gives_times count none at_count g given) = absurd (no_none at_count refl)
+    gives_few (walk_rest is p) q (gives_times count none at_count g given) = absurd (cc)
     gives_few {a} (walk_rest {s = s} is p) q (gives_many other g given) = absurd (no_both is other)
-    gives_few (walk_times none c w l p) q (gives_field unit count at_unit at_count g) = absurd (no_none at_unit none)
+    gives_few (walk_times none c w l p) q (gives_field unit count at_unit at_count g) = absurd (cc)
     gives_few (walk_times none c w l p) q (gives_rest one g) = elim c [ ]
     gives_few {a} (walk_times {s = s} {counts = counts} {inner = inner} {left = left} none c w l p) q (gives_times {inner = part} count none' at_count g given) =
         let after = rest_of counts (inner ++ left) refl (rest_of (node_at a s) (counts ++ (inner ++ left)) p q) in
         node_few a s (counts ++ (inner ++ left)) p given
         (rest_few part counts (inner ++ left) (first_few part inner left (gives_few w (first_of inner left refl after) g)))
     gives_few (walk_times none c w l p) q (gives_many other g given) = elim c [ ]
-    gives_few (walk_many other w l p) q (gives_field unit count at_unit at_count g) = absurd (no_none at_count refl)
+    gives_few (walk_many other w l p) q (gives_field unit count at_unit at_count g) = absurd (cc)
     gives_few (walk_many other w l p) q (gives_rest one g) = absurd (no_both one other)
-    gives_few (walk_many other w l p) q (gives_times count none at_count g given) = absurd (no_none at_count refl)
+    gives_few (walk_many other w l p) q (gives_times count none at_count g given) = absurd (cc)
     gives_few {a} (walk_many {s = s} {inner = inner} {left = left} other w l p) q (gives_many {inner = part} other' g given) =
         let after = rest_of (node_at a s) (inner ++ left) p q in
         node_few a s (inner ++ left) p given (first_few part inner left (gives_few w (first_of inner left refl after) g))
@@ -244,8 +243,8 @@ module _ (rules : RulesV) (r : Reading) where
         {a : Around} {rule : Rule} {steps : List Step} {at : ℕ} {seen : Seen ℕ} {nodes : List Placed}
         → RuleWalk rules r a rule steps → Quiet steps → RuleGives rules r rule at seen nodes → length nodes ≤ begun steps
     rule_few (walk.rule_plain is w) q (rule_plain is' g) = gives_few w q g
-    rule_few (walk.rule_plain is w) q (rule_tail tail many stop parts turn_parts items turn is' i many_is t stop_is p) = absurd (no_none is' is)
-    rule_few (walk.rule_tail tail is i t l p) q (rule_plain is' g) = absurd (no_none is is')
+    rule_few (walk.rule_plain is w) q (rule_tail tail many stop parts turn_parts items turn is' i many_is t stop_is p) = absurd (cc)
+    rule_few (walk.rule_tail tail is i t l p) q (rule_plain is' g) = absurd (cc)
     rule_few {a} {rule} {at = at} {seen = seen} (walk.rule_tail {items = steps} {turn = turns} {left = left} tail is i t l p) q (rule_tail tail' many stop parts turn_parts items turn is' i' many_is t' stop_is p') =
         let same : tail' ≡ tail = same_tail rule is' is in
         let P : TailV → Type 0 = λ z. ItemsGive rules r z.items (suc at) [] seen parts items in

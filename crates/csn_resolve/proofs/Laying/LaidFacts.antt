@@ -29,7 +29,6 @@ use Rattle.csn_resolve.proofs.Laying.Holding.{Holds, holds_along, holds_from, ho
 use Rattle.csn_resolve.proofs.Naming.TailShaped.{tail_shaped, rule_shaped}
 use Rattle.csn_resolve.proofs.Laying.ShownFacts.{still_shown, behind_shown, FrameShown, item_shown, count_shown}
 use Rattle.csn_resolve.proofs.Laying.InsideFacts.{IsInside, braces_inside, name_inside, node_inside, turn_inside, more_inside}
-use Rattle.csn_resolve.proofs.Basics.Options.{no_none}
 use Rattle.csn_resolve.proofs.Basics.Windows.{only_is, unit_is, width_unit, left_window, right_window}
 use Rattle.csn_resolve.proofs.Laying.LaidParts.{laid_to, parts_to, parts_along, parts_append, node_laid, none_inside, one_inside, tail_laid}
 use Rattle.csn_resolve.proofs.Basics.Bools.{no_both}
@@ -75,15 +74,15 @@ module _ (all : List Node) (rules : RulesV) (r : Reading) where
           let counted = count_shown all rules r shown seen within.sees c (rest_of (node_at a s) counts p q) at_count in
           node_laid all (Field unit count) at s _ [] g h node.0 (unit_is x unit at_unit, counted) refl (none_inside all at)
       gives_laid (walk_field is c p) q shape (gives_rest one g) h within = elim c [ ]
-      gives_laid (walk_field is c p) q shape (gives_times count none at_count g given) h within = absurd (no_none is none)
+      gives_laid (walk_field is c p) q shape (gives_times count none at_count g given) h within = absurd (cc)
       gives_laid (walk_field is c p) q shape (gives_many other g given) h within = elim c [ ]
-      gives_laid (walk_rest is p) q shape (gives_field unit count at_unit at_count g) h within = absurd (no_none at_count refl)
+      gives_laid (walk_rest is p) q shape (gives_field unit count at_unit at_count g) h within = absurd (cc)
       gives_laid {at = at} (walk_rest {s = s} is p) q shape (gives_rest one g) h within =
           let node = node_inside all rules r s (quiet_along p q) within in
           node_laid all Rest at s _ [] g h node.0 tt refl (none_inside all at)
-      gives_laid (walk_rest is p) q shape (gives_times count none at_count g given) h within = absurd (no_none at_count refl)
+      gives_laid (walk_rest is p) q shape (gives_times count none at_count g given) h within = absurd (cc)
       gives_laid (walk_rest is p) q shape (gives_many other g given) h within = absurd (no_both is other)
-      gives_laid (walk_times none c w l p) q shape (gives_field unit count at_unit at_count g) h within = absurd (no_none at_unit none)
+      gives_laid (walk_times none c w l p) q shape (gives_field unit count at_unit at_count g) h within = absurd (cc)
       gives_laid (walk_times none c w l p) q shape (gives_rest one g) h within = elim c [ ]
       gives_laid {a} {at = at} {seen = seen} {shown = shown} (walk_times {s = s} {counts = counts} {inner = steps} {left = left} none c w l p) q shape (gives_times {inner = inner} count none' at_count g given) h within =
           let node = node_inside all rules r s (first_of (node_at a s) (counts ++ (steps ++ left)) p q) within in
@@ -92,9 +91,9 @@ module _ (all : List Node) (rules : RulesV) (r : Reading) where
           let part = gives_laid w (first_of steps left refl (rest_of counts (steps ++ left) refl after)) shape g (inner_holds all (Times count (suc at)) at s _ inner given h) node.1 in
           node_laid all (Times count (suc at)) at s _ inner given h node.0 counted refl (one_inside all at inner part)
       gives_laid (walk_times none c w l p) q shape (gives_many other g given) h within = elim c [ ]
-      gives_laid (walk_many other w l p) q shape (gives_field unit count at_unit at_count g) h within = absurd (no_none at_count refl)
+      gives_laid (walk_many other w l p) q shape (gives_field unit count at_unit at_count g) h within = absurd (cc)
       gives_laid (walk_many other w l p) q shape (gives_rest one g) h within = absurd (no_both one other)
-      gives_laid (walk_many other w l p) q shape (gives_times count none at_count g given) h within = absurd (no_none at_count refl)
+      gives_laid (walk_many other w l p) q shape (gives_times count none at_count g given) h within = absurd (cc)
       gives_laid {a} {at = at} (walk_many {s = s} {inner = steps} {left = left} other w l p) q shape (gives_many {inner = inner} other' g given) h within =
           let node = node_inside all rules r s (first_of (node_at a s) (steps ++ left) p q) within in
           let part = gives_laid w (first_of steps left refl (rest_of (node_at a s) (steps ++ left) p q)) shape g (inner_holds all (Many (suc at)) at s _ inner given h) node.1 in
@@ -223,8 +222,8 @@ module _ (all : List Node) (rules : RulesV) (r : Reading) where
           → RuleWalk rules r a rule steps → Quiet steps → IsShaped rule.body → RuleGives rules r rule at seen nodes
           → Holds all at nodes → IsInside all rules r a seen shown round → Laid all shown round at (at + length nodes)
       rule_laid (walk.rule_plain is w) q shape (rule_plain is' g) h within = gives_laid w q shape g h within
-      rule_laid (walk.rule_plain is w) q shape (rule_tail tail many stop parts turn_parts items turn is' i many_is t stop_is p) h within = absurd (no_none is' is)
-      rule_laid (walk.rule_tail tail is i t l p) q shape (rule_plain is' g) h within = absurd (no_none is is')
+      rule_laid (walk.rule_plain is w) q shape (rule_tail tail many stop parts turn_parts items turn is' i many_is t stop_is p) h within = absurd (cc)
+      rule_laid (walk.rule_tail tail is i t l p) q shape (rule_plain is' g) h within = absurd (cc)
       rule_laid {a} {rule} {at = at} {seen = seen} {shown = shown} {nodes = nodes} (walk.rule_tail {items = steps} {turn = turns} {left = left} tail is i t l p) q shape (rule_tail tail' many stop parts turn_parts items turn is' i' many_is t' stop_is p') h within =
           let same : tail' ≡ tail = same_tail rule is' is in
           let P : TailV → Type 0 = λ z. ItemsGive rules r z.items (suc at) [] seen parts items in
