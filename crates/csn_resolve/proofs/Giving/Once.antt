@@ -1,6 +1,7 @@
 -- What an expression gives is one list of nodes.
-use Rattle.std.proofs.Common.{◌≡◌, ℕ, suc, ◌+◌, ◌≤◌, List, [], ◌∷◌, length, refl, ap, subst, arith, Some}
+use Rattle.std.proofs.Common.{◌≡◌, ℕ, suc, ◌+◌, ◌≤◌, List, [], ◌∷◌, true, nat_eq, length, refl, sym, ◌∙◌, ap, subst, arith, codes, Some}
 use Rattle.csn_desc.specs.declared.reading.Reading.{Reading}
+use Rattle.csn_desc.specs.declared.reading.Reading.TheVariants.{Received, Sent}
 use Rattle.csn_desc.specs.Nodes.{DescV}
 use Rattle.csn_grammar.specs.declared.rules.Rule.{Rule}
 use Rattle.csn_grammar.specs.ExprV.{ExprV, ExprsV}
@@ -12,9 +13,11 @@ use Rattle.csn_grammar.proofs.VoidFacts.{no_rule, same_window, same_rule, kept_o
 use Rattle.csn_resolve.specs.Seen.{Frame, Seen}
 use Rattle.csn_resolve.specs.Resolved.{NameGives, IsResolved}
 use Rattle.csn_resolve.specs.Gives.{Placed, Gives, ItemsGive, EachGives, RuleGives, gives_lits, gives_null, gives_bit, gives_octet, gives_field, gives_rest, gives_spare_bit, gives_spare_low, gives_padding, gives_seq, gives_choice, gives_only, gives_times, gives_many, gives_cut, gives_window, gives_labelled, gives_name, gives_group, gives_received, gives_sent, items_end, items_next, each_end, each_next, rule_plain, rule_tail}
+use Rattle.csn_resolve.proofs.Basics.Bools.{no_both}
+use Rattle.csn_resolve.proofs.Basics.Options.{no_none, same_some}
 
 pub same_tail : (rule : Rule) {a b : TailV} → tail_of rule ≡ Some a → tail_of rule ≡ Some b → a ≡ b
-same_tail rule p q = cc
+same_tail rule p q = same_some p q
 
 pub not_two : {xs : List ExprV} {x : ExprV} → 2 ≤ length xs → xs ≡ x ∷ [] → ⊥
 not_two {xs} {x} two one = absurd (omega (arith, two, ap length one))
@@ -22,45 +25,58 @@ not_two {xs} {x} two one = absurd (omega (arith, two, ap length one))
 same_only : {x y : ExprV} → x ∷ [] ≡ y ∷ [] → x ≡ y
 same_only p = cc
 
+-- the names of spare parts differ in length
+bit_low : codes "spare bit" ≡ codes "spare L" → ⊥
+bit_low p = no_both {b = true} refl (ap (λ (z : List ℕ). nat_eq (length z) 9) p)
+
+bit_padding : codes "spare bit" ≡ codes "spare padding" → ⊥
+bit_padding p = no_both {b = true} refl (ap (λ (z : List ℕ). nat_eq (length z) 9) p)
+
+low_padding : codes "spare L" ≡ codes "spare padding" → ⊥
+low_padding p = no_both {b = true} refl (ap (λ (z : List ℕ). nat_eq (length z) 7) p)
+
+two_readings : {q : Reading} → q ≡ Received → q ≡ Sent → ⊥
+two_readings p q = cc
+
 module _ (rules : RulesV) (r : Reading) where
   mutual
     pub gives_once :
         {x : ExprV} {at bt : ℕ} {seen other : Seen ℕ} {nodes others : List Placed}
         → at ≡ bt → seen ≡ other → Gives rules r x at seen nodes → Gives rules r x bt other others
         → nodes ≡ others
-    gives_once e f (gives_lits p) (gives_lits q) = cc
-    gives_once e f (gives_null p) (gives_null q) = cc
-    gives_once e f (gives_bit p) (gives_bit q) = cc
-    gives_once e f (gives_octet p) (gives_octet q) = cc
+    gives_once e f (gives_lits p) (gives_lits q) = p ∙ sym q
+    gives_once e f (gives_null p) (gives_null q) = p ∙ sym q
+    gives_once e f (gives_bit p) (gives_bit q) = p ∙ sym q
+    gives_once e f (gives_octet p) (gives_octet q) = p ∙ sym q
     gives_once e f (gives_field u c at_unit at_count p) (gives_field v d bt_unit bt_count q) = cc
-    gives_once e f (gives_field u c at_unit at_count p) (gives_rest g q) = cc
-    gives_once e f (gives_field u c at_unit at_count p) (gives_times d none bt_count g q) = cc
-    gives_once e f (gives_field u c at_unit at_count p) (gives_many none g q) = cc
-    gives_once e f (gives_rest h p) (gives_field v d bt_unit bt_count q) = cc
-    gives_once e f (gives_rest h p) (gives_rest g q) = cc
-    gives_once e f (gives_rest h p) (gives_times d none bt_count g q) = cc
-    gives_once e f (gives_rest h p) (gives_many none g q) = cc
-    gives_once e f (gives_times c none at_count h p) (gives_field v d bt_unit bt_count q) = cc
-    gives_once e f (gives_times c none at_count h p) (gives_rest g q) = cc
+    gives_once e f (gives_field u c at_unit at_count p) (gives_rest g q) = absurd (no_none at_count refl)
+    gives_once e f (gives_field u c at_unit at_count p) (gives_times d none bt_count g q) = absurd (no_none at_unit none)
+    gives_once e f (gives_field u c at_unit at_count p) (gives_many none g q) = absurd (no_none at_count refl)
+    gives_once e f (gives_rest h p) (gives_field v d bt_unit bt_count q) = absurd (no_none bt_count refl)
+    gives_once e f (gives_rest h p) (gives_rest g q) = p ∙ sym q
+    gives_once e f (gives_rest h p) (gives_times d none bt_count g q) = absurd (no_none bt_count refl)
+    gives_once e f (gives_rest h p) (gives_many none g q) = absurd (no_both h none)
+    gives_once e f (gives_times c none at_count h p) (gives_field v d bt_unit bt_count q) = absurd (no_none bt_unit none)
+    gives_once e f (gives_times c none at_count h p) (gives_rest g q) = absurd (no_none at_count refl)
     gives_once e f (gives_times c none at_count h p) (gives_times d none' bt_count g q) =
         let inner = gives_once (ap suc e) f h g in cc
-    gives_once e f (gives_times c none at_count h p) (gives_many none' g q) = cc
-    gives_once e f (gives_many none h p) (gives_field v d bt_unit bt_count q) = cc
-    gives_once e f (gives_many none h p) (gives_rest g q) = cc
-    gives_once e f (gives_many none h p) (gives_times d none' bt_count g q) = cc
+    gives_once e f (gives_times c none at_count h p) (gives_many none' g q) = absurd (no_none at_count refl)
+    gives_once e f (gives_many none h p) (gives_field v d bt_unit bt_count q) = absurd (no_none bt_count refl)
+    gives_once e f (gives_many none h p) (gives_rest g q) = absurd (no_both g none)
+    gives_once e f (gives_many none h p) (gives_times d none' bt_count g q) = absurd (no_none bt_count refl)
     gives_once e f (gives_many none h p) (gives_many none' g q) =
         let inner = gives_once (ap suc e) f h g in cc
-    gives_once e f (gives_spare_bit h p) (gives_spare_bit g q) = cc
-    gives_once e f (gives_spare_bit h p) (gives_spare_low g q) = cc
-    gives_once e f (gives_spare_bit h p) (gives_padding g q) = cc
+    gives_once e f (gives_spare_bit h p) (gives_spare_bit g q) = p ∙ sym q
+    gives_once e f (gives_spare_bit h p) (gives_spare_low g q) = absurd (bit_low (sym h ∙ g))
+    gives_once e f (gives_spare_bit h p) (gives_padding g q) = absurd (bit_padding (sym h ∙ g))
     gives_once e f (gives_spare_bit {n = n} h p) (gives_name rule is g) = absurd (no_rule rules n rule (ap is_built_in h) is)
-    gives_once e f (gives_spare_low h p) (gives_spare_bit g q) = cc
-    gives_once e f (gives_spare_low h p) (gives_spare_low g q) = cc
-    gives_once e f (gives_spare_low h p) (gives_padding g q) = cc
+    gives_once e f (gives_spare_low h p) (gives_spare_bit g q) = absurd (bit_low (sym g ∙ h))
+    gives_once e f (gives_spare_low h p) (gives_spare_low g q) = p ∙ sym q
+    gives_once e f (gives_spare_low h p) (gives_padding g q) = absurd (low_padding (sym h ∙ g))
     gives_once e f (gives_spare_low {n = n} h p) (gives_name rule is g) = absurd (no_rule rules n rule (ap is_built_in h) is)
-    gives_once e f (gives_padding h p) (gives_spare_bit g q) = cc
-    gives_once e f (gives_padding h p) (gives_spare_low g q) = cc
-    gives_once e f (gives_padding h p) (gives_padding g q) = cc
+    gives_once e f (gives_padding h p) (gives_spare_bit g q) = absurd (bit_padding (sym g ∙ h))
+    gives_once e f (gives_padding h p) (gives_spare_low g q) = absurd (low_padding (sym g ∙ h))
+    gives_once e f (gives_padding h p) (gives_padding g q) = p ∙ sym q
     gives_once e f (gives_padding {n = n} h p) (gives_name rule is g) = absurd (no_rule rules n rule (ap is_built_in h) is)
     gives_once e f (gives_name {n = n} rule is h) (gives_spare_bit g q) = absurd (no_rule rules n rule (ap is_built_in g) is)
     gives_once e f (gives_name {n = n} rule is h) (gives_spare_low g q) = absurd (no_rule rules n rule (ap is_built_in g) is)
@@ -86,8 +102,8 @@ module _ (rules : RulesV) (r : Reading) where
     gives_once e f (gives_labelled h p) (gives_labelled g q) = let inner = gives_once (ap suc e) f h g in cc
     gives_once e f (gives_group h) (gives_group g) = gives_once e f h g
     gives_once e f (gives_received p h) (gives_received q g) = gives_once e f h g
-    gives_once e f (gives_received p h) (gives_sent q g) = cc
-    gives_once e f (gives_sent p h) (gives_received q g) = cc
+    gives_once e f (gives_received p h) (gives_sent q g) = absurd (two_readings p q)
+    gives_once e f (gives_sent p h) (gives_received q g) = absurd (two_readings q p)
     gives_once e f (gives_sent p h) (gives_sent q g) = gives_once e f h g
 
     pub items_once :
@@ -116,8 +132,8 @@ module _ (rules : RulesV) (r : Reading) where
         → at ≡ bt → seen ≡ other → RuleGives rules r rule at seen nodes → RuleGives rules r rule bt other others
         → nodes ≡ others
     rule_once e f (rule_plain is h) (rule_plain is' g) = gives_once e f h g
-    rule_once e f (rule_plain is h) (rule_tail tail many stop parts turn_parts items turn is' i m t s p) = cc
-    rule_once e f (rule_tail tail many stop parts turn_parts items turn is i m t s p) (rule_plain is' g) = cc
+    rule_once e f (rule_plain is h) (rule_tail tail many stop parts turn_parts items turn is' i m t s p) = absurd (no_none is' is)
+    rule_once e f (rule_tail tail many stop parts turn_parts items turn is i m t s p) (rule_plain is' g) = absurd (no_none is is')
     rule_once {rule = rule} {bt = bt} {other = other} e f (rule_tail tail many stop parts turn_parts items turn is i m t s p)
         (rule_tail tail' many' stop' parts' turn_parts' items' turn' is' i' m' t' s' p') =
         let same : tail' ≡ tail = same_tail rule is' is in
