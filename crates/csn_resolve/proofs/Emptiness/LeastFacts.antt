@@ -1,5 +1,5 @@
 -- The marked rules are those that pass: what is found with them passes, and what passes is found with them.
-use Rattle.std.proofs.Common.{◌≡◌, ℕ, zero, suc, ◌<◌, Bool, true, false, List, [], ◌∷◌, length, set, slice_get, Some, None, Option, refl, ◌∙◌, ap, subst, arith, codes, ◌⊎◌, inl, inr}
+use Rattle.std.proofs.Common.{◌≡◌, ℕ, zero, suc, ◌<◌, Bool, true, false, List, [], ◌∷◌, ◌++◌, length, set, slice_get, Some, None, Option, refl, ◌∙◌, ap, subst, arith, codes, ◌⊎◌, inl, inr}
 use Rattle.std.proofs.lemmas.Bool.{or_left, or_right, and_from}
 use Rattle.csn_desc.specs.declared.reading.Reading.{Reading}
 use Rattle.csn_grammar.specs.declared.rules.Rule.{Rule}
@@ -141,6 +141,14 @@ sound_more rules test marks at rule here passed sound k other is p = by (same_or
         let one : rule ≡ other = cc in
         let Q : Rule → Type 0 = λ z. Passes rules test z.body in subst Q one passed
     by (inr apart) = sound k other is (set_get marks at k p apart)
+
+-- where none is marked, none is with one more that is not
+pub none_more :
+    (marks : List Bool) → ((k : ℕ) → slice_get marks k ≡ Some true → ⊥) → (k : ℕ) → slice_get (marks ++ false ∷ []) k ≡ Some true → ⊥
+none_more [] none zero p = cc
+none_more [] none (suc k) p = cc
+none_more (b ∷ marks) none zero p = none zero p
+none_more (b ∷ marks) none (suc k) p = none_more marks (λ j q. none (suc j) q) k p
 
 pub none_sound : (rules : RulesV) (test : Test) (marks : List Bool) → ((k : ℕ) → slice_get marks k ≡ Some true → ⊥) → AreSound rules test marks
 none_sound rules test marks none k rule at p = absurd (none k p)

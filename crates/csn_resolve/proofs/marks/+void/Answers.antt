@@ -85,6 +85,20 @@ is_void-returns-in-Sent t c =
     let here = ap (λ (z : Reading). form_void z (marked c.args.names.now c.args.marks.now) (sends c.in-Sends.left.value c.in-Sends.right.value)) c.in-Sent.is in
     c.is_void-in-Sent.ensures ∙ (ap (is_void c.args.reading (marked c.args.names.now c.args.marks.now)) c.deref-in-Sent.ensures ∙ (taken ∙ (sym here ∙ ap (is_void c.args.reading (marked c.args.names.now c.args.marks.now)) (sym is))))
 
+pub is_void-is_void-requires-then-is_some : goal.is_void-is_void-requires-then-is_some
+is_void-is_void-requires-then-is_some t c =
+    let is = known c.args.x.now c.x.inside.span c.x.inside.form _ c.x.view_is c.in-Both.is in
+    let size : expr_size c.args.x.now ≡ max (expr_size c.in-Both.left.value) (expr_size c.in-Both.right.value) + 1 = ap expr_size is in
+    let same : expr_size c.deref-then-is_some.result.now ≡ expr_size c.in-Both.right.value = ap expr_size c.deref-then-is_some.ensures in
+    (omega (arith, size, same, c.decreases), c.requires)
+
+pub is_void-is_void-requires-then-is_some-2 : goal.is_void-is_void-requires-then-is_some-2
+is_void-is_void-requires-then-is_some-2 t c =
+    let is = known c.args.x.now c.x.inside.span c.x.inside.form _ c.x.view_is c.in-Both.is in
+    let size : expr_size c.args.x.now ≡ max (expr_size c.in-Both.left.value) (expr_size c.in-Both.right.value) + 1 = ap expr_size is in
+    let same : expr_size c.deref-then-is_some-2.result.now ≡ expr_size c.in-Both.left.value = ap expr_size c.deref-then-is_some-2.ensures in
+    (omega (arith, size, same, c.decreases), c.requires)
+
 pub some_void-is_void-requires : goal.some_void-is_void-requires
 some_void-is_void-requires t c =
     (omega (arith, item_size c.args.items.now c.loop-at.at c.get.result.now c.get.ensures, c.decreases), search rules)

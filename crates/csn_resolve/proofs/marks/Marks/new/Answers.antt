@@ -1,0 +1,36 @@
+use Rattle.std.proofs.Common.{◌≡◌, ◌++◌, ◌∷◌, [], ℕ, Bool, true, false, List, Some, length, length-append, slice_get, sym, ◌∙◌, ap, arith}
+use Rattle.csn_resolve.proofs.Basics.Options.{no_none}
+use Rattle.csn_resolve.proofs.Emptiness.LeastFacts.{none_more, none_sound}
+use Rattle.csn_resolve.proofs.marks.Marks.new.Goals as goal
+
+pub loop-init : goal.loop-init
+loop-init c =
+    (ap length c.new-marks.ensures.items, λ k p. no_none p (ap (λ l. slice_get l k) c.new-marks.ensures.items))
+
+pub loop-2-init : goal.loop-2-init
+loop-2-init c = (
+  omega (arith, c.loop.invariant.0, c.loop-test.false, c.loop.auto.counter-end, c.len-end.ensures),
+  none_sound c.args.names.now c.args.test c.loop.marks.items c.loop.invariant.1,
+)
+
+pub loop-2-preserved : goal.loop-2-preserved
+loop-2-preserved c = (c.ask_all.ensures.len, c.ask_all.ensures.sound c.loop-2.invariant.1)
+
+pub loop-2-smaller : goal.loop-2-smaller
+loop-2-smaller c = c.ask_all.ensures.more c.loop-2-test.true
+
+pub loop-preserved : goal.loop-preserved
+loop-preserved c =
+    let pushed : c.push.new.self.items ≡ c.loop.marks.items ++ false ∷ [] = c.in_ok-push.ensures.items in
+    let long = ap length pushed ∙ length-append c.loop.marks.items (false ∷ []) in (
+      omega (arith, long, c.loop.invariant.0),
+      λ k p. none_more c.loop.marks.items c.loop.invariant.1 k (sym (ap (λ l. slice_get l k) pushed) ∙ p),
+    )
+
+pub invariant_of-result : goal.invariant_of-result
+invariant_of-result c =
+    record {
+      long = c.ask_all.ensures.len;
+      sound = c.ask_all.ensures.sound c.loop-2.invariant.1;
+      closed = c.ask_all.ensures.closed c.loop-2-test.false;
+    }
