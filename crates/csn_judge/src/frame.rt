@@ -1,7 +1,7 @@
 use crate::leaf::Leaf;
 
 /// A node and what is still to come of it.
-#[derive(Clone, Copy, Debug, PartialEq, Eq)]
+#[derive(Clone, Copy)]
 pub(crate) enum Frame {
     /// All of it: it begins next.
     Begin {
@@ -60,7 +60,7 @@ pub(crate) enum Frame {
 }
 
 /// A labelled field that counts stand on, with the number that its bits so far write and how many are left.
-#[derive(Clone, Copy, Debug, PartialEq, Eq)]
+#[derive(Clone, Copy)]
 pub(crate) struct Counted {
     /// The node of the label.
     pub node: u16,

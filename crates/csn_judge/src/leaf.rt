@@ -17,7 +17,7 @@ use crate::track::Track;
 use csn_desc::{Move, Node, Reading, Symbol};
 
 /// What is still to come of a node without parts.
-#[derive(Clone, Copy, Debug, PartialEq, Eq)]
+#[derive(Clone, Copy)]
 pub(crate) enum Leaf {
     /// The symbols of a literal from the place `at` on.
     Lits { at: u32 },
@@ -32,7 +32,7 @@ pub(crate) enum Leaf {
 }
 
 /// What comes of reading a leaf.
-#[derive(Clone, Copy, Debug, PartialEq, Eq)]
+#[derive(Clone, Copy)]
 pub(crate) enum Read {
     /// It has ended.
     All,

@@ -2,7 +2,7 @@ ghost use Rattle.std.specs.Prelude.{◌≡◌, ◌+◌, ◌<◌, ◌||◌, nat_l
 
 /// How far the nodes have been gone through since the last bit. Between two bits they begin by rising number,
 /// but for one time, where a repetition begins a turn again: so the steps have a bound.
-#[derive(Clone, Copy, Debug, PartialEq, Eq)]
+#[derive(Clone, Copy)]
 pub(crate) struct Pace {
     /// The number behind the node that began last.
     next: u16,

@@ -12,7 +12,7 @@ use std::marker::Model;
 pub(crate) const MOST_RUN: u32 = 56;
 
 /// Bits that are held ready: the last `count` bits of the number.
-#[derive(Clone, Copy, Debug, PartialEq, Eq)]
+#[derive(Clone, Copy)]
 pub(crate) struct Held {
     pub number: u64,
     pub count: u32,

@@ -1,7 +1,7 @@
 use crate::source::Source;
 
 /// What comes of one turn of the machine.
-#[derive(Clone, Copy, Debug, PartialEq, Eq)]
+#[derive(Clone, Copy)]
 pub(crate) enum Turn {
     /// It has gone on.
     Moved,
@@ -12,7 +12,7 @@ pub(crate) enum Turn {
 }
 
 /// What comes of a part that is read at once, where another frame may stand behind it.
-#[derive(Clone, Copy, Debug, PartialEq, Eq)]
+#[derive(Clone, Copy)]
 pub(crate) enum PartTurn {
     /// It has ended, and what stands behind it goes on.
     Ended,
@@ -21,7 +21,7 @@ pub(crate) enum PartTurn {
 }
 
 /// What comes of one turn in which a node may begin.
-#[derive(Clone, Copy, Debug, PartialEq, Eq)]
+#[derive(Clone, Copy)]
 pub(crate) enum Next {
     /// This node begins next.
     Begin { node: u16 },
