@@ -38,6 +38,9 @@ pub mod Choosing
 pub mod Verdicts
 pub mod TurningParts
 pub mod TurningOn
+mod Popping
+mod PayingEntry
+mod PayingWaits
 pub mod GoingOn
 pub mod PayingParts
 pub mod JudgingFacts

@@ -55,6 +55,12 @@ module _ (d : DescV) where
   trunc_stands (shows_cut at seen kept count_is round) = stands_cut _ _ _ refl at refl seen kept count_is round
   trunc_stands (shows_lead parts has kept round) = stands_lead _ _ _ _ _ parts refl has kept round
 
+  -- it is a truncation
+  pub trunc_at : {k next count : ℕ} {frames : List Frame} {values : List Number} {stack : List Left} {done : List ℕ}
+      → Shows d (frame.Trunc k next count ∷ frames) values stack done → (parts : List ℕ) × (slice_get d.nodes k ≡ Some (Trunc parts))
+  trunc_at (shows_cut at seen kept count_is round) = (_, at)
+  trunc_at (shows_lead parts has kept round) = (parts, has.at)
+
   -- ---- components begin
 
   pub first_stack : {j : ℕ} {ps : List ℕ} {v : Values} {outer : List Left} {done : List ℕ} (pace : Pace) → Known d

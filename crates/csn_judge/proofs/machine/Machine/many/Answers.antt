@@ -10,6 +10,7 @@ use Rattle.csn_judge.specs.Left.{Left}
 use Rattle.csn_judge.specs.Inside.{IsStack}
 use Rattle.csn_judge.specs.Turns.{fresh_at}
 use Rattle.csn_judge.proofs.Paying.{begun_pays_on, left_pays_on, free_goes_back}
+use Rattle.csn_judge.proofs.PayingWaits.{waits_pay}
 use Rattle.csn_judge.proofs.Turning.{room, round_length, begun_within, pushed, GoesOn-along, items_room}
 use Rattle.csn_judge.proofs.Stacks.{of_begun}
 use Rattle.csn_judge.proofs.TurningSame.{goes_since, stands_on, waits_unready}
@@ -97,3 +98,25 @@ returns-in-Take-clause-pays g c =
     let stack = subst (λ (l : List Left). IsStack d c.args.self.now.pace.next (fresh_at c.args.self.now.pace (length c.requires.done)) l c.requires.done) k.is c.requires.stands.stack_is in
     begun_pays_on c.args.steps.now 1 (frame.Many c.args.i c.args.part) _ (ap (λ (l : List ℕ). length l) c.ready-ready.ensures.same.bits) (ap (λ (l : List Frame). frame.Begin c.args.part ∷ l) c.begin.ensures.frames) c.begin.ensures.pace c.pick.ensures.step
     (begun_within d (of_begun d (free_begins d c.args.self.now.pace c.requires.known stack))) (free_goes_back d c.args.self.now.pace c.requires.known stack) (omega arith) (omega arith)
+
+pub pick-requires-clause-few : goal.pick-requires-clause-few
+pick-requires-clause-few g c = omega (arith, c.ready-ready.ensures.count)
+
+pub pick-requires-clause-held : goal.pick-requires-clause-held
+pick-requires-clause-held g c = omega (arith, c.ready-ready.ensures.count, c.ready-ready.ensures.held)
+
+pub returns-then-not-is_closed-clause-pays : goal.returns-then-not-is_closed-clause-pays
+returns-then-not-is_closed-clause-pays g c =
+    waits_pay (length c.args.self.now.plan.now.nodes) c.args.steps.now c.args.steps.now 0 (frame.Many c.args.i c.args.part) (reverse c.args.self.now.frames.items) c.args.self.now.pace (length c.args.source.now.bits) (pushed c.args.self.now.frames.items (frame.Many c.args.i c.args.part) c.push.ensures.items) (ap (λ (l : List ℕ). length l) c.ready-ready.ensures.same.bits) (omega arith) (omega arith) (omega arith)
+
+pub returns-then-not-is_closed-clause-waits : goal.returns-then-not-is_closed-clause-waits
+returns-then-not-is_closed-clause-waits g c = λ waits. omega arith
+
+pub returns-then-not-is_closed-clause-plan : goal.returns-then-not-is_closed-clause-plan
+returns-then-not-is_closed-clause-plan g c = refl
+
+pub returns-in-Take-clause-waits : goal.returns-in-Take-clause-waits
+returns-in-Take-clause-waits g c = λ waits. absurd (cc)
+
+pub returns-in-Take-clause-plan : goal.returns-in-Take-clause-plan
+returns-in-Take-clause-plan g c = c.begin.ensures.plan

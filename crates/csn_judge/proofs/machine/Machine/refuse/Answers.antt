@@ -1,9 +1,10 @@
-use Rattle.std.proofs.Common.{◌+◌, lit<, ◌%◌, reverse, sym, ap, subst}
+use Rattle.std.proofs.Common.{◌+◌, lit<, ◌%◌, length, reverse, refl, sym, ap, subst, arith}
 use Rattle.std.proofs.lemmas.Option.{slice_get_within}
 use Rattle.csn_desc.specs.Nodes.{DescV}
 use Rattle.csn_certify.specs.Picks.{IsAsked}
 use Rattle.csn_judge.specs.declared.frame.Frame.TheVariants as frame
 use Rattle.csn_judge.specs.Turns.{tells_nothing}
+use Rattle.csn_judge.proofs.PayingWaits.{stopped_pay}
 use Rattle.csn_judge.proofs.Turning.{pushed, stays, items_room}
 use Rattle.csn_judge.proofs.TurningChoices.{open_stands, open_asked, stops_open, refuses_open}
 use Rattle.csn_judge.proofs.machine.Machine.refuse.Goals as goal
@@ -35,3 +36,10 @@ returns-clause-turns g c =
     refuses_open d tells_nothing tt c.args.self.now.values.items c.args.self.now.pace c.args.source.now _ (c.place.result + c.followed-count.result) c.args.ready c.followed-count.result
     c.requires.ready c.followed-count.ensures.less (ap (λ n. n + c.followed-count.result) c.place.ensures.place)
     c.followed-count.ensures.refused c.followed-count.ensures.followed c.requires.stands.known
+
+pub returns-then-ready-eq0-clause-pays : goal.returns-then-ready-eq0-clause-pays
+returns-then-ready-eq0-clause-pays g c =
+    stopped_pay (length c.args.self.now.plan.now.nodes) c.args.steps.now (c.args.steps.now + 2) 2 (frame.Open c.args.i) (reverse c.args.self.now.frames.items) c.args.self.now.pace (length c.args.source.now.bits) c.args.source.now c.stopped.result (pushed c.args.self.now.frames.items (frame.Open c.args.i) c.push.ensures.items) (omega arith) (omega arith) (omega arith) c.stopped.ensures
+
+pub returns-then-ready-eq0-clause-plan : goal.returns-then-ready-eq0-clause-plan
+returns-then-ready-eq0-clause-plan g c = refl

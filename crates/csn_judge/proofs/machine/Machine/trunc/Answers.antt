@@ -1,17 +1,20 @@
-use Rattle.std.proofs.Common.{inl, inr, ℕ, List, lit<, ◌≤◌, ◌≡◌, ◌∷◌, [], ◌⊎◌, true, length, reverse, refl, sym, ap, subst, ◌∙◌, arith, Some}
+use Rattle.std.proofs.Common.{inl, inr, ℕ, ◌+◌, List, lit<, ◌≤◌, ◌≡◌, ◌∷◌, [], ◌⊎◌, true, length, reverse, refl, sym, ap, subst, ◌∙◌, arith, Some}
 use Rattle.std.proofs.lemmas.List.{length-reverse}
+use Rattle.std.proofs.lemmas.Option.{slice_get_within}
 use Rattle.csn_desc.specs.Nodes.{DescV}
 use Rattle.csn_desc.specs.declared.moves.Move.TheVariants.{Leave}
 use Rattle.csn_desc.specs.declared.node.Node.{Node}
+use Rattle.csn_desc.specs.declared.node.Node.TheVariants.{Trunc}
 use Rattle.csn_judge.specs.declared.frame.Frame.{Frame}
 use Rattle.csn_judge.specs.declared.frame.Frame.TheVariants as frame
 use Rattle.csn_judge.specs.Coming.{Coming}
 use Rattle.csn_judge.proofs.Rooms.{first_of, unready}
-use Rattle.csn_judge.proofs.Paying.{begun_pays_on}
+use Rattle.csn_judge.proofs.Paying.{begun_pays_on, left_pays_on}
 use Rattle.csn_judge.proofs.PayingParts.{component_rises}
+use Rattle.csn_judge.proofs.PayingWaits.{waits_pay}
 use Rattle.csn_judge.proofs.Turning.{pushed, GoesOn-along, items_room}
 use Rattle.csn_judge.proofs.TurningSame.{goes_since, stands_on, waits_unready}
-use Rattle.csn_judge.proofs.TurningTruncs.{begins_component, leaves_truncation, component_begins}
+use Rattle.csn_judge.proofs.TurningTruncs.{trunc_at, begins_component, leaves_truncation, component_begins}
 use Rattle.csn_judge.proofs.machine.Machine.trunc.Goals.{else-ready-eq0-via-then-ready-eq0+then-at-len+else-not-is_closed, else-ready-eq0-via-then-ready-eq0+else-at-len, else-ready-eq0-via-else-ready-eq0, then-ready-eq0-2-via-then-ready-eq0-2, then-ready-eq0-2-via-else-ready-eq0-2+then-at-len-2}
 use Rattle.csn_judge.proofs.machine.Machine.trunc.Goals as goal
 
@@ -82,3 +85,39 @@ returns-clause-pays g c =
     let rises = component_rises d c.args.self.now.pace c.in-Trunc.parts (c.node-node.ensures.node ∙ ap (λ n. Some n) c.in-Trunc.is) c.get-part.ensures c.requires.known c.requires.stands.shows c.requires.stands.stack_is in
     begun_pays_on c.args.steps.now 1 (frame.Trunc c.args.i c.args.at c.args.values) _ (ap (λ (l : List ℕ). length l) c.ready-ready.ensures.same.bits) (ap (λ (l : List Frame). frame.Begin c.get-part.result ∷ l) c.begin.ensures.frames) c.begin.ensures.pace c.node-node.ensures.step
     rises.is_node (inl rises.rises) (omega arith) (omega arith)
+
+pub node-node-requires : goal.node-node-requires
+node-node-requires g c = slice_get_within _ _ _ (trunc_at c.args.self.now.plan.now c.requires.stands.shows).1
+
+pub unreachable-requires : goal.unreachable-requires
+unreachable-requires g c =
+    let found = trunc_at c.args.self.now.plan.now c.requires.stands.shows in
+    let at = found.1 in
+    let there = c.node-node.ensures.node in
+    let same : c.node-node.result.now ≡ Trunc found.0 = cc in
+    c.in_default.not-Trunc found.0 same
+
+pub returns-then-not-is_closed-clause-pays : goal.returns-then-not-is_closed-clause-pays
+returns-then-not-is_closed-clause-pays g c =
+    waits_pay (length c.args.self.now.plan.now.nodes) c.args.steps.now c.node-node.new.steps 1 (frame.Trunc c.args.i c.args.at c.args.values) (reverse c.args.self.now.frames.items) c.args.self.now.pace (length c.args.source.now.bits) (pushed c.args.self.now.frames.items (frame.Trunc c.args.i c.args.at c.args.values) c.push.ensures.items) (ap (λ (l : List ℕ). length l) c.ready-ready.ensures.same.bits) (omega (arith, c.node-node.ensures.step)) (omega arith) (omega arith)
+
+pub returns-then-not-is_closed-clause-waits : goal.returns-then-not-is_closed-clause-waits
+returns-then-not-is_closed-clause-waits g c = λ waits. omega (arith, c.node-node.ensures.step)
+
+pub returns-then-not-is_closed-clause-plan : goal.returns-then-not-is_closed-clause-plan
+returns-then-not-is_closed-clause-plan g c = refl
+
+pub returns-then-ready-eq0-2-clause-pays : goal.returns-then-ready-eq0-2-clause-pays
+returns-then-ready-eq0-2-clause-pays g c = left_pays_on (length c.args.self.now.plan.now.nodes) c.args.steps.now (length c.args.source.now.bits) 1 (frame.Trunc c.args.i c.args.at c.args.values) (ap (λ (l : List ℕ). length l) c.ready-ready.ensures.same.bits) refl refl c.node-node.ensures.step (omega arith) (omega arith)
+
+pub returns-then-ready-eq0-2-clause-waits : goal.returns-then-ready-eq0-2-clause-waits
+returns-then-ready-eq0-2-clause-waits g c = λ waits. absurd (cc)
+
+pub returns-then-ready-eq0-2-clause-plan : goal.returns-then-ready-eq0-2-clause-plan
+returns-then-ready-eq0-2-clause-plan g c = refl
+
+pub returns-clause-waits : goal.returns-clause-waits
+returns-clause-waits g c = λ waits. absurd (cc)
+
+pub returns-clause-plan : goal.returns-clause-plan
+returns-clause-plan g c = c.begin.ensures.plan
