@@ -1,6 +1,6 @@
 -- A decoder between two pieces of a block, and at its end.
 use Rattle.std.proofs.Common.{◌≡◌, ℕ, Bool, List, [], ◌++◌, refl, sym, ap, subst, ◌∙◌, Option, Some, None}
-use Rattle.std.specs.Prelude.{Ok, Err}
+use Rattle.std.specs.Prelude.{Result, Ok, Err, IfOk, IfErr}
 use Rattle.csn_desc.specs.declared.moves.Move.{Move}
 use Rattle.csn_desc.specs.Nodes.{DescV}
 use Rattle.csn_desc.specs.TreeV.{TreeV}
@@ -15,6 +15,7 @@ use Rattle.csn_judge.specs.declared.verdict.Judged.TheVariants as judged
 use Rattle.csn_judge.specs.declared.fed.Fed.TheVariants.{Going}
 use Rattle.csn_judge.specs.Following.{answer_of, comes_on, comes_no_more}
 use Rattle.csn_judge.proofs.FollowingFacts as following
+use Rattle.csn_decode.specs.declared.verdict.DecodeFault.{DecodeFault}
 use Rattle.csn_decode.specs.declared.verdict.DecodeFault.TheVariants as fault
 use Rattle.csn_decode.specs.Built.{BuiltV, nothing, given, Makes, whole_of}
 use Rattle.csn_decode.specs.Decoding.{stands, IsTold, DecodesFor, Decodes, Ends}
@@ -60,3 +61,10 @@ ends_tree j before after tree is one judges root b (comes_on moves going for tol
     let P : TreeV → Type 0 = λ t. NMeans j.desc 0 0 [] b t in
     let means = subst P same string.block.means in
     record { means = means; only = λ other there. one b other tree there means }
+
+-- the tree that a track has made, if there was memory for it
+pub ends_made : (j : JudgeV) (before after : Option BuiltV) (result : Result TreeV DecodeFault) → IsDescription j.desc → HasOneTree j.desc
+    → JudgeEnds (λ around made. Tells j.desc Makes (opened j) made around before after) j judged.Ok → IfOk result (λ tree. whole_of after ≡ Some tree) → IfErr result (λ why. why ≡ fault.NoMemory)
+    → Ends (stands j before Going) result
+ends_made j before after (Ok tree) is one judges made wanting = ends_tree j before after tree is one judges made
+ends_made j before after (Err why) is one judges made wanting = subst (λ (f : DecodeFault). Ends (stands j before Going) (Err f)) (sym wanting) (ends_wanting j before after judges)

@@ -1,6 +1,6 @@
-ghost use Rattle.std.specs.Prelude.{◌≡◌, ◌<◌, ◌≤◌, OnOk, OnErr, IfSome};
+ghost use Rattle.std.specs.Prelude.{◌≡◌, ◌<◌, ◌≤◌, OnOk, OnErr, IfOk, IfSome};
 ghost use Rattle.csn_bits.specs.Numbers.{low_bits};
-ghost use Rattle.csn_decode.specs.Built.{nothing, is_literal, has_bits, with_node, entered, took_all, Leaves, Grows, given};
+ghost use Rattle.csn_decode.specs.Built.{nothing, is_literal, has_bits, with_node, entered, took_all, bits_left, IsTree, Leaves, Grows, given};
 
 use crate::open::{Inside, Open};
 use csn_bits::{MOST_ADDED, NoMemory, PackedBits};
@@ -94,12 +94,20 @@ impl Builder {
         else {
             return Err(NoMemory);
         };
-        if has_bits(node) {
-            let shape = Shape::Bits(self.bits.take(self.alloc)?);
-            return self.give(number, Tree { shape });
-        }
-        let tree = inside.tree(self.alloc, node)?;
+        let tree = self.tree_of(inside, node)?;
         self.give(number, tree)
+    }
+
+    /// The tree of a node that ends, from the trees of its parts or its bits.
+    fn tree_of(&mut self, inside: Inside, node: &Node) -> Result<Tree, NoMemory>
+        ensures tree { IfOk result (λ tree. IsTree node.now inside self.old.bits tree) }
+        ensures behind { OnOk result (self.new ≡ bits_left node.now self.old) }
+    {
+        if !has_bits(node) {
+            return inside.tree(self.alloc, node);
+        }
+        let shape = Shape::Bits(self.bits.take(self.alloc)?);
+        Ok(Tree { shape })
     }
 
     /// The tree of a node that has ended goes to the node that it is in.
@@ -110,13 +118,8 @@ impl Builder {
             self.whole = Some(tree);
             return Ok(());
         };
-        let inside = around.inside.with(node, tree)?;
-        Ok(
-            self.nodes.push(Open {
-                node: around.node,
-                inside,
-            })?,
-        )
+        let around = around.with(node, tree)?;
+        Ok(self.nodes.push(around)?)
     }
 
     /// The innermost node, which is no longer among the open ones.

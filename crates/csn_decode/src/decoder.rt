@@ -1,5 +1,6 @@
-ghost use Rattle.std.specs.Prelude.{◌≡◌, ℕ, ◌+◌, ◌*◌, ◌≤◌, [], length, take, Err};
+ghost use Rattle.std.specs.Prelude.{◌≡◌, ℕ, ◌+◌, ◌*◌, ◌≤◌, [], length, take, Some, Err, IfOk, IfErr};
 ghost use Rattle.csn_bits.specs.Octets.{bits_of_octets};
+ghost use Rattle.csn_decode.specs.Built.{whole_of};
 ghost use Rattle.csn_decode.specs.Decoding.{DecodesFor, credit, Decodes, Ends};
 
 use crate::track::TreeTrack;
@@ -91,22 +92,30 @@ impl<'a> Decoder<'a> {
         ensures steps { steps.new ≤ steps.old + credit self.entry }
     {
         csn_desc::laws::strings_are_followed();
-        let Decoder {
-            judge,
-            mut track,
-            answer,
-        } = self;
-        match answer {
+        match self.answer {
             Fed::Going => {}
             Fed::Refused { place } => return Err(DecodeFault::Refused { place }),
             Fed::NoMemory => return Err(DecodeFault::NoMemory),
         }
+        let Decoder {
+            judge,
+            mut track,
+            ..
+        } = self;
         match judge.finish_to(&mut track, steps) {
-            Judged::Ok => match track.finish() {
-                Some(tree) => Ok(tree),
-                None => Err(DecodeFault::NoMemory),
-            },
+            Judged::Ok => tree_of(track),
             Judged::Refused { place } => Err(DecodeFault::Refused { place }),
         }
+    }
+}
+
+// The tree that a track has made, if there was memory for it.
+fn tree_of(track: TreeTrack) -> Result<Tree, DecodeFault>
+    ensures ok { IfOk result (λ tree. whole_of track ≡ Some tree) }
+    ensures err { IfErr result (λ fault. fault ≡ DecodeFault.NoMemory) }
+{
+    match track.finish() {
+        Some(tree) => Ok(tree),
+        None => Err(DecodeFault::NoMemory),
     }
 }

@@ -1,6 +1,9 @@
+ghost use Rattle.std.specs.Prelude.{◌≡◌, ℕ, List, [], ◌∷◌, ◌++◌, slice_get, Some, IfOk};
+ghost use Rattle.csn_desc.specs.TreeV.{alt, named};
+
 use crate::alternative::place_of;
 use csn_bits::NoMemory;
-use csn_desc::{MOST_TREES, Node, Rows, Shape, Tree};
+use csn_desc::{Label, MOST_TREES, Node, Parts, Rows, Shape, Tree};
 use std::alloc::Global;
 
 /// A node that has begun and not ended.
@@ -28,8 +31,22 @@ pub(crate) struct Ended {
     pub tree: Tree,
 }
 
+impl Open {
+    ghost use Rattle.csn_decode.specs.Built.{with_part};
+
+    /// With the tree of one more part.
+    pub fn with(self, node: u16, tree: Tree) -> Result<Open, NoMemory>
+        ensures { IfOk result (λ last. last ≡ record { node = self.node; inside = with_part node tree self.inside }) }
+    {
+        let inside = self.inside.with(node, tree)?;
+        Ok(Open {
+            node: self.node,
+            inside,
+        })
+    }
+}
+
 impl Inside {
-    ghost use Rattle.std.specs.Prelude.{◌≡◌, ℕ, List, Some, IfOk};
     ghost use Rattle.csn_decode.specs.Built.{begun, with_part, IsTree};
     ghost use Rattle.csn_decode.specs.declared.open.Inside.TheVariants as inside;
 
@@ -57,12 +74,7 @@ impl Inside {
     {
         match self {
             Inside::Leaf => Err(NoMemory),
-            Inside::Row(mut rows) => {
-                if rows.len() >= MOST_TREES || rows.push(tree).is_err() {
-                    return Err(NoMemory);
-                }
-                Ok(Inside::Row(rows))
-            }
+            Inside::Row(rows) => Ok(Inside::Row(with_tree(rows, tree)?)),
             Inside::Part(_) => Ok(Inside::Part(Some(Ended { node, tree }))),
         }
     }
@@ -71,26 +83,19 @@ impl Inside {
     pub fn tree(self, alloc: Global, node: &Node) -> Result<Tree, NoMemory>
         ensures { IfOk result (λ tree. (bits : List ℕ) → IsTree node.now self bits tree) }
     {
-        let shape = match node {
-            Node::Lits(_) | Node::Null => Shape::Empty,
+        match node {
+            Node::Lits(_) | Node::Null => Ok(Tree {
+                shape: Shape::Empty,
+            }),
             Node::Seq(_) | Node::Times { .. } | Node::Many(_) | Node::Trunc(_) => {
-                Shape::Row(self.row()?)
+                let shape = Shape::Row(self.row()?);
+                Ok(Tree { shape })
             }
-            Node::Choice(parts) => {
-                let part = self.part()?;
-                let Some(at) = place_of(parts, part.node) else {
-                    return Err(NoMemory);
-                };
-                Shape::Alt(at, Box::new(alloc, part.tree)?)
-            }
-            Node::Named { label, .. } => {
-                let part = self.part()?;
-                Shape::Named(label.copy(alloc)?, Box::new(alloc, part.tree)?)
-            }
-            Node::Window { .. } => return Ok(self.part()?.tree),
-            Node::Spare(_) | Node::Pad | Node::Field { .. } | Node::Rest => return Err(NoMemory),
-        };
-        Ok(Tree { shape })
+            Node::Choice(parts) => alternative(alloc, parts, self.part()?),
+            Node::Named { label, .. } => labelled(alloc, label, self.part()?),
+            Node::Window { .. } => Ok(self.part()?.tree),
+            Node::Spare(_) | Node::Pad | Node::Field { .. } | Node::Rest => Err(NoMemory),
+        }
     }
 
     /// The trees of a row.
@@ -112,4 +117,34 @@ impl Inside {
             _ => Err(NoMemory),
         }
     }
+}
+
+// The trees of a row with one more.
+fn with_tree(mut rows: Rows, tree: Tree) -> Result<Rows, NoMemory>
+    ensures { IfOk result (λ more. more ≡ rows ++ tree ∷ []) }
+{
+    if rows.len() >= MOST_TREES || rows.push(tree).is_err() {
+        return Err(NoMemory);
+    }
+    Ok(rows)
+}
+
+// The tree of a choice whose alternative has ended.
+fn alternative(alloc: Global, parts: &Parts, part: Ended) -> Result<Tree, NoMemory>
+    ensures { IfOk result (λ tree. (at : ℕ) × (slice_get parts.now at ≡ Some part.node) × (tree ≡ alt at part.tree)) }
+{
+    let Some(at) = place_of(parts, part.node) else {
+        return Err(NoMemory);
+    };
+    let shape = Shape::Alt(at, Box::new(alloc, part.tree)?);
+    Ok(Tree { shape })
+}
+
+// The tree of a label whose part has ended.
+fn labelled(alloc: Global, label: &Label, part: Ended) -> Result<Tree, NoMemory>
+    ensures { IfOk result (λ tree. tree ≡ named label.now part.tree) }
+{
+    let label = label.copy(alloc)?;
+    let shape = Shape::Named(label, Box::new(alloc, part.tree)?);
+    Ok(Tree { shape })
 }

@@ -1,11 +1,11 @@
-use Rattle.std.proofs.Common.{Ok, Err, sym, subst, ap, ◌∙◌}
+use Rattle.std.proofs.Common.{Err, sym, subst, ap, ◌∙◌}
 use Rattle.csn_judge.specs.Judging.{JudgeV, opened}
 use Rattle.csn_judge.specs.Told.{Tells}
 use Rattle.csn_judge.proofs.FollowingFacts.{ends_refused, ends_none}
-use Rattle.csn_decode.specs.declared.verdict.DecodeFault.TheVariants.{Refused, NoMemory}
+use Rattle.csn_decode.specs.declared.verdict.DecodeFault.TheVariants.{Refused}
 use Rattle.csn_decode.specs.Built.{Makes}
 use Rattle.csn_decode.specs.Decoding.{DecoderV, stands, IsTold, Ends}
-use Rattle.csn_decode.proofs.DecodingFacts.{ends_wanting, ends_tree}
+use Rattle.csn_decode.proofs.DecodingFacts.{ends_made}
 use Rattle.csn_decode.proofs.decoder.Decoder.finish.Goals as goal
 
 pub returns-in-Refused-clause-ends : goal.returns-in-Refused-clause-ends
@@ -13,20 +13,12 @@ returns-in-Refused-clause-ends g c =
     let d : DecoderV = c.args.self in
     ends_refused d.desc d.answer d.judge (IsTold d) c.strings_are_followed.ensures c.in-Refused.place (sym (ap (λ (d : DecoderV). d.answer) c.self.view_is) ∙ c.in-Refused.is)
 
-pub returns-in-Some-clause-ends : goal.returns-in-Some-clause-ends
-returns-in-Some-clause-ends g c =
+pub returns-in-Ok-clause-ends : goal.returns-in-Ok-clause-ends
+returns-in-Ok-clause-ends g c =
     let j : JudgeV = c.self.inside.judge in
-    let P : DecoderV → Type 0 = λ d. Ends d (Ok c.in-Some.tree) in
+    let P : DecoderV → Type 0 = λ d. Ends d c.tree_of.result in
     subst P (ap (λ a. stands j c.self.inside.track a) (sym c.in-Going.is) ∙ c.self.view_is)
-    (ends_tree j c.self.inside.track c.finish_to.new.track c.in-Some.tree c.self.invariant.description c.self.invariant.one_tree
-    c.in-Ok.ensures.ends (sym c.finish.ensures ∙ c.in-Some.is))
-
-pub returns-in-None-clause-ends : goal.returns-in-None-clause-ends
-returns-in-None-clause-ends g c =
-    let j : JudgeV = c.self.inside.judge in
-    let P : DecoderV → Type 0 = λ d. Ends d (Err NoMemory) in
-    subst P (ap (λ a. stands j c.self.inside.track a) (sym c.in-Going.is) ∙ c.self.view_is)
-    (ends_wanting j c.self.inside.track c.finish_to.new.track c.in-Ok.ensures.ends)
+    (ends_made j c.self.inside.track c.finish_to.new.track c.tree_of.result c.self.invariant.description c.self.invariant.one_tree c.in-Ok.ensures.ends c.tree_of.ensures.ok c.tree_of.ensures.err)
 
 pub returns-in-Refused-finish_to-clause-ends : goal.returns-in-Refused-finish_to-clause-ends
 returns-in-Refused-finish_to-clause-ends g c =
