@@ -1,4 +1,4 @@
-use Rattle.std.proofs.Common.{inl, ◌≡◌, ℕ, ◌+◌, ◌*◌, false, List, ◌∷◌, [], length, reverse, min, refl, ap, subst, ◌∙◌, arith, Some}
+use Rattle.std.proofs.Common.{inl, ℕ, ◌+◌, ◌*◌, false, List, ◌∷◌, [], length, reverse, min, refl, ap, subst, ◌∙◌, arith, Some}
 use Rattle.std.proofs.lemmas.List.{length-reverse}
 use Rattle.csn_desc.specs.Nodes.{DescV}
 use Rattle.csn_desc.specs.declared.moves.Move.TheVariants.{Leave}

@@ -91,3 +91,27 @@ returns-clause-pays g c =
 
 pub enter_plain-requires-clause-plain : goal.enter_plain-requires-clause-plain
 enter_plain-requires-clause-plain g c = sym c.counts.ensures ∙ c.if-not-counts.true
+
+pub enter_plain-requires-clause-part : goal.enter_plain-requires-clause-part
+enter_plain-requires-clause-part g c = c.requires.part
+
+pub enter_plain-requires-clause-node : goal.enter_plain-requires-clause-node
+enter_plain-requires-clause-node g c = c.requires.node
+
+pub enter_plain-requires-clause-stands : goal.enter_plain-requires-clause-stands
+enter_plain-requires-clause-stands g c = c.requires.stands
+
+pub returns-then-not-counts-clause-turns : goal.returns-then-not-counts-clause-turns
+returns-then-not-counts-clause-turns g c = c.enter_plain.ensures.turns
+
+pub returns-then-not-counts-clause-pays : goal.returns-then-not-counts-clause-pays
+returns-then-not-counts-clause-pays g c = c.enter_plain.ensures.pays
+
+pub returns-then-not-counts-clause-plan : goal.returns-then-not-counts-clause-plan
+returns-then-not-counts-clause-plan g c = c.enter_plain.ensures.plan
+
+pub read_counted-requires-clause-field : goal.read_counted-requires-clause-field
+read_counted-requires-clause-field g c = c.node-field.ensures.node
+
+pub returns-clause-plan : goal.returns-clause-plan
+returns-clause-plan g c = c.read_counted.ensures.plan

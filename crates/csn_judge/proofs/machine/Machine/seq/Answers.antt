@@ -1,8 +1,10 @@
 use Rattle.std.proofs.Common.{lit<, ◌≡◌, ℕ, ◌+◌, List, ◌∷◌, length, reverse, refl, sym, ◌∙◌, ap, subst, arith, Some}
 use Rattle.std.proofs.lemmas.List.{length-reverse}
+use Rattle.std.proofs.lemmas.Option.{slice_get_within}
 use Rattle.csn_desc.specs.Nodes.{DescV}
 use Rattle.csn_desc.specs.declared.moves.Move.TheVariants.{Leave}
 use Rattle.csn_desc.specs.declared.node.Node.{Node}
+use Rattle.csn_desc.specs.declared.node.Node.TheVariants.{Seq}
 use Rattle.csn_judge.specs.declared.frame.Frame.{Frame}
 use Rattle.csn_judge.specs.declared.frame.Frame.TheVariants as frame
 use Rattle.csn_judge.specs.Credit.{credit_of}
@@ -11,7 +13,7 @@ use Rattle.csn_judge.proofs.GoingOn.{Going, going_none, going_stands, going_fits
 use Rattle.csn_judge.proofs.PartsRead.{part_begun, going_since}
 use Rattle.csn_judge.proofs.Turning.{pushed, GoesOn-along}
 use Rattle.csn_judge.proofs.TurningOn.{on_then}
-use Rattle.csn_judge.proofs.TurningParts.{next_within, ends_parts}
+use Rattle.csn_judge.proofs.TurningParts.{next_within, ends_parts, parts_stand}
 use Rattle.csn_judge.proofs.machine.Machine.seq.Goals as goal
 
 pub loop-at-init : goal.loop-at-init
@@ -89,3 +91,16 @@ returns-clause-turns g c =
     (ends_parts d g.T.Track.takes c.loop-at.track c.loop-at.self.values.items c.loop-at.self.pace c.loop-at.source c.in-Seq.parts here all
     (subst (λ (n : Node). g.T.Track.takes c.loop-at.track Leave n c.step.new.self) c.in-Seq.is c.step.ensures)
     c.requires.stands.known on.stands))
+
+pub node-node-requires : goal.node-node-requires
+node-node-requires g c =
+    let on = parts_stand c.args.self.now.plan.now c.requires.stands.stands.shows in
+    slice_get_within _ _ _ on.has.at
+
+pub unreachable-requires : goal.unreachable-requires
+unreachable-requires g c =
+    let on = parts_stand c.args.self.now.plan.now c.requires.stands.stands.shows in
+    let at = on.has.at in
+    let there = c.node-node.ensures.node in
+    let same : c.node-node.result.now ≡ Seq on.parts = cc in
+    c.in_default.not-Seq on.parts same
