@@ -41,6 +41,7 @@ pub mod TurningOn
 mod Popping
 mod PayingEntry
 mod PayingWaits
+mod Clashes
 pub mod GoingOn
 pub mod PayingParts
 pub mod JudgingFacts

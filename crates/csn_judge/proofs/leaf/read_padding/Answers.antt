@@ -1,5 +1,6 @@
-use Rattle.std.proofs.Common.{◌≡◌, ◌∙◌, true, refl, lit<, arith}
+use Rattle.std.proofs.Common.{◌∙◌, true, refl, lit<, arith}
 use Rattle.csn_desc.specs.declared.symbol.Symbol.TheVariants.{Low}
+use Rattle.csn_judge.proofs.Clashes.{true_and_false}
 use Rattle.csn_judge.proofs.LeafReads.{IsReadied, given, given_none, told_of, spare_of, pad_reads_all, pad_stays, pad_reads_some, pad_reads_none}
 use Rattle.csn_judge.proofs.leaf.read_padding.Goals.{else-begun-via-then-begun+else-is_closed, else-begun-via-else-begun}
 use Rattle.csn_judge.proofs.leaf.read_padding.Goals as goal
@@ -17,8 +18,8 @@ returns-then-ready-eq0 g c =
     λ d reading.
     pad_stays d g.T.Track.takes c.args.node.now c.args.source.now c.ready-ready.new.self c.args.track.now c.args.track.now (given_none c.if-ready-eq0.true r) (lit< tt)
     (λ begun closed. elim c.else-begun.branch [
-      | else-begun-via-then-begun+else-is_closed w ↦ let yes : w.is_closed.result ≡ true = w.is_closed.ensures.1 closed in let no = w.if-is_closed.false in absurd (cc)
-      | else-begun-via-else-begun w ↦ let no = w.if-begun.false in absurd (cc)
+      | else-begun-via-then-begun+else-is_closed w ↦ absurd (true_and_false (w.is_closed.ensures.1 closed) w.if-is_closed.false)
+      | else-begun-via-else-begun w ↦ absurd (true_and_false begun w.if-begun.false)
     ])
     refl
 

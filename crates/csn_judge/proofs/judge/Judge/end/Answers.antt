@@ -11,6 +11,7 @@ use Rattle.csn_desc.specs.declared.moves.Move.{Move}
 use Rattle.csn_judge.specs.declared.verdict.Judged.{Judged}
 use Rattle.csn_judge.specs.declared.verdict.Judged.TheVariants.{Ok, Refused}
 use Rattle.csn_bits.proofs.NumberFacts.{length-low_bits}
+use Rattle.csn_judge.proofs.Clashes.{true_and_false}
 use Rattle.csn_judge.proofs.JudgingFacts.{IsOver, ends_held, ends_string, ends_none, ends_never}
 use Rattle.csn_judge.proofs.judge.Judge.end.Goals.{in-Going, in_default-go-2, in_default-go}
 use Rattle.csn_judge.proofs.judge.Judge.end.Goals as goal
@@ -55,7 +56,7 @@ returns-clause-ends g c =
           (subst (P (Refused c.self.inside.seen)) c.self.view_is
           (ends_none g.T.Track.takes (judge_of c.self.inside) c.end-source.result after c.args.track.now c.go.new.track c.trees_have_moves.ensures.some is
           (λ empty. let size : length c.go.new.self.frames.items ≡ 0 = sym (length-reverse c.go.new.self.frames.items) ∙ ap (λ l. length l) empty in
-          let one : true ≡ false = sym (ap (λ n. n == 0) size) ∙ sym w.is_empty.ensures ∙ w.if-is_empty.false in absurd (cc))
+          let one : true ≡ false = sym (ap (λ n. n == 0) size) ∙ sym w.is_empty.ensures ∙ w.if-is_empty.false in absurd (true_and_false refl one))
           w.in-Going.ensures.turns))
       | in_default-go w ↦
           rw w.result-is

@@ -8,6 +8,7 @@ use Rattle.csn_judge.specs.declared.turn.Turn.TheVariants.{Waits, Refused}
 use Rattle.csn_judge.specs.Coming.{Coming}
 use Rattle.csn_judge.specs.Credit.{credit_in, credit_of, Pays}
 use Rattle.csn_judge.specs.Turns.{begun_by, state_begun, state_of, state_then, turn_in}
+use Rattle.csn_judge.proofs.Clashes.{true_and_false}
 use Rattle.csn_judge.proofs.Paying.{begun_credit}
 use Rattle.csn_judge.proofs.PayingBits.{chosen_pays}
 use Rattle.csn_judge.proofs.PayingParts.{alternative_comes}
@@ -28,7 +29,7 @@ push-requires-in-Wait g c = (lit< tt, items_room c.args.self.now.plan.now c.args
 pub returns-then-not-is_closed-clause-turns : goal.returns-then-not-is_closed-clause-turns
 returns-then-not-is_closed-clause-turns g c =
     waits_unready c.args.self.now.plan.now g.T.Track.takes c.args.track.now c.args.self.now.values.items c.args.self.now.pace c.ready-ready.new.self 12 (omega arith) c.ready-ready.ensures.same (sym c.ready-ready.ensures.count ∙ c.if-ready-eq0.true) c.ready-ready.ensures.good c.ready-ready.ensures.within
-    (λ closed. let yes = c.is_closed.ensures.1 closed in let no = c.if-not-is_closed.true in absurd (cc)) c.requires.stands.known
+    (λ closed. true_and_false (c.is_closed.ensures.1 closed) c.if-not-is_closed.true) c.requires.stands.known
     (pushed c.args.self.now.frames.items (frame.Open c.args.i) c.push.ensures.items)
 
 pub pick-requires-clause-node : goal.pick-requires-clause-node
@@ -111,7 +112,7 @@ returns-else-has_more-clause-turns g c =
     (pushed c.args.self.now.frames.items (frame.Open c.args.i) c.push-in-Wait.ensures.items)
     (waits_with_all d g.T.Track.takes c.args.track.now c.args.self.now.values.items c.args.self.now.pace next c.ready-ready.result c.in-Choice.parts
     (c.requires.node ∙ ap (λ n. Some n) c.in-Choice.is) c.ready-ready.ensures.good c.ready-ready.ensures.count c.ready-ready.ensures.held c.ready-ready.ensures.within
-    (λ more. let yes = c.has_more.ensures.1 more in let no = c.if-has_more.false in absurd (cc))
+    (λ more. true_and_false (c.has_more.ensures.1 more) c.if-has_more.false)
     c.in-Wait.ensures.none c.in-Wait.ensures.some c.requires.stands.known))
 
 pub returns-in-Refuse-clause-turns : goal.returns-in-Refuse-clause-turns

@@ -8,6 +8,7 @@ use Rattle.csn_judge.specs.declared.frame.Frame.TheVariants as frame
 use Rattle.csn_judge.specs.declared.pace.Pace.{Pace}
 use Rattle.csn_judge.specs.Credit.{credit_of}
 use Rattle.csn_judge.specs.Turns.{begun_by, StateV, state_of, state_with, Stands, GoesOn}
+use Rattle.csn_judge.proofs.Clashes.{one_count, one_value}
 use Rattle.csn_judge.proofs.PayingBits.{counted_credit, entered_pays}
 use Rattle.csn_judge.proofs.Turning.{begun_again}
 use Rattle.csn_judge.proofs.TurningOn.{turns_then}
@@ -24,20 +25,13 @@ pub unreachable-requires : goal.unreachable-requires
 unreachable-requires g c =
     let d : DescV = c.args.self.now.plan.now in
     let f = field_width d c.requires.stands.known c.args.i c.requires.part.0 (sym c.counts.ensures ∙ c.if-not-counts.false) c.requires.part.1 in
-    let at = f.is in
-    let there = c.node-field.ensures.node in
-    let same : c.node-field.result.now ≡ Field f.unit (Fixed f.width) = cc in
-    c.in_default.not-Field f.unit (Fixed f.width) same
+    c.in_default.not-Field f.unit (Fixed f.width) (one_value c.node-field.ensures.node f.is)
 
 pub unreachable-requires-in_default-count : goal.unreachable-requires-in_default-count
 unreachable-requires-in_default-count g c =
     let d : DescV = c.args.self.now.plan.now in
     let f = field_width d c.requires.stands.known c.args.i c.requires.part.0 (sym c.counts.ensures ∙ c.if-not-counts.false) c.requires.part.1 in
-    let at = f.is in
-    let there = c.node-field.ensures.node in
-    let is = c.in-Field.is in
-    let same : c.in-Field.count ≡ Fixed f.width = cc in
-    c.in_default-count.not-Fixed f.width same
+    c.in_default-count.not-Fixed f.width (one_count (one_value (c.node-field.ensures.node ∙ ap (λ n. Some n) c.in-Field.is) f.is))
 
 pub begin-requires : goal.begin-requires
 begin-requires g c =

@@ -9,6 +9,7 @@ use Rattle.csn_judge.specs.Coming.{Coming}
 use Rattle.csn_judge.specs.Left.{Left}
 use Rattle.csn_judge.specs.Inside.{IsStack}
 use Rattle.csn_judge.specs.Turns.{fresh_at}
+use Rattle.csn_judge.proofs.Clashes.{moved_and_waits, true_and_false}
 use Rattle.csn_judge.proofs.Paying.{begun_pays_on, left_pays_on, free_goes_back}
 use Rattle.csn_judge.proofs.PayingWaits.{waits_pay}
 use Rattle.csn_judge.proofs.Turning.{room, round_length, begun_within, pushed, GoesOn-along, items_room}
@@ -24,7 +25,7 @@ push-requires g c = (lit< tt, items_room c.args.self.now.plan.now c.args.self.no
 pub returns-then-not-is_closed-clause-turns : goal.returns-then-not-is_closed-clause-turns
 returns-then-not-is_closed-clause-turns g c =
     waits_unready c.args.self.now.plan.now g.T.Track.takes c.args.track.now c.args.self.now.values.items c.args.self.now.pace c.ready-ready.new.self 1 (omega arith) c.ready-ready.ensures.same (sym c.ready-ready.ensures.count ∙ c.if-ready-eq0.true) c.ready-ready.ensures.good c.ready-ready.ensures.within
-    (λ closed. let yes = c.is_closed.ensures.1 closed in let no = c.if-not-is_closed.true in absurd (cc)) c.requires.known
+    (λ closed. true_and_false (c.is_closed.ensures.1 closed) c.if-not-is_closed.true) c.requires.known
     (pushed c.args.self.now.frames.items (frame.Many c.args.i c.args.part) c.push.ensures.items)
 
 pub pick-requires-clause-node : goal.pick-requires-clause-node
@@ -85,7 +86,7 @@ returns g c =
           c.leave.ensures.told.1 c.leave.ensures.told.2 c.requires.known
           (stands_on d g.T.Track.takes c.args.track.now c.args.track.now (frame.Many c.args.i c.args.part ∷ reverse c.args.self.now.frames.items) c.args.self.now.values.items c.args.self.now.pace c.ready-ready.ensures.same stands));
       plan = refl;
-      waits = λ same. absurd (cc);
+      waits = λ same. absurd (moved_and_waits same);
       pays =
           left_pays_on (length d.nodes) c.args.steps.now (length c.args.source.now.bits) 2 (frame.Many c.args.i c.args.part) (ap (λ (l : List ℕ). length l) c.ready-ready.ensures.same.bits) refl refl
           (omega (arith, c.leave.ensures.step, c.pick.ensures.step)) (omega arith) (omega arith);
@@ -116,7 +117,7 @@ pub returns-then-not-is_closed-clause-plan : goal.returns-then-not-is_closed-cla
 returns-then-not-is_closed-clause-plan g c = refl
 
 pub returns-in-Take-clause-waits : goal.returns-in-Take-clause-waits
-returns-in-Take-clause-waits g c = λ waits. absurd (cc)
+returns-in-Take-clause-waits g c = λ waits. absurd (moved_and_waits waits)
 
 pub returns-in-Take-clause-plan : goal.returns-in-Take-clause-plan
 returns-in-Take-clause-plan g c = c.begin.ensures.plan

@@ -9,6 +9,7 @@ use Rattle.csn_judge.specs.declared.frame.Frame.{Frame}
 use Rattle.csn_judge.specs.declared.frame.Frame.TheVariants as frame
 use Rattle.csn_judge.specs.Credit.{credit_of}
 use Rattle.csn_judge.specs.Turns.{StateV, state_at, state_with, GoesOn}
+use Rattle.csn_judge.proofs.Clashes.{one_value}
 use Rattle.csn_judge.proofs.GoingOn.{Going, going_none, going_stands, going_fits, going_more}
 use Rattle.csn_judge.proofs.PartsRead.{part_begun, going_since}
 use Rattle.csn_judge.proofs.Turning.{pushed, GoesOn-along}
@@ -100,7 +101,4 @@ node-node-requires g c =
 pub unreachable-requires : goal.unreachable-requires
 unreachable-requires g c =
     let on = parts_stand c.args.self.now.plan.now c.requires.stands.stands.shows in
-    let at = on.has.at in
-    let there = c.node-node.ensures.node in
-    let same : c.node-node.result.now ≡ Seq on.parts = cc in
-    c.in_default.not-Seq on.parts same
+    c.in_default.not-Seq on.parts (one_value c.node-node.ensures.node on.has.at)

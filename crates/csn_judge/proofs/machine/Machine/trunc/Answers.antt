@@ -8,6 +8,7 @@ use Rattle.csn_desc.specs.declared.node.Node.TheVariants.{Trunc}
 use Rattle.csn_judge.specs.declared.frame.Frame.{Frame}
 use Rattle.csn_judge.specs.declared.frame.Frame.TheVariants as frame
 use Rattle.csn_judge.specs.Coming.{Coming}
+use Rattle.csn_judge.proofs.Clashes.{moved_and_waits, one_value, true_and_false}
 use Rattle.csn_judge.proofs.Rooms.{first_of, unready}
 use Rattle.csn_judge.proofs.Paying.{begun_pays_on, left_pays_on}
 use Rattle.csn_judge.proofs.PayingParts.{component_rises}
@@ -21,7 +22,7 @@ use Rattle.csn_judge.proofs.machine.Machine.trunc.Goals as goal
 pub returns-then-not-is_closed-clause-turns : goal.returns-then-not-is_closed-clause-turns
 returns-then-not-is_closed-clause-turns g c =
     waits_unready c.args.self.now.plan.now g.T.Track.takes c.args.track.now c.args.self.now.values.items c.args.self.now.pace c.ready-ready.new.self 1 (omega arith) c.ready-ready.ensures.same (sym c.ready-ready.ensures.count ∙ c.if-ready-eq0.true) c.ready-ready.ensures.good c.ready-ready.ensures.within
-    (λ closed. let yes = c.is_closed.ensures.1 closed in let no = c.if-not-is_closed.true in absurd (cc)) c.requires.known
+    (λ closed. true_and_false (c.is_closed.ensures.1 closed) c.if-not-is_closed.true) c.requires.known
     (pushed c.args.self.now.frames.items (frame.Trunc c.args.i c.args.at c.args.values) c.push.ensures.items)
 
 pub push-requires : goal.push-requires
@@ -92,10 +93,7 @@ node-node-requires g c = slice_get_within _ _ _ (trunc_at c.args.self.now.plan.n
 pub unreachable-requires : goal.unreachable-requires
 unreachable-requires g c =
     let found = trunc_at c.args.self.now.plan.now c.requires.stands.shows in
-    let at = found.1 in
-    let there = c.node-node.ensures.node in
-    let same : c.node-node.result.now ≡ Trunc found.0 = cc in
-    c.in_default.not-Trunc found.0 same
+    c.in_default.not-Trunc found.0 (one_value c.node-node.ensures.node found.1)
 
 pub returns-then-not-is_closed-clause-pays : goal.returns-then-not-is_closed-clause-pays
 returns-then-not-is_closed-clause-pays g c =
@@ -111,13 +109,13 @@ pub returns-then-ready-eq0-2-clause-pays : goal.returns-then-ready-eq0-2-clause-
 returns-then-ready-eq0-2-clause-pays g c = left_pays_on (length c.args.self.now.plan.now.nodes) c.args.steps.now (length c.args.source.now.bits) 1 (frame.Trunc c.args.i c.args.at c.args.values) (ap (λ (l : List ℕ). length l) c.ready-ready.ensures.same.bits) refl refl c.node-node.ensures.step (omega arith) (omega arith)
 
 pub returns-then-ready-eq0-2-clause-waits : goal.returns-then-ready-eq0-2-clause-waits
-returns-then-ready-eq0-2-clause-waits g c = λ waits. absurd (cc)
+returns-then-ready-eq0-2-clause-waits g c = λ waits. absurd (moved_and_waits waits)
 
 pub returns-then-ready-eq0-2-clause-plan : goal.returns-then-ready-eq0-2-clause-plan
 returns-then-ready-eq0-2-clause-plan g c = refl
 
 pub returns-clause-waits : goal.returns-clause-waits
-returns-clause-waits g c = λ waits. absurd (cc)
+returns-clause-waits g c = λ waits. absurd (moved_and_waits waits)
 
 pub returns-clause-plan : goal.returns-clause-plan
 returns-clause-plan g c = c.begin.ensures.plan
