@@ -1,4 +1,4 @@
-use Rattle.std.proofs.Common.{◌∙◌, true, refl, lit<, arith}
+use Rattle.std.proofs.Common.{◌∙◌, refl, lit<, arith}
 use Rattle.csn_desc.specs.declared.symbol.Symbol.TheVariants.{Low}
 use Rattle.csn_judge.proofs.Clashes.{true_and_false}
 use Rattle.csn_judge.proofs.LeafReads.{IsReadied, given, given_none, told_of, spare_of, pad_reads_all, pad_stays, pad_reads_some, pad_reads_none}

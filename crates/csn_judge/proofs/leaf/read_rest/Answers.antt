@@ -1,4 +1,4 @@
-use Rattle.std.proofs.Common.{true, refl, lit<}
+use Rattle.std.proofs.Common.{refl, lit<}
 use Rattle.csn_judge.proofs.Clashes.{true_and_false}
 use Rattle.csn_judge.proofs.LeafReads.{IsReadied, given, given_none, told_of, closed_before, rest_reads_all, rest_reads_some}
 use Rattle.csn_judge.proofs.leaf.read_rest.Goals.{else-ready-eq0-via-then-ready-eq0+else-is_closed, else-ready-eq0-via-else-ready-eq0}
