@@ -79,8 +79,7 @@ impl Made {
             → self.old ≡ before ++ other ∷ after → number ≡ length before
             → self.new ≡ before ++ placed node other.place ∷ after }
     {
-        let before = std::mem::replace(&mut self.nodes[number as usize], node);
-        drop(before);
+        self.nodes[number as usize] = node;
     }
 
     /// The description that has these nodes, which are numbered through and well formed. A field that some

@@ -1,5 +1,4 @@
-use Rattle.std.proofs.Common.{◌≡◌, length, set, ◌∙◌, rules, ap, arith}
-use Rattle.csn_resolve.specs.Made.{paired}
+use Rattle.std.proofs.Common.{length, ◌∙◌, ap, arith}
 use Rattle.csn_resolve.proofs.Giving.MadeFacts.{paired_long, paired_set}
 use Rattle.csn_resolve.proofs.made.Made.set.Goals as goal
 
@@ -11,6 +10,4 @@ index_mut-requires c =
 
 pub returns : goal.returns
 returns c = λ before after other is here.
-    let now : c.replace-before.new.dest ≡ c.args.node = search rules in
-    ap (λ z. paired (set c.self.inside.nodes.items c.args.number z) c.self.inside.places.items) now
-    ∙ paired_set c.self.inside.nodes.items c.self.inside.places.items c.args.number c.args.node before after other (c.self.view_is ∙ is) here
+    paired_set c.self.inside.nodes.items c.self.inside.places.items c.args.number c.args.node before after other (c.self.view_is ∙ is) here
