@@ -1,4 +1,4 @@
-use Rattle.std.proofs.Common.{◌+◌, ◌++◌, ◌∙◌, ℕ, List, ap, sym, subst, append_assoc, arith}
+use Rattle.std.proofs.Common.{◌+◌, ◌++◌, ◌∙◌, ℕ, List, ap, sym, subst, append_assoc, arith, ◌≡◌, ◌/◌, [], length, append-nil}
 use Rattle.csn_certify.specs.PickTables.{AreFirstBlocks}
 use Rattle.csn_certify.proofs.PickBlocks.{block_more}
 use Rattle.csn_certify.proofs.pick_blocks.Blocks.keep_all.Goals as goal
@@ -16,3 +16,41 @@ loop-at-preserved c =
 
 pub block_of-requires : goal.block_of-requires
 block_of-requires c = omega (arith, c.div_ceil-count.ensures, c.loop-at-test.true)
+
+pub loop-at-init : goal.loop-at-init
+loop-at-init c =
+    let none = c.in_ok-index.ensures.items in (
+      record {
+        size = ap length none;
+        within = λ at less. absurd (omega (arith, less));
+        blocks_of = λ at less. absurd (omega (arith, less));
+      },
+      ([], sym (append-nil c.args.self.now)),
+    )
+
+pub returns-in_err-index-clause-more : goal.returns-in_err-index-clause-more
+returns-in_err-index-clause-more c = ([], sym (append-nil c.args.self.now))
+
+pub returns-in_err-block_of-clause-more : goal.returns-in_err-block_of-clause-more
+returns-in_err-block_of-clause-more c = c.loop-at.invariant.1
+
+pub returns-in_err-number-clause-more : goal.returns-in_err-number-clause-more
+returns-in_err-number-clause-more c =
+    let more = c.keep.ensures.more in
+    let before = c.loop-at.invariant.1 in
+    (before.0 ++ more.0, more.1 ∙ ap (λ l. l ++ more.0) before.1 ∙ append_assoc c.args.self.now before.0 more.0)
+
+pub returns-in_err-push-clause-more : goal.returns-in_err-push-clause-more
+returns-in_err-push-clause-more c =
+    let more = c.keep.ensures.more in
+    let before = c.loop-at.invariant.1 in
+    (before.0 ++ more.0, more.1 ∙ ap (λ l. l ++ more.0) before.1 ∙ append_assoc c.args.self.now before.0 more.0)
+
+pub returns-clause-kept : goal.returns-clause-kept
+returns-clause-kept c =
+    let entries = c.args.entries.now in
+    let all : c.loop-at.at ≡ (length entries + 63) / 64 = omega (arith, c.div_ceil-count.ensures, c.loop-at-test.false) in
+    subst (λ (n : ℕ). AreFirstBlocks entries n c.loop-at.index.items c.loop-at.self) all c.loop-at.invariant.0
+
+pub returns-clause-more : goal.returns-clause-more
+returns-clause-more c = c.loop-at.invariant.1
