@@ -3,7 +3,7 @@ use Rattle.std.proofs.lemmas.Result.{IfOk-weaker}
 use Rattle.csn_desc.specs.declared.node.Node.TheVariants.{Choice}
 use Rattle.csn_look.specs.Keys.{NodeKeys, InKeys}
 use Rattle.csn_look.specs.KeyRows.{IsSameRow, Makes}
-use Rattle.csn_look.proofs.Tables.RowFacts.{row_next, kept_table, same_tables, row_stays, row_none, row_all}
+use Rattle.csn_look.proofs.Tables.RowFacts.{row_next, kept_table, same_tables, row_stays, row_all}
 use Rattle.csn_look.proofs.Tables.RowKeys.{choice_alike}
 use Rattle.csn_look.proofs.key_rows.Rowed.choice.Goals as goal
 

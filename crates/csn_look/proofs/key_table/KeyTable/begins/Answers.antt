@@ -1,5 +1,4 @@
-use Rattle.std.proofs.Common.{◌+◌, ℕ, List, false, true, ◌≡◌, IsTrue, sym, ◌∙◌, subst}
-use Rattle.csn_look.specs.KeyMarks.{BeginsWithKey, StartsKey}
+use Rattle.std.proofs.Common.{ℕ, List, sym, ◌∙◌, subst}
 use Rattle.csn_look.specs.KeyTables.{IsKeyTable}
 use Rattle.csn_look.proofs.Tables.KeyMarkFacts.{starts_told}
 use Rattle.csn_look.proofs.key_table.KeyTable.begins.Goals as goal
