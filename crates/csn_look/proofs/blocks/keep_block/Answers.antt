@@ -1,4 +1,8 @@
-use Rattle.std.proofs.Common.{arith}
+use Rattle.std.proofs.Common.{arith, nat_eq, refl, sym, ◌∙◌, [], append-nil, ap}
+use Rattle.std.specs.Cmp.Lexicographic.{pointwise}
+use Rattle.std.proofs.lemmas.Bool.Decides.{Decides-eqb}
+use Rattle.std.proofs.lemmas.Slice.Eq.{slice_eq-Decides}
+use Rattle.csn_look.specs.Blocks.{four}
 use Rattle.csn_look.proofs.blocks.keep_block.Goals as goal
 
 pub block_of-requires : goal.block_of-requires
@@ -18,3 +22,14 @@ overflow_cast-result-2 c = omega arith
 
 pub overflow_add-result : goal.overflow_add-result
 overflow_add-result c = omega arith
+
+pub returns-then-eq : goal.returns-then-eq
+returns-then-eq c =
+    let told = (slice_eq-Decides Decides-eqb c.block_of.result c.args.block (pointwise nat_eq c.block_of.result c.args.block) refl).0 (sym c.eq.ensures ∙ c.if-eq.true) in
+    record {
+      more = ([], sym (append-nil c.args.blocks.now.items));
+      size = c.requires.size;
+      few = omega arith;
+      within = omega (arith, c.requires.some);
+      same = ap (λ l. four l 0) (sym c.as_slice.ensures.value) ∙ sym c.block_of.ensures ∙ told;
+    }
