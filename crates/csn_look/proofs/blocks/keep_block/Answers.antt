@@ -33,3 +33,14 @@ returns-then-eq c =
       within = omega (arith, c.requires.some);
       same = ap (λ l. four l 0) (sym c.as_slice.ensures.value) ∙ sym c.block_of.ensures ∙ told;
     }
+
+pub returns-then-eq-2 : goal.returns-then-eq-2
+returns-then-eq-2 c =
+    let told = (slice_eq-Decides Decides-eqb c.block_of-2.result c.args.block (pointwise nat_eq c.block_of-2.result c.args.block) refl).0 (sym c.eq-2.ensures ∙ c.if-eq-2.true) in
+    record {
+      more = ([], sym (append-nil c.args.blocks.now.items));
+      size = c.requires.size;
+      few = omega arith;
+      within = omega (arith, c.requires.some, c.requires.size);
+      same = rw c.as_slice-2.ensures.value at (sym c.block_of-2.ensures ∙ told);
+    }
