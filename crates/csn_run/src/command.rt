@@ -93,10 +93,12 @@ fn reading_of(word: &str) -> Option<Reading>
     ensures named { IfSome result (λ reading. word.now ≡ word_of reading) }
     ensures none { (reading : Reading) → word.now ≡ word_of reading → IsSome result }
 {
-    match word.as_bytes() {
-        b"received" => Some(Reading::Received),
-        b"sent" => Some(Reading::Sent),
-        _ => None,
+    if word == "received" {
+        Some(Reading::Received)
+    } else if word == "sent" {
+        Some(Reading::Sent)
+    } else {
+        None
     }
 }
 

@@ -24,6 +24,7 @@ use crate::ended::Ended;
 use crate::fault::Fault;
 use crate::lines::LINE_FEED;
 use crate::text_plan::TextPlan;
+use csn_bits::NoMemory;
 use csn_catalogue::{Entry, entries, root_of};
 use csn_certify::CertifyFault;
 use csn_desc::Reading;
@@ -127,6 +128,14 @@ pub fn plan_of_entry(alloc: Global, entry: Entry, reading: Reading) -> Result<Te
     compile(alloc, csn_catalogue::text(), root_of(entry), reading)
 }
 
+/// Puts a plan behind those that there are.
+fn keep_plan(plans: &mut Vec<TextPlan>, plan: TextPlan) -> Result<(), NoMemory>
+    ensures { OnOk result (plans.new.items ≡ plans.old.items ++ plan ∷ []) }
+{
+    plans.push(plan)?;
+    Ok(())
+}
+
 /// The plans of the rules that describe the blocks of the entries, in the order of the entries. Where there is none for one,
 /// those before it have one.
 fn plans_by(alloc: Global, rules: &Rules, reading: Reading) -> Result<Vec<TextPlan>, NoPlan>
@@ -143,7 +152,7 @@ fn plans_by(alloc: Global, rules: &Rules, reading: Reading) -> Result<Vec<TextPl
             Ok(plan) => plan,
             Err(reason) => return Err(reason),
         };
-        if plans.push(plan).is_err() {
+        if keep_plan(&mut plans, plan).is_err() {
             return Err(NoPlan::Plan(CertifyFault::NoMemory));
         }
     }

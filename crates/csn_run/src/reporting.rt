@@ -18,12 +18,12 @@ use csn_certmake::make_certificate;
 use std::alloc::Global;
 
 /// Writes the line that tells of a certified description.
-fn tell_certified(plan: &TextPlan, pending: &mut Vec<u8>) -> Result<Ended, Fault>
+fn tell_certified(plan: TextPlan, pending: &mut Vec<u8>) -> Result<Ended, Fault>
     requires { pending.old.items ≡ [] }
-    ensures ok { IfOk result (λ ended. (ended ≡ Ended.Done) × (pending.new.items ≡ certified_line plan.now ++ LINE_FEED ∷ [])) }
+    ensures ok { IfOk result (λ ended. (ended ≡ Ended.Done) × (pending.new.items ≡ certified_line plan ++ LINE_FEED ∷ [])) }
     ensures err { IfErr result (λ fault. (fault ≡ Fault.Memory) × (pending.new.items ≡ [])) }
 {
-    let line = push_certified(plan, pending);
+    let line = push_certified(&plan, pending);
     end_line(line, pending)
 }
 
@@ -60,7 +60,7 @@ pub fn report_plan(
     ensures err { IfErr result (λ fault. (fault ≡ Fault.Memory) × (pending.new.items ≡ [])) }
 {
     match report {
-        RuleReport::Check => tell_certified(&plan, pending),
+        RuleReport::Check => tell_certified(plan, pending),
         RuleReport::Certificate => tell_certificate(alloc, plan, pending),
     }
 }

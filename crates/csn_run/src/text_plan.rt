@@ -4,6 +4,7 @@ ghost use Rattle.std.specs.Prelude.{◌≡◌, ◌<◌, [], IfOk, IfErr, OnOk, O
 ghost use Rattle.csn_movetext.specs.Blocks.{AddsText, IsFaultOf};
 ghost use Rattle.csn_movetext.specs.Lines.{ReadsLine};
 ghost use Rattle.csn_movetext.specs.Openings.{HasOpenings};
+ghost use Rattle.csn_run.specs.TextPlans.{AreInForms};
 
 use csn_bits::{Bits, NoMemory};
 use csn_certify::{Plan, Steps};
@@ -12,13 +13,19 @@ use std::alloc::Global;
 use std::marker::{Brand, Model};
 use std::sync::ledger::{Blank, Ledger};
 
-/// The plan of a rule, with what each of its nodes writes of a tree in each form where it begins. A contract sees the
-/// description.
+/// The plan of a rule, with what each of its nodes writes of a tree in each form where it begins.
 #[derive(Drop)]
-pub struct TextPlan {
+struct PlanForms {
     plan: Plan,
     text: Openings,
     json: Openings,
+}
+
+/// The plan of a rule, by which blocks are shown in either form: one pointer, since it is handed on. A contract sees the
+/// description.
+#[derive(Drop)]
+pub struct TextPlan {
+    forms: Box<PlanForms>,
 }
 
 impl Model for TextPlan {
@@ -27,9 +34,31 @@ impl Model for TextPlan {
 
     ghost Value = { DescV };
 
-    ghost view = { λ p. p.plan };
+    ghost view = { λ p. p.forms.value.plan };
 
-    ghost invariant = { λ p. AreInForms p.plan p.text p.json };
+    ghost invariant = { λ p. AreInForms p.forms.value.plan p.forms.value.text p.forms.value.json };
+}
+
+/// What the nodes of a plan write in each form, as text and as JSON.
+fn openings_of(alloc: Global, plan: &Plan) -> Result<(Openings, Openings), NoMemory>
+    ensures { IfOk result (λ made. AreInForms plan.now made.0 made.1) }
+{
+    let text = Openings::new(alloc, plan, TreeForm::Text)?;
+    Ok((text, Openings::new(alloc, plan, TreeForm::Json)?))
+}
+
+/// The plan with the openings of its nodes.
+fn forms_of(alloc: Global, plan: Plan) -> Result<PlanForms, NoMemory>
+    ensures plan { IfOk result (λ forms. forms.plan ≡ plan) }
+    ensures openings { IfOk result (λ forms. AreInForms plan forms.text forms.json) }
+{
+    match openings_of(alloc, &plan) {
+        Ok((text, json)) => Ok(PlanForms { plan, text, json }),
+        Err(NoMemory) => {
+            drop(plan);
+            Err(NoMemory)
+        }
+    }
 }
 
 impl TextPlan {
@@ -37,27 +66,28 @@ impl TextPlan {
     pub fn new(alloc: Global, plan: Plan) -> Result<TextPlan, NoMemory>
         ensures { IfOk result (λ made. made ≡ plan) }
     {
-        let text = Openings::new(alloc, &plan, TreeForm::Text)?;
-        let json = Openings::new(alloc, &plan, TreeForm::Json)?;
-        Ok(TextPlan { plan, text, json })
+        let forms = forms_of(alloc, plan)?;
+        Ok(TextPlan {
+            forms: Box::new(alloc, forms)?,
+        })
     }
 
     /// The plan alone.
     pub fn plan(&self) -> &Plan
         ensures { result.now ≡ self.now }
     {
-        &self.plan
+        &self.forms.plan
     }
 
     /// The plan alone, and no longer the openings.
     pub fn into_plan(self) -> Plan
         ensures { result ≡ self }
     {
-        let TextPlan {
+        let PlanForms {
             plan,
             text: _,
             json: _,
-        } = self;
+        } = Box::into_inner(self.forms);
         plan
     }
 
@@ -67,8 +97,8 @@ impl TextPlan {
         ensures form { result.now.form ≡ form }
     {
         match form {
-            TreeForm::Text => &self.text,
-            TreeForm::Json => &self.json,
+            TreeForm::Text => &self.forms.text,
+            TreeForm::Json => &self.forms.json,
         }
     }
 
@@ -78,7 +108,7 @@ impl TextPlan {
         ensures form { result.form ≡ form }
         ensures desc { result.desc ≡ self.now }
     {
-        LineText::new(alloc, &self.plan, self.openings(form))
+        LineText::new(alloc, self.plan(), self.openings(form))
     }
 
     /// Adds the tree that a block has, in a form. Where there is none, nothing is added.
@@ -107,7 +137,7 @@ impl TextPlan {
     {
         let mut steps = Steps::<L>::new(blank);
         write_block(
-            &self.plan,
+            self.plan(),
             self.openings(form),
             bits.octets(),
             bits.len(),
