@@ -23,7 +23,7 @@ fn tells_the_first_fault(rt: HostRuntime) -> Result<(), Fail> {
         ("A1/3", BitsFault::BadFill),
     ] {
         let read = Bits::from_hex_line(rt.alloc(), line.as_bytes());
-        assert_eq!(rt; read.err(), Some(fault), "at {line}");
+        assert_eq!(rt; (line, read.err()), (line, Some(fault)));
     }
     Ok(())
 }
@@ -37,34 +37,38 @@ fn reads_and_writes_lines(rt: HostRuntime) -> Result<(), Fail> {
         ("Ff80/1", 9, "FF80/1"),
     ] {
         let bits = Bits::from_hex_line(rt.alloc(), line.as_bytes())?;
-        assert_eq!(rt; bits.len(), len, "at {line}");
-        assert_eq!(rt;
-            bits.to_hex_line(rt.alloc())?.as_slice(),
-            written.as_bytes(),
-            "at {line}"
-        );
+        let again = bits.to_hex_line(rt.alloc())?;
+        assert_eq!(rt; (line, bits.len()), (line, len));
+        assert_eq!(rt; again.as_slice(), written.as_bytes());
     }
     Ok(())
 }
 
 #[test]
 fn reads_the_longest_line(rt: HostRuntime) -> Result<(), Fail> {
-    let mut line = vec![in rt.alloc(); b'F'; MOST_DIGITS]?;
+    let line = vec![in rt.alloc(); b'F'; MOST_DIGITS]?;
     let mut bits = Bits::from_hex_line(rt.alloc(), &line)?;
-    assert_eq!(rt; bits.len(), MOST_BITS);
-    assert_eq!(rt; bits.push(0), Err(BitsFault::TooManyBits));
-    assert_eq!(rt; bits.to_hex_line(rt.alloc())?.as_slice(), line.as_slice());
-
-    line.extend_from_slice(b"FF")?;
+    let more = bits.push(0);
+    let again = bits.to_hex_line(rt.alloc())?;
     assert_eq!(rt;
-        Bits::from_hex_line(rt.alloc(), &line).err(),
-        Some(BitsFault::TooManyBits)
+        (bits.len(), more, again.as_slice()),
+        (MOST_BITS, Err(BitsFault::TooManyBits), line.as_slice())
     );
+    Ok(())
+}
+
+#[test]
+fn refuses_a_longer_line(rt: HostRuntime) -> Result<(), Fail> {
+    let mut line = vec![in rt.alloc(); b'F'; MOST_DIGITS + 2]?;
+    let too_long = Bits::from_hex_line(rt.alloc(), &line).err();
     line.push(b'g')?;
-    let bad_digit = BitsFault::BadDigit { column: 131_074 };
+    let bad_digit = Bits::from_hex_line(rt.alloc(), &line).err();
     assert_eq!(rt;
-        Bits::from_hex_line(rt.alloc(), &line).err(),
-        Some(bad_digit)
+        [too_long, bad_digit],
+        [
+            Some(BitsFault::TooManyBits),
+            Some(BitsFault::BadDigit { column: 131_074 })
+        ]
     );
     Ok(())
 }
@@ -72,17 +76,29 @@ fn reads_the_longest_line(rt: HostRuntime) -> Result<(), Fail> {
 #[test]
 fn packs_bits(rt: HostRuntime) -> Result<(), Fail> {
     let mut bits = Bits::from_octets(rt.alloc(), &[0xA5], 3)?;
-    assert_eq!(rt; bits.len(), 3);
-    assert_eq!(rt; [bits.get(0), bits.get(1), bits.get(2)], [1, 0, 1]);
-    assert_eq!(rt; bits.copy(rt.alloc())?.octets(), [0xA0].as_slice());
+    let copy = bits.copy(rt.alloc())?;
+    let each = [bits.get(0), bits.get(1), bits.get(2)];
     bits.push(1)?;
-    assert_eq!(rt; bits.octets(), [0xB0].as_slice());
-    assert_eq!(rt; Bits::new(rt.alloc()).len(), 0);
+    assert_eq!(rt;
+        (copy.len(), each, copy.octets(), bits.octets()),
+        (3, [1, 0, 1], [0xA0].as_slice(), [0xB0].as_slice())
+    );
+    Ok(())
+}
+
+#[test]
+fn tells_numbers(rt: HostRuntime) -> Result<(), Fail> {
     let long = Bits::from_octets(rt.alloc(), &[0xA5, 0xFF], 12)?;
     if long.len() <= 64 {
         assert_eq!(rt; long.number(), 0xA5F);
     }
-    assert_eq!(rt; [pattern_bit(1), pattern_bit(2), pattern_bit(7)], [0, 1, 1]);
+    assert_eq!(rt;
+        (
+            Bits::new(rt.alloc()).len(),
+            [pattern_bit(1), pattern_bit(2), pattern_bit(7)]
+        ),
+        (0, [0, 1, 1])
+    );
     Ok(())
 }
 
@@ -102,14 +118,14 @@ fn feeds_a_line_byte_by_byte(rt: HostRuntime) {
         assert!(rt; feed.seen() < 8);
         assert_eq!(rt; feed.byte(byte), step);
     }
+    let last = HexEnd::Last {
+        octet: 0x40,
+        bits: 2,
+    };
     assert_eq!(rt;
-        feed.finish(),
-        HexEnd::Last {
-            octet: 0x40,
-            bits: 2
-        }
+        [feed.finish(), HexFeed::new().finish()],
+        [last, HexEnd::Fault(LineWhy::BadLength)]
     );
-    assert_eq!(rt; HexFeed::new().finish(), HexEnd::Fault(LineWhy::BadLength));
 }
 
 #[test]
@@ -117,20 +133,23 @@ fn takes_whole_pairs_at_once(rt: HostRuntime) {
     let mut feed = HexFeed::new();
     let mut room = [0u8; 4];
     let first = feed.pairs(b"A50f3", &mut room);
-    assert_eq!(rt; first, Some(Pairs { bytes: 4, from: 1 }));
-    assert_eq!(rt; room[1], 0xA5);
+    let odd = room[1];
     let more = feed.pairs(b"40/2.", &mut room);
-    assert_eq!(rt; more, Some(Pairs { bytes: 2, from: 0 }));
-    assert_eq!(rt; room[0], 0x0F);
-    assert_eq!(rt; feed.pairs(b"/2f0F", &mut room), None);
-    assert_eq!(rt; feed.byte(b'/'), HexStep::Nothing);
-    assert_eq!(rt; feed.pairs(b"40", &mut room), None);
-    assert_eq!(rt; feed.byte(b'2'), HexStep::Nothing);
     assert_eq!(rt;
-        feed.finish(),
-        HexEnd::Last {
-            octet: 0x40,
-            bits: 2
-        }
+        (first, odd, more, room[0]),
+        (
+            Some(Pairs { bytes: 4, from: 1 }),
+            0xA5,
+            Some(Pairs { bytes: 2, from: 0 }),
+            0x0F
+        )
     );
+    let slash = (feed.pairs(b"/2f0F", &mut room), feed.byte(b'/'));
+    let digit = (feed.pairs(b"40", &mut room), feed.byte(b'2'));
+    let nothing = (None, HexStep::Nothing);
+    let last = HexEnd::Last {
+        octet: 0x40,
+        bits: 2,
+    };
+    assert_eq!(rt; (slash, digit, feed.finish()), (nothing, nothing, last));
 }

@@ -3,10 +3,10 @@ use std::test::Fail;
 
 #[test]
 fn the_text_is_whole(rt: HostRuntime) -> Result<(), Fail> {
-    let text = str::from_utf8(text()).map_err(|_| "no text")?;
-    assert_eq!(rt; text.len(), 10_856);
-    assert!(rt; text.starts_with("<message end> ::= { null | 0 {"));
-    assert!(rt; text.ends_with(" <BTS_PWR_CTRL_MODE : bit> <PR_MODE : bit> } ;\n"));
+    let text = str::from_utf8(text())?;
+    let begins = text.starts_with("<message end> ::= { null | 0 {");
+    let ends = text.ends_with(" <BTS_PWR_CTRL_MODE : bit> <PR_MODE : bit> } ;\n");
+    assert_eq!(rt; (text.len(), begins, ends), (10_856, true, true));
     Ok(())
 }
 
@@ -28,18 +28,17 @@ fn each_entry_has_its_word_its_root_and_its_sample(rt: HostRuntime) {
         (Entry::Si13, "si13", "SI 13 Rest Octets", 20, 10, 8),
         (Entry::Ia, "ia", "IA Rest Octets", 11, 4, 32),
     ]) {
-        assert_eq!(rt; entry, listed);
-        assert_eq!(rt; word_of(entry), word.as_bytes());
-        assert_eq!(rt; entry_of(word.as_bytes()), Some(entry));
-        assert_eq!(rt; root_of(entry), root.as_bytes());
+        assert_eq!(rt;
+            (entry, word_of(entry), entry_of(word.as_bytes())),
+            (listed, word.as_bytes(), Some(listed))
+        );
         let sample = sample_of(entry);
         assert_eq!(rt;
-            (sample.octets.len(), sample.at, sample.width),
-            (octets, at, width),
-            "{word}"
+            (root_of(entry), sample.octets.len(), sample.at, sample.width),
+            (root.as_bytes(), octets, at, width)
         );
     }
     for word in ["", "si", "si 1", "SI1", "si13 "] {
-        assert_eq!(rt; entry_of(word.as_bytes()), None, "{word}");
+        assert_eq!(rt; (word, entry_of(word.as_bytes())), (word, None));
     }
 }

@@ -3,7 +3,7 @@ use std::alloc::Global;
 use std::test::Fail;
 
 #[test]
-fn labels_are_words_with_one_space_between(rt: HostRuntime) -> Result<(), Fail> {
+fn labels_are_words_with_one_space_between(rt: HostRuntime) {
     let cases: [(&[u8], bool); 7] = [
         (b"PAGE_MODE", true),
         (b"GPRS Cell Options", true),
@@ -14,27 +14,27 @@ fn labels_are_words_with_one_space_between(rt: HostRuntime) -> Result<(), Fail> 
         (b"a ", false),
     ];
     for (bytes, valid) in cases {
-        let label = Label::new(rt.alloc(), bytes);
-        match label {
-            Ok(label) => {
-                assert!(rt; valid, "{bytes:?}");
-                assert_eq!(rt; label.bytes(), bytes);
-                let copy = label.copy(rt.alloc()).map_err(|_| "out of memory")?;
-                assert_eq!(rt; copy.bytes(), bytes);
-            }
-            Err(fault) => {
-                assert!(rt; !valid, "{bytes:?}");
-                assert_eq!(rt; fault, LabelFault::BadLabel);
-            }
-        }
+        let fault = (!valid).then_some(LabelFault::BadLabel);
+        let refused = Label::new(rt.alloc(), bytes).err();
+        assert_eq!(rt; (bytes, refused), (bytes, fault));
+    }
+}
+
+#[test]
+fn labels_hold_their_bytes(rt: HostRuntime) -> Result<(), Fail> {
+    let labels: [&[u8]; 3] = [b"PAGE_MODE", b"GPRS Cell Options", b"C_VALUE, 3'7.b-1/2"];
+    for bytes in labels {
+        let label = Label::new(rt.alloc(), bytes)?;
+        let copy = label.copy(rt.alloc())?;
+        assert_eq!(rt; [label.bytes(), copy.bytes()], [bytes, bytes]);
     }
     Ok(())
 }
 
 #[test]
 fn a_label_grows_by_words(rt: HostRuntime) -> Result<(), Fail> {
-    let label = Label::of_word(rt.alloc(), b"GPRS").map_err(|_| "out of memory")?;
-    let longer = label.and(b"Cell").map_err(|_| "out of memory")?;
+    let label = Label::of_word(rt.alloc(), b"GPRS")?;
+    let longer = label.and(b"Cell")?;
     assert_eq!(rt; longer.bytes(), b"GPRS Cell".as_slice());
     Ok(())
 }
@@ -42,18 +42,16 @@ fn a_label_grows_by_words(rt: HostRuntime) -> Result<(), Fail> {
 #[test]
 fn a_run_holds_its_symbols(rt: HostRuntime) -> Result<(), Fail> {
     let mut run = Run::new(rt.alloc());
-    run.add(Symbol::High).map_err(|_| "out of memory")?;
-    assert_eq!(rt; run.len(), 1);
-    assert_eq!(rt; *run.get(0), Symbol::High);
+    run.add(Symbol::High)?;
+    assert_eq!(rt; (run.len(), *run.get(0)), (1, Symbol::High));
     Ok(())
 }
 
 #[test]
 fn parts_hold_their_numbers(rt: HostRuntime) -> Result<(), Fail> {
     let mut parts = Parts::new(rt.alloc());
-    parts.push(7).map_err(|_| "out of memory")?;
-    assert_eq!(rt; parts.len(), 1);
-    assert_eq!(rt; parts.get(0), 7);
+    parts.push(7)?;
+    assert_eq!(rt; (parts.len(), parts.get(0)), (1, 7));
     Ok(())
 }
 
@@ -63,8 +61,9 @@ fn rows_hold_their_trees(rt: HostRuntime) -> Result<(), Fail> {
     let given = rows.push(Tree {
         shape: Shape::Empty,
     });
-    assert!(rt; given.is_ok());
-    assert_eq!(rt; rows.len(), 1);
+    if given.is_err() || rows.len() != 1 {
+        return Err("not one row".into());
+    }
     let first = rows.get(0);
     assert!(rt; matches!(first.shape, Shape::Empty));
     Ok(())
@@ -72,16 +71,19 @@ fn rows_hold_their_trees(rt: HostRuntime) -> Result<(), Fail> {
 
 fn no_bits(alloc: Global) -> Result<Desc, Fail> {
     let nodes = Vec::from_array(alloc, [Node::Null])?;
-    Ok(Desc::from_nodes(alloc, Reading::Sent, nodes).map_err(|_| "no description")?)
+    Ok(Desc::from_nodes(alloc, Reading::Sent, nodes)?)
 }
 
 #[test]
 fn a_description_lends_its_nodes(rt: HostRuntime) -> Result<(), Fail> {
     let desc = no_bits(rt.alloc())?;
-    assert_eq!(rt; desc.len(), 1);
-    assert_eq!(rt; desc.reading(), Reading::Sent);
-    let root = desc.node(0);
-    assert!(rt; matches!(root, Node::Null));
-    assert!(rt; !desc.counts(0));
+    if desc.len() != 1 {
+        return Err("not one node".into());
+    }
+    let is_null = matches!(desc.node(0), Node::Null);
+    assert_eq!(rt;
+        (desc.reading(), is_null, desc.counts(0)),
+        (Reading::Sent, true, false)
+    );
     Ok(())
 }

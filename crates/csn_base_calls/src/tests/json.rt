@@ -14,11 +14,11 @@ fn read(alloc: Global, text: &[u8]) -> Result<Tree, JsonFault> {
 
 // What is written for the tree that a text shows.
 fn written_again(alloc: Global, text: &str) -> Result<Vec<u8>, Fail> {
-    let tree = read(alloc, text.as_bytes()).map_err(|_| "no tree")?;
+    let tree = read(alloc, text.as_bytes())?;
     if !json_fits(&tree) {
         return Err("a tree that does not fit".into());
     }
-    Ok(write_json(alloc, &tree).map_err(|_| "out of memory")?)
+    Ok(write_json(alloc, &tree)?)
 }
 
 // A text of every form, with its members in order.
@@ -143,27 +143,28 @@ fn levels_are_counted(rt: HostRuntime) -> Result<(), Fail> {
     Ok(())
 }
 
+// Whether an alternative of this number with this tree fits.
+fn alternative_fits(alloc: Global, number: u16, tree: Tree) -> Result<bool, Fail> {
+    let tree = Tree {
+        shape: Shape::Alt(number, Box::new(alloc, tree)?),
+    };
+    Ok(json_fits(&tree))
+}
+
 #[test]
 fn a_tree_that_is_too_deep_or_too_wide_does_not_fit(rt: HostRuntime) -> Result<(), Fail> {
-    let deep = nested(rt.alloc(), 64)?;
-    let inside = read(rt.alloc(), deep.as_slice()).map_err(|_| "no tree")?;
-    assert!(rt; json_fits(&inside));
-    let tree = Tree {
-        shape: Shape::Alt(
-            0,
-            Box::new(rt.alloc(), inside).map_err(|_| "out of memory")?,
-        ),
-    };
-    assert!(rt; !json_fits(&tree));
+    let text = nested(rt.alloc(), 64)?;
+    let deep = read(rt.alloc(), text.as_slice())?;
     let empty = Tree {
         shape: Shape::Empty,
     };
-    let wide = Tree {
-        shape: Shape::Alt(
-            16_384,
-            Box::new(rt.alloc(), empty).map_err(|_| "out of memory")?,
-        ),
-    };
-    assert!(rt; !json_fits(&wide));
+    assert_eq!(rt;
+        [
+            json_fits(&deep),
+            alternative_fits(rt.alloc(), 0, deep)?,
+            alternative_fits(rt.alloc(), 16_384, empty)?
+        ],
+        [true, false, false]
+    );
     Ok(())
 }

@@ -22,8 +22,7 @@ fn expect(
         };
         assert_eq!(rt; lexer.next(), Ok(Some(token)));
     }
-    assert_eq!(rt; lexer.next(), end);
-    assert_eq!(rt; lexer.next(), end);
+    assert_eq!(rt; [lexer.next(), lexer.next()], [end, end]);
 }
 
 #[test]

@@ -9,15 +9,17 @@ fn a_source_gives_its_bytes_in_pieces(rt: HostRuntime) -> Result<(), Fail> {
         let bytes = Vec::from_slice(rt.alloc(), b"A5\n")?;
         let mut source = MemSource::new(bytes, most, Vec::new(rt.alloc()));
         let mut room = [0; 8];
-        assert_eq!(rt; source.take(&mut room), Got::Bytes(first), "at most {most}");
-        let mut all = first;
+        let begun = source.take(&mut room);
+        let mut all: usize = first;
         for _ in first..3 {
             if let Got::Bytes(more) = source.take(&mut room[..1]) {
                 all = all.saturating_add(more);
             }
         }
-        assert_eq!(rt; all, 3, "at most {most}");
-        assert_eq!(rt; source.take(&mut room), Got::End, "at most {most}");
+        assert_eq!(rt;
+            (most, begun, all, source.take(&mut room)),
+            (most, Got::Bytes(first), 3, Got::End)
+        );
     }
     Ok(())
 }
@@ -37,7 +39,7 @@ fn a_source_fails_at_the_calls_that_are_listed(rt: HostRuntime) -> Result<(), Fa
     .into_iter()
     .enumerate()
     {
-        assert_eq!(rt; source.take(&mut room), answer, "call {call}");
+        assert_eq!(rt; (call, source.take(&mut room)), (call, answer));
     }
     Ok(())
 }
@@ -45,12 +47,26 @@ fn a_source_fails_at_the_calls_that_are_listed(rt: HostRuntime) -> Result<(), Fa
 #[test]
 fn a_sink_counts_puts_and_flushes_together(rt: HostRuntime) -> Result<(), Fail> {
     let mut sink = MemSink::new(rt.alloc(), 3, vec![in rt.alloc(); 1, 4]?);
-    assert_eq!(rt; sink.put(b"ok ."), Put::Took(3));
-    assert_eq!(rt; sink.flush(), Put::Failed);
-    assert_eq!(rt; sink.put(b"."), Put::Took(1));
-    assert_eq!(rt; sink.flush(), Put::Took(0));
-    assert_eq!(rt; sink.put(b"more"), Put::Failed);
-    assert_eq!(rt; sink.taken(), b"ok .".as_slice());
+    let answers = [
+        sink.put(b"ok ."),
+        sink.flush(),
+        sink.put(b"."),
+        sink.flush(),
+        sink.put(b"more"),
+    ];
+    assert_eq!(rt;
+        (answers, sink.taken()),
+        (
+            [
+                Put::Took(3),
+                Put::Failed,
+                Put::Took(1),
+                Put::Took(0),
+                Put::Failed
+            ],
+            b"ok .".as_slice()
+        )
+    );
     Ok(())
 }
 
@@ -72,21 +88,18 @@ fn shelf_of_one(
 fn a_shelf_gives_the_front_of_a_file(rt: HostRuntime) -> Result<(), Fail> {
     let failing = vec![in rt.alloc(); 1, 2]?;
     let mut shelf = shelf_of_one(rt.alloc(), "F", b"abc", failing)?;
+    let whole = shelf.fetch(rt.alloc(), "F", 4)?;
+    let missing = shelf.fetch(rt.alloc(), "G", 4).err();
+    let failed = shelf.fetch(rt.alloc(), "F", 4).err();
+    let front = shelf.fetch(rt.alloc(), "F", 2)?;
     assert_eq!(rt;
-        shelf.fetch(rt.alloc(), "F", 4)?.as_slice(),
-        b"abc".as_slice()
-    );
-    assert_eq!(rt;
-        shelf.fetch(rt.alloc(), "G", 4).err(),
-        Some(ShelfFault::Missing)
-    );
-    assert_eq!(rt;
-        shelf.fetch(rt.alloc(), "F", 4).err(),
-        Some(ShelfFault::Failed)
-    );
-    assert_eq!(rt;
-        shelf.fetch(rt.alloc(), "F", 2)?.as_slice(),
-        b"ab".as_slice()
+        (whole.as_slice(), missing, failed, front.as_slice()),
+        (
+            b"abc".as_slice(),
+            Some(ShelfFault::Missing),
+            Some(ShelfFault::Failed),
+            b"ab".as_slice()
+        )
     );
     Ok(())
 }

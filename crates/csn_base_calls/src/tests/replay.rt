@@ -73,14 +73,14 @@ fn the_first_space_ends_the_word(rt: HostRuntime) {
         ("ia  2B", Entry::Ia, 3),
         ("si3 si4 2B", Entry::Si3, 4),
     ] {
+        let capture = Capture { entry, block_at };
         assert_eq!(rt;
-            read_capture(line.as_bytes()),
-            Some(Capture { entry, block_at }),
-            "{line}"
+            (line, read_capture(line.as_bytes())),
+            (line, Some(capture))
         );
     }
     for line in ["", " ", "si1", "si9 00", " si1 2B", "Si1 2B", "2B"] {
-        assert_eq!(rt; read_capture(line.as_bytes()), None, "{line}");
+        assert_eq!(rt; (line, read_capture(line.as_bytes())), (line, None));
     }
 }
 
@@ -113,11 +113,8 @@ fn a_head_is_the_same_in_any_pieces(rt: HostRuntime) -> Result<(), Fail> {
                 let taken = head.take(piece);
                 left.extend_from_slice(&piece[taken..])?;
             }
-            assert_eq!(rt;
-                format!(in alloc; "{head:?}")?.as_str(),
-                text,
-                "{line} by {most}"
-            );
+            let shown = format!(in alloc; "{head:?}")?;
+            assert_eq!(rt; shown.as_str(), text, "{line} by {most}");
             assert_eq!(rt; left.as_slice(), block.as_bytes(), "{line} by {most}");
         }
     }
@@ -135,11 +132,11 @@ fn expect_told(
     let mut watchers = watchers;
     let mut out = MemSink::new(alloc, 4096, Vec::new(alloc));
     for (seen, text) in rows {
-        assert_eq!(rt; tell(alloc, &mut watchers, seen, &mut out), Told::Ok);
-        assert_eq!(rt; out.taken(), text.as_bytes());
+        let told = tell(alloc, &mut watchers, seen, &mut out);
+        assert_eq!(rt; (told, out.taken()), (Told::Ok, text.as_bytes()));
     }
-    assert_eq!(rt; close(alloc, watchers, &mut out), Told::Ok);
-    assert_eq!(rt; out.taken(), end.as_bytes());
+    let told = close(alloc, watchers, &mut out);
+    assert_eq!(rt; (told, out.taken()), (Told::Ok, end.as_bytes()));
 }
 
 #[test]
@@ -205,13 +202,14 @@ fn a_watcher_is_dropped_once_on_every_end(rt: HostRuntime) -> Result<(), Fail> {
                 drops: drops.clone()?,
             },
         )?)?;
-        assert_eq!(rt;
+        let answers = [
             tell(alloc, &mut watchers, &seen(Entry::Si1, 8, true), &mut out),
-            told
+            close(alloc, watchers, &mut out),
+        ];
+        assert_eq!(rt;
+            (answers, drops.get(), out.taken()),
+            ([told, closed], 1, text.as_bytes())
         );
-        assert_eq!(rt; close(alloc, watchers, &mut out), closed);
-        assert_eq!(rt; drops.get(), 1);
-        assert_eq!(rt; out.taken(), text.as_bytes());
     }
     Ok(())
 }

@@ -45,11 +45,8 @@ fn joins(rt: &impl Abort, alloc: Global, steps: &[(Octets, Answer)]) -> Result<(
             Answer::Waiting(rti) => Joined::Waiting { rti },
             Answer::Refused(why) => Joined::Refused(why),
         };
-        assert_eq!(rt;
-            joiner.take(&octets(alloc, block)?),
-            wanted,
-            "block {number}"
-        );
+        let joined = joiner.take(&octets(alloc, block)?);
+        assert_eq!(rt; (number, joined), (number, wanted));
     }
     Ok(())
 }

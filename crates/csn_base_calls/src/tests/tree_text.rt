@@ -14,11 +14,11 @@ const LONG: &str =
 fn rewritten(alloc: Global, text: &[u8]) -> Result<Vec<u8>, Fail>
     requires { length text.now ≤ MOST_LINE }
 {
-    let tree = read_tree(alloc, text).map_err(|_| "no text")?;
+    let tree = read_tree(alloc, text)?;
     if !fits(&tree) {
         return Err("it does not fit".into());
     }
-    Ok(write_tree(alloc, &tree).map_err(|_| "out of memory")?)
+    Ok(write_tree(alloc, &tree)?)
 }
 
 // Why a text is refused.
@@ -32,8 +32,8 @@ fn refusal_of(alloc: Global, text: &[u8]) -> Option<TextFault>
 fn renewed(alloc: Global, text: &[u8]) -> Result<Vec<u8>, Fail>
     requires { length text.now ≤ MOST_LINE }
 {
-    let tree = read_old_tree(alloc, text).map_err(|_| "no text")?;
-    Ok(write_tree(alloc, &tree).map_err(|_| "out of memory")?)
+    let tree = read_old_tree(alloc, text)?;
+    Ok(write_tree(alloc, &tree)?)
 }
 
 #[test]
@@ -83,7 +83,7 @@ fn a_bad_text_is_refused_at_its_place(rt: HostRuntime) {
         (". ", 1),
     ] {
         let refusal = refusal_of(rt.alloc(), text.as_bytes());
-        assert_eq!(rt; refusal, Some(TextFault::Place { place }), "at {text}");
+        assert_eq!(rt; (text, refusal), (text, Some(TextFault::Place { place })));
     }
 }
 
@@ -98,11 +98,15 @@ fn old_texts_become_new_ones(rt: HostRuntime) -> Result<(), Fail> {
         let wrote = renewed(rt.alloc(), old.as_bytes())?;
         assert_eq!(rt; wrote.as_slice(), text.as_bytes());
     }
-    for (old, place) in [("64'18446744073709551616", 22), ("xFF", 0), ("b1", 2)] {
-        let read = read_old_tree(rt.alloc(), old.as_bytes());
-        assert_eq!(rt; read.err(), Some(TextFault::Place { place }), "at {old}");
-    }
     Ok(())
+}
+
+#[test]
+fn a_bad_old_text_is_refused_at_its_place(rt: HostRuntime) {
+    for (old, place) in [("64'18446744073709551616", 22), ("xFF", 0), ("b1", 2)] {
+        let refusal = read_old_tree(rt.alloc(), old.as_bytes()).err();
+        assert_eq!(rt; (old, refusal), (old, Some(TextFault::Place { place })));
+    }
 }
 
 #[test]
@@ -112,7 +116,7 @@ fn trees_of_too_many_levels_do_not_fit(rt: HostRuntime) -> Result<(), Fail> {
     };
     for level in 1..70 {
         assert_eq!(rt; fits(&tree), level <= 64);
-        let inner = Box::new(rt.alloc(), tree).map_err(|_| "out of memory")?;
+        let inner = Box::new(rt.alloc(), tree)?;
         tree = Tree {
             shape: Shape::Alt(16_383, inner),
         };
