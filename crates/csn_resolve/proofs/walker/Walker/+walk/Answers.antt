@@ -1,7 +1,7 @@
-use Rattle.std.proofs.Common.{◌≡◌, ◌<◌, ℕ, Bool, true, false, List, [], Ok, Some, None, take, drop, refl, sym, ◌∙◌, ap, subst, take_all, arith}
+use Rattle.std.proofs.Common.{◌≡◌, ◌<◌, ◌+◌, max, ℕ, Bool, true, false, List, [], Ok, Some, None, take, drop, refl, sym, ◌∙◌, ap, subst, take_all, arith}
 use Rattle.std.proofs.lemmas.List.{drop_all}
 use Rattle.csn_grammar.specs.ExprV.{ExprV, BranchV, expr, power, both, exprs_of, branches_of}
-use Rattle.csn_grammar.specs.ExprCode.{expr_size}
+use Rattle.csn_grammar.specs.ExprCode.{expr_size, list_size, branch_list_size}
 use Rattle.csn_grammar.specs.Names.{is_built_in, rule_of}
 use Rattle.csn_resolve.specs.declared.why.Why.TheVariants.{Undefined, Recursive, IntersectionForm}
 use Rattle.csn_resolve.specs.Gives.{start_of}
@@ -9,7 +9,7 @@ use Rattle.csn_resolve.specs.Walk.{is_among, entering, node_at, turn_begun}
 use Rattle.csn_resolve.specs.Going.{way, stopped, LeafGoes}
 use Rattle.csn_resolve.specs.Views.{around_view, entered_view, seen_view, width_view, tail_view, end_view}
 use Rattle.csn_resolve.proofs.Basics.Parts.{item_size, branch_size_of, take_get, take_short, get_within}
-use Rattle.csn_resolve.proofs.Walking.DepthFacts.{in_deepest, entered}
+use Rattle.csn_resolve.proofs.Walking.DepthFacts.{in_deepest, deeper, entered}
 use Rattle.csn_resolve.proofs.Naming.ViewFacts.{known, frame-more}
 use Rattle.csn_resolve.proofs.Walking.GoingFacts.{exit-stops, stops-same, stops-in, stops-first, stops-later, stops-second, stops-third, goes-same, goes-after, goes-on, goes-third, way-on, way-third, refused-after}
 use Rattle.csn_resolve.proofs.Walking.Inversion.{lits-steps, null-steps, bit-steps, octet-steps, labelled-steps, group-steps, seq-steps, choice-steps, cut-steps, sends-steps, built-in-steps, name-steps, undefined-steps, recursive-steps, rule-steps, power-steps, both-steps, window-steps, window-behind-steps, no-window-steps, items-end-steps, items-next-steps, branches-end-steps, branches-next-steps, as-form, walk-in, branches-in, items-like, branches-as, count-at, tail-steps-at, power-stop, power-leaf, power-part}
@@ -131,6 +131,72 @@ walk-returns-in_ok-begun-in-Sends t c =
     let parts = sends-steps c.args.self.now.names.now c.args.self.now.reading (as-form c.args.self.now.names.now c.args.self.now.reading is h) in
     goes-after c.args.begun.nodes c.in_ok-begun-in-Sends.begun.nodes parts.0 parts.1 steps c.walk-in-Sends-2.result parts.4 (c.in_ok-begun-in-Sends.ensures parts.0 (as-form c.args.self.now.names.now c.args.self.now.reading (sym c.deref-in-Sends.ensures) parts.2)) (c.walk-in-Sends-2.ensures parts.1 (as-form c.args.self.now.names.now c.args.self.now.reading (sym c.deref-in-Sends-2.ensures) parts.3))
 
+pub walk-walk-requires : goal.walk-walk-requires
+walk-walk-requires t c =
+    let is = known c.args.x.now c.x.inside.span c.x.inside.form _ c.x.view_is c.in-Labelled.is in
+    let size : expr_size c.args.x.now ≡ expr_size c.in-Labelled.part.value + 1 = ap expr_size is in
+    let same : expr_size c.deref.result.now ≡ expr_size c.in-Labelled.part.value = ap expr_size c.deref.ensures in
+    let less = deeper c.args.self.now.names.now c.args.around.depth (c.args.around.depth + 1) (expr_size c.deref.result.now) (omega arith) in
+    rw c.inside.ensures.depth (omega (arith, less, size, same, c.decreases), omega (arith, size, same, c.requires))
+
+pub walk-walk-requires-in-Group : goal.walk-walk-requires-in-Group
+walk-walk-requires-in-Group t c =
+    let is = known c.args.x.now c.x.inside.span c.x.inside.form _ c.x.view_is c.in-Group.is in
+    let size : expr_size c.args.x.now ≡ expr_size c.in-Group.part.value + 1 = ap expr_size is in
+    let same : expr_size c.deref-in-Group.result.now ≡ expr_size c.in-Group.part.value = ap expr_size c.deref-in-Group.ensures in
+    let less = deeper c.args.self.now.names.now c.args.around.depth (c.args.around.depth + 1) (expr_size c.deref-in-Group.result.now) (omega arith) in
+    rw c.inside-in-Group.ensures.depth (omega (arith, less, size, same, c.decreases), omega (arith, size, same, c.requires))
+
+pub walk-walk_items-requires : goal.walk-walk_items-requires
+walk-walk_items-requires t c =
+    let is = known c.args.x.now c.x.inside.span c.x.inside.form _ c.x.view_is c.in-Seq.is in
+    let size : expr_size c.args.x.now ≡ list_size c.in-Seq.items + 1 = ap expr_size is in
+    let less = deeper c.args.self.now.names.now c.args.around.depth (c.args.around.depth + 1) (list_size c.in-Seq.items) (omega arith) in
+    rw c.inside-in-Seq.ensures.depth (omega (arith, less, size, c.decreases), (omega (arith, c.len.ensures.len), omega (arith, size, c.requires)))
+
+pub walk-walk_items-requires-in-Cut : goal.walk-walk_items-requires-in-Cut
+walk-walk_items-requires-in-Cut t c =
+    let is = known c.args.x.now c.x.inside.span c.x.inside.form _ c.x.view_is c.in-Cut.is in
+    let size : expr_size c.args.x.now ≡ list_size c.in-Cut.items + 1 = ap expr_size is in
+    let less = deeper c.args.self.now.names.now c.args.around.depth (c.args.around.depth + 1) (list_size c.in-Cut.items) (omega arith) in
+    rw c.inside-in-Cut.ensures.depth (omega (arith, less, size, c.decreases), (omega (arith, c.len-in-Cut.ensures.len), omega (arith, size, c.requires)))
+
+pub walk-walk_branches-requires : goal.walk-walk_branches-requires
+walk-walk_branches-requires t c =
+    let is = known c.args.x.now c.x.inside.span c.x.inside.form _ c.x.view_is c.in-Choice.is in
+    let size : expr_size c.args.x.now ≡ branch_list_size c.in-Choice.branches + 1 = ap expr_size is in
+    let less = deeper c.args.self.now.names.now c.args.around.depth (c.args.around.depth + 1) (branch_list_size c.in-Choice.branches) (omega arith) in
+    rw c.inside-in-Choice.ensures.depth (omega (arith, less, size, c.decreases), omega (arith, size, c.requires))
+
+pub walk-walk-requires-in-Sends : goal.walk-walk-requires-in-Sends
+walk-walk-requires-in-Sends t c =
+    let is = known c.args.x.now c.x.inside.span c.x.inside.form _ c.x.view_is c.in-Sends.is in
+    let size : expr_size c.args.x.now ≡ max (expr_size c.in-Sends.left.value) (expr_size c.in-Sends.right.value) + 1 = ap expr_size is in
+    let same : expr_size c.deref-in-Sends.result.now ≡ expr_size c.in-Sends.left.value = ap expr_size c.deref-in-Sends.ensures in
+    (omega (arith, size, same, c.decreases), omega (arith, size, same, c.requires))
+
+pub walk-walk-requires-in-Sends-2 : goal.walk-walk-requires-in-Sends-2
+walk-walk-requires-in-Sends-2 t c =
+    let is = known c.args.x.now c.x.inside.span c.x.inside.form _ c.x.view_is c.in-Sends.is in
+    let size : expr_size c.args.x.now ≡ max (expr_size c.in-Sends.left.value) (expr_size c.in-Sends.right.value) + 1 = ap expr_size is in
+    let same : expr_size c.deref-in-Sends-2.result.now ≡ expr_size c.in-Sends.right.value = ap expr_size c.deref-in-Sends-2.ensures in
+    (omega (arith, size, same, c.decreases), omega (arith, size, same, c.requires))
+
+pub walk-walk_power-requires : goal.walk-walk_power-requires
+walk-walk_power-requires t c =
+    let is = known c.args.x.now c.x.inside.span c.x.inside.form _ c.x.view_is c.in-Power.is in
+    let size : expr_size c.args.x.now ≡ expr_size c.in-Power.part.value + 1 = ap expr_size is in
+    let same : expr_size c.deref-in-Power.result.now ≡ expr_size c.in-Power.part.value = ap expr_size c.deref-in-Power.ensures in
+    (omega (arith, size, same, c.decreases), omega (arith, size, same, c.requires))
+
+pub walk-walk_both-requires : goal.walk-walk_both-requires
+walk-walk_both-requires t c =
+    let is = known c.args.x.now c.x.inside.span c.x.inside.form _ c.x.view_is c.in-Both.is in
+    let size : expr_size c.args.x.now ≡ max (expr_size c.in-Both.left.value) (expr_size c.in-Both.right.value) + 1 = ap expr_size is in
+    let left : expr_size c.deref-in-Both.result.now ≡ expr_size c.in-Both.left.value = ap expr_size c.deref-in-Both.ensures in
+    let right : expr_size c.deref-in-Both-2.result.now ≡ expr_size c.in-Both.right.value = ap expr_size c.deref-in-Both-2.ensures in
+    (omega (arith, size, left, right, c.decreases), omega (arith, size, left, right, c.requires))
+
 pub walk-returns-in-Name : goal.walk-returns-in-Name
 walk-returns-in-Name t c =
     λ steps h.
@@ -150,6 +216,21 @@ walk-returns-in-Both t c =
     let is = known c.args.x.now c.x.inside.span c.x.inside.form _ c.x.view_is c.in-Both.is in
     let form = is ∙ (ap (λ (z : ExprV). expr c.x.inside.span.start c.x.inside.span.end (both z c.in-Both.right.value)) (sym c.deref-in-Both.ensures) ∙ ap (λ (z : ExprV). expr c.x.inside.span.start c.x.inside.span.end (both c.deref-in-Both.result.now z)) (sym c.deref-in-Both-2.ensures)) in
     c.walk_both.ensures c.x.inside.span.end steps (as-form c.args.self.now.names.now c.args.self.now.reading form h)
+
+pub walk_both-walk-requires : goal.walk_both-walk-requires
+walk_both-walk-requires t c =
+    let less = deeper c.args.self.now.names.now c.args.around.depth (c.args.around.depth + 1) (expr_size c.args.right.now) (omega arith) in
+    rw c.inside.ensures.depth (omega (arith, less, c.decreases), omega (arith, c.requires))
+
+pub walk_both-walk-requires-in-Some-width_of : goal.walk_both-walk-requires-in-Some-width_of
+walk_both-walk-requires-in-Some-width_of t c =
+    let less = deeper c.args.self.now.names.now c.args.around.depth (c.args.around.depth + 1) (expr_size c.args.left.now) (omega arith) in
+    rw c.inside-in-Some-width_of.ensures.depth (omega (arith, less, c.decreases), omega (arith, c.requires))
+
+pub walk_power-walk-requires : goal.walk_power-walk-requires
+walk_power-walk-requires t c =
+    let less = deeper c.args.self.now.names.now c.args.around.depth (c.args.around.depth + 1) (expr_size c.args.part.now) (omega arith) in
+    rw c.inside.ensures.depth (omega (arith, less, c.decreases), omega (arith, c.requires))
 
 pub walk_both-returns-in_err-begun : goal.walk_both-returns-in_err-begun
 walk_both-returns-in_err-begun t c =
