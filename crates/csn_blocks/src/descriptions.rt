@@ -1,24 +1,33 @@
 //! What comes of a named rule of a text: a refusal with its number and place, a conflict with its number
 //! and fields, or how many nodes its certified description has.
 
-use csn_catalogue::{entries, root_of, text};
+use csn_catalogue::{Entry, entries, root_of, text};
 use csn_certify::{CertifyFault, Conflict, certify};
 use csn_desc::{Desc, Reading};
 use csn_grammar::read_rules;
 use csn_look::Word;
 use csn_resolve::{ResolveFault, resolve};
 use std::alloc::{AllocError, Global};
+use std::process::Abort;
 use std::test::Fail;
 
-/// What comes of the rule of a name, as one line.
-fn line_of(alloc: Global, text: &[u8], name: &str, reading: Reading) -> Result<String, Fail> {
+/// The description of the rule of a name.
+fn described(
+    alloc: Global,
+    text: &[u8],
+    name: &str,
+    reading: Reading,
+) -> Result<Result<Desc, ResolveFault>, Fail> {
     if text.len() > 262_144 {
         return Err("the text is too long".into());
     }
-    let Ok(rules) = read_rules(alloc, text) else {
-        return Err("the text has no rules".into());
-    };
-    match resolve(alloc, &rules, name.as_bytes(), reading) {
+    let rules = read_rules(alloc, text)?;
+    Ok(resolve(alloc, &rules, name.as_bytes(), reading))
+}
+
+/// What comes of the rule of a name, as one line.
+fn line_of(alloc: Global, text: &[u8], name: &str, reading: Reading) -> Result<String, Fail> {
+    match described(alloc, text, name, reading)? {
         Ok(desc) => line_of_nodes(alloc, desc),
         Err(ResolveFault::Refused { why, place }) => {
             let number = why.number();
@@ -28,13 +37,16 @@ fn line_of(alloc: Global, text: &[u8], name: &str, reading: Reading) -> Result<S
     }
 }
 
+/// How many nodes a certified description has.
+fn nodes_of(alloc: Global, desc: Desc) -> Result<u16, CertifyFault> {
+    let plan = certify(alloc, desc)?;
+    Ok(plan.len())
+}
+
 /// What comes of a description, as one line.
 fn line_of_nodes(alloc: Global, desc: Desc) -> Result<String, Fail> {
-    match certify(alloc, desc) {
-        Ok(plan) => {
-            let nodes = plan.len();
-            Ok(format!(in alloc; "certified {nodes}")?)
-        }
+    match nodes_of(alloc, desc) {
+        Ok(nodes) => Ok(format!(in alloc; "certified {nodes}")?),
         Err(CertifyFault::Conflict(conflict)) => Ok(line_of_conflict(alloc, &conflict)?),
         Err(CertifyFault::NoMemory) => Err("out of memory".into()),
     }
@@ -110,16 +122,23 @@ fn rules_are_refused_or_certified(rt: HostRuntime) -> Result<(), Fail> {
     Ok(())
 }
 
+/// The root of an entry has a certified description of so many nodes, in either reading.
+fn expect_root(rt: &impl Abort, alloc: Global, entry: Entry, nodes: u16) -> Result<(), Fail> {
+    let name = str::from_utf8(root_of(entry))?;
+    let line = format!(in alloc; "certified {nodes}")?;
+    let received = line_of(alloc, text(), name, Reading::Received)?;
+    let sent = line_of(alloc, text(), name, Reading::Sent)?;
+    assert_eq!(rt;
+        [received.as_str(), sent.as_str()],
+        [line.as_str(), line.as_str()]
+    );
+    Ok(())
+}
+
 #[test]
 fn roots_of_the_catalogue_are_certified(rt: HostRuntime) -> Result<(), Fail> {
-    let alloc = rt.alloc();
     for (entry, nodes) in entries().into_iter().zip([184, 694, 12, 47, 32, 166, 166]) {
-        let name = str::from_utf8(root_of(entry)).map_err(|_| "no text")?;
-        let line = format!(in alloc; "certified {nodes}")?;
-        for reading in [Reading::Received, Reading::Sent] {
-            let came = line_of(alloc, text(), name, reading)?;
-            assert_eq!(rt; came.as_str(), line.as_str(), "{name}");
-        }
+        expect_root(&rt, rt.alloc(), entry, nodes)?;
     }
     Ok(())
 }

@@ -187,21 +187,60 @@ struct Came {
     moves: Vec<Move>,
 }
 
-/// The plan of a named rule.
-fn plan_of(alloc: Global, text: &str, name: &str, reading: Reading) -> Result<Plan, Fail> {
+/// The plan of a named rule, as one pointer, since it is handed on.
+fn plan_of(alloc: Global, text: &str, name: &str, reading: Reading) -> Result<Box<Plan>, Fail> {
     if text.len() > 262_144 {
         return Err("the text is too long".into());
     }
-    let rules = read_rules(alloc, text.as_bytes()).map_err(|_| "no rules")?;
-    let desc = resolve(alloc, &rules, name.as_bytes(), reading).map_err(|_| "no description")?;
+    let rules = read_rules(alloc, text.as_bytes())?;
+    let desc = resolve(alloc, &rules, name.as_bytes(), reading)?;
     match certify(alloc, desc) {
-        Ok(plan) => Ok(plan),
+        Ok(plan) => Ok(Box::new(alloc, plan)?),
         Err(_) => Err("not certified".into()),
     }
 }
 
-/// How a block is judged that comes in pieces of so many bits, as one line. Where a piece is refused, it holds
-/// the place.
+/// Where a piece is refused whose last bit has this place, which it then holds.
+fn refused_piece<L: Ledger>(
+    judge: &mut Judge<'_>,
+    piece: &Bits,
+    last: u32,
+    steps: &mut Steps<L>,
+) -> Result<Option<u32>, Fail> {
+    if judge.seen() > MOST_BITS - piece.len() {
+        return Err("too many bits".into());
+    }
+    let Verdict::Refused { place } = judge.feed(piece.octets(), piece.len(), steps) else {
+        return Ok(None);
+    };
+    if place > last || last - place >= piece.len() {
+        return Err("a place outside the piece".into());
+    }
+    Ok(Some(place))
+}
+
+/// Where a block is refused that comes in pieces of so many bits, if it is before its end.
+fn refused_place<L: Ledger>(
+    alloc: Global,
+    judge: &mut Judge<'_>,
+    block: &Bits,
+    size: u32,
+    steps: &mut Steps<L>,
+) -> Result<Option<u32>, Fail> {
+    let mut piece = Bits::new(alloc);
+    for at in 0..block.len() {
+        piece.push(block.get(at))?;
+        if piece.len() >= size || at + 1 == block.len() {
+            if let Some(place) = refused_piece(judge, &piece, at, steps)? {
+                return Ok(Some(place));
+            }
+            piece = Bits::new(alloc);
+        }
+    }
+    Ok(None)
+}
+
+/// How a block is judged that comes in pieces of so many bits, as one line.
 fn line_with<L: Ledger>(
     alloc: Global,
     plan: &Plan,
@@ -215,22 +254,8 @@ fn line_with<L: Ledger>(
 {
     let mut steps = Steps::<L>::new(blank);
     let mut judge = Judge::new(plan);
-    let mut piece = Bits::new(alloc);
-    for at in 0..block.len() {
-        piece.push(block.get(at))?;
-        if piece.len() >= size || at + 1 == block.len() {
-            if judge.seen() > MOST_BITS - piece.len() {
-                return Err("too many bits".into());
-            }
-            let verdict = judge.feed(piece.octets(), piece.len(), &mut steps);
-            if let Verdict::Refused { place } = verdict {
-                if place > at || place + piece.len() <= at {
-                    return Err("a place outside the piece".into());
-                }
-                return Ok(format!(in alloc; "no {place} bit")?);
-            }
-            piece = Bits::new(alloc);
-        }
+    if let Some(place) = refused_place(alloc, &mut judge, block, size, &mut steps)? {
+        return Ok(format!(in alloc; "no {place} bit")?);
     }
     match judge.finish(&mut steps) {
         Judged::Ok => Ok(String::from_str(alloc, "ok")?),
@@ -241,6 +266,24 @@ fn line_with<L: Ledger>(
 /// The same, by steps of its own.
 fn line_of(alloc: Global, plan: &Plan, block: &Bits, size: u32) -> Result<String, Fail> {
     line_with::<Brand>(alloc, plan, block, size, Blank::new(1))
+}
+
+/// What is answered for each of these pieces.
+fn fed<L: Ledger>(
+    alloc: Global,
+    judge: &mut Judge<'_>,
+    pieces: &[Bits],
+    kept: &mut Kept,
+    steps: &mut Steps<L>,
+) -> Result<Vec<Verdict>, Fail> {
+    let mut answers = Vec::new(alloc);
+    for piece in pieces {
+        if judge.seen() > MOST_BITS - piece.len() {
+            return Err("too many bits".into());
+        }
+        answers.push(judge.feed_to(piece.octets(), piece.len(), kept, steps))?;
+    }
+    Ok(answers)
 }
 
 /// What comes of a block in these pieces.
@@ -260,13 +303,7 @@ fn came_with<L: Ledger>(
         moves: Vec::new(alloc),
         lost: false,
     };
-    let mut answers = Vec::new(alloc);
-    for piece in pieces {
-        if judge.seen() > MOST_BITS - piece.len() {
-            return Err("too many bits".into());
-        }
-        answers.push(judge.feed_to(piece.octets(), piece.len(), &mut kept, &mut steps))?;
-    }
+    let answers = fed(alloc, &mut judge, pieces, &mut kept, &mut steps)?;
     let seen = judge.seen();
     let end = judge.finish_to(&mut kept, &mut steps);
     let Kept { moves, lost } = kept;
@@ -334,24 +371,29 @@ fn pieces_of(alloc: Global, lines: &[&str]) -> Result<Vec<Bits>, Fail> {
     Ok(pieces)
 }
 
-/// The catalogue, with its lists that end with a bit 0 written in tail form.
-fn catalogue_in_tail_form(alloc: Global) -> Result<String, Fail> {
-    let text = str::from_utf8(text()).map_err(|_| "no text")?;
-    let text = text.replace(
-        alloc,
+/// The lists of the catalogue that end with a bit 0, and how they are written in tail form.
+const IN_TAIL_FORM: [(&str, &str); 3] = [
+    (
         "<Access Capability> { 1 <Access Capability> } ** 0 ;",
         "<Access Capability> { 0 | 1 <MS Radio Access Capability struct> } ;",
-    )?;
-    let text = text.replace(
-        alloc,
+    ),
+    (
         "{ 1 <RFL_NUMBER : bit (4)> } ** 0 ;",
         "{ 0 | 1 <RFL number list struct> } ;",
-    )?;
-    Ok(text.replace(
-        alloc,
+    ),
+    (
         "{ 1 <ARFCN_INDEX : bit (6)> } ** 0 ;",
         "{ 1 <ARFCN index list struct> | 0 } ;",
-    )?)
+    ),
+];
+
+/// The catalogue, with these lists in tail form.
+fn catalogue_in_tail_form(alloc: Global) -> Result<String, Fail> {
+    let mut text = String::from_str(alloc, str::from_utf8(text())?)?;
+    for (list, tail) in IN_TAIL_FORM {
+        text = text.replace(alloc, list, tail)?;
+    }
+    Ok(text)
 }
 
 /// A block is judged as the line says: whole, in pieces of three bits, and in single bits.
@@ -413,20 +455,31 @@ fn expect_sample(
     entry: Entry,
     reading: Reading,
 ) -> Result<(), Fail> {
-    let name = str::from_utf8(root_of(entry)).map_err(|_| "no text")?;
+    let name = str::from_utf8(root_of(entry))?;
     let octets = sample_of(entry).octets;
     let plan = plan_of(alloc, text, name, reading)?;
     let bits = Bits::from_octets(alloc, octets, 8 * octets.len() as u32)?;
     expect(rt, alloc, &plan, &bits, "ok")
 }
 
+/// The sample of each entry is one.
+fn expect_samples(
+    rt: &impl Abort,
+    alloc: Global,
+    text: &str,
+    reading: Reading,
+) -> Result<(), Fail> {
+    for entry in entries() {
+        expect_sample(rt, alloc, text, entry, reading)?;
+    }
+    Ok(())
+}
+
 #[test]
 fn blocks_of_the_catalogue_are_judged(rt: HostRuntime) -> Result<(), Fail> {
     let text = catalogue_in_tail_form(rt.alloc())?;
-    for entry in entries() {
-        for reading in [Reading::Received, Reading::Sent] {
-            expect_sample(&rt, rt.alloc(), &text, entry, reading)?;
-        }
+    for reading in [Reading::Received, Reading::Sent] {
+        expect_samples(&rt, rt.alloc(), &text, reading)?;
     }
     Ok(())
 }
@@ -471,7 +524,7 @@ fn expect_fronts(rt: &impl Abort, alloc: Global, plan: &Plan, block: &Bits) -> R
 fn each_front_of_a_block_is_judged(rt: HostRuntime) -> Result<(), Fail> {
     let alloc = rt.alloc();
     let block = block_of(alloc, DOWNLINK)?;
-    let text = str::from_utf8(text()).map_err(|_| "no text")?;
+    let text = str::from_utf8(text())?;
     for reading in [Reading::Received, Reading::Sent] {
         let plan = plan_of(alloc, text, "Downlink Control Block", reading)?;
         expect_fronts(&rt, alloc, &plan, &block)?;
@@ -488,10 +541,10 @@ fn came_of_lines(alloc: Global, text: &str, lines: &[&str]) -> Result<Came, Fail
 
 /// The pieces of a block were answered as they came.
 fn expect_answers(rt: &impl Abort, came: &Came, case: &InPieces) {
-    let text = case.text;
-    assert_eq!(rt; came.answers.as_slice(), case.answers, "{text}");
-    assert_eq!(rt; came.seen, case.seen, "{text}");
-    assert_eq!(rt; came.end, case.end, "{text}");
+    assert_eq!(rt;
+        (case.text, came.answers.as_slice(), came.seen, came.end),
+        (case.text, case.answers, case.seen, case.end)
+    );
 }
 
 #[test]
@@ -505,8 +558,7 @@ fn each_piece_is_answered(rt: HostRuntime) -> Result<(), Fail> {
 
 /// These moves were told of a block that is a string.
 fn expect_moves(rt: &impl Abort, came: &Came, moves: &[Move]) {
-    assert_eq!(rt; came.moves.as_slice(), moves);
-    assert_eq!(rt; came.end, Judged::Ok);
+    assert_eq!(rt; (came.moves.as_slice(), came.end), (moves, Judged::Ok));
 }
 
 #[test]

@@ -1,6 +1,6 @@
 //! The rules of a text: where a text has none, and where the parts of a rule stand.
 
-use csn_grammar::{Expr, Form, GrammarFault, Span, read_rules};
+use csn_grammar::{Expr, Form, GrammarFault, Rule, Span, read_rules};
 use std::alloc::Global;
 use std::process::Abort;
 use std::test::Fail;
@@ -33,7 +33,7 @@ fn expect_no_rules(rt: &impl Abort, alloc: Global, text: &[u8], place: u32) -> R
         return Err("the text is too long".into());
     }
     let fault = read_rules(alloc, text).err();
-    assert_eq!(rt; fault, Some(GrammarFault::Syntax { place }), "at {place}");
+    assert_eq!(rt; fault, Some(GrammarFault::Syntax { place }));
     Ok(())
 }
 
@@ -65,34 +65,46 @@ fn span_of(expr: &Expr) -> (u32, u32) {
     (expr.span.start, expr.span.end)
 }
 
-#[test]
-fn the_parts_of_a_rule_have_their_spans(rt: HostRuntime) -> Result<(), Fail> {
-    let rules = read_rules(rt.alloc(), b"<M> ::= <A : bit (2)> { 0 | 10 } // ;").map_err(
-        |_| "no rules",
-    )?;
-    assert_eq!(rt; rules.len(), 1);
-    let rule = rules.get(0);
-    assert_eq!(rt; rule.span, Span { start: 0, end: 37 });
-    assert_eq!(rt; span_of(&rule.body), (8, 35));
+/// The spans of the parts of `<A : bit (2)> { 0 | 10 } //`, each from its first byte to behind its last.
+fn expect_spans(rt: &impl Abort, rule: &Rule) -> Result<(), Fail> {
     let Form::Seq(items) = &rule.body.form else {
         return Err("no sequence".into());
     };
-    assert_eq!(rt; items.len(), 2);
+    if items.len() != 2 {
+        return Err("not two items".into());
+    }
     let Form::Labelled(_, field) = &items.get(0).form else {
         return Err("no labelled part".into());
     };
-    assert_eq!(rt;
-        (span_of(items.get(0)), span_of(field)),
-        ((8, 21), (13, 20))
-    );
     let Form::Group(inner) = &items.get(1).form else {
         return Err("no braces".into());
     };
     let Form::Cut(parts) = &inner.form else {
         return Err("no truncation".into());
     };
-    assert_eq!(rt; parts.len(), 1);
-    let spans = (span_of(items.get(1)), span_of(inner), span_of(parts.get(0)));
-    assert_eq!(rt; spans, ((22, 35), (24, 30), (24, 30)));
+    if parts.len() != 1 {
+        return Err("not one component".into());
+    }
+    assert_eq!(rt;
+        (
+            (rule.span, span_of(&rule.body)),
+            (span_of(items.get(0)), span_of(field)),
+            (span_of(items.get(1)), span_of(inner), span_of(parts.get(0)))
+        ),
+        (
+            (Span { start: 0, end: 37 }, (8, 35)),
+            ((8, 21), (13, 20)),
+            ((22, 35), (24, 30), (24, 30))
+        )
+    );
     Ok(())
+}
+
+#[test]
+fn the_parts_of_a_rule_have_their_spans(rt: HostRuntime) -> Result<(), Fail> {
+    let rules = read_rules(rt.alloc(), b"<M> ::= <A : bit (2)> { 0 | 10 } // ;")?;
+    if rules.len() != 1 {
+        return Err("not one rule".into());
+    }
+    expect_spans(&rt, rules.get(0))
 }
