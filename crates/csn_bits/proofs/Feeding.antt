@@ -1,5 +1,5 @@
 -- What a feed keeps of a line, one byte on.
-use Rattle.std.proofs.Common.{◌≡◌, ℕ, ◌+◌, ◌*◌, ◌<◌, ◌≤◌, ◌==◌, Bool, true, false, ◌&&◌, List, [], ◌∷◌, ◌++◌, length, take, Option, Some, None, is_some, unwrap_or, refl, sym, ap, ◌∙◌, arith, append_assoc, append-nil, eqb-true, inl, inr}
+use Rattle.std.proofs.Common.{◌≡◌, ℕ, ◌+◌, ◌*◌, ◌<◌, ◌≤◌, ◌==◌, Bool, true, false, ◌&&◌, List, [], ◌∷◌, ◌++◌, length, take, Option, Some, None, is_some, unwrap_or, refl, sym, ap, subst, ◌∙◌, arith, append_assoc, append-nil, eqb-true, inl, inr}
 use Rattle.std.proofs.lemmas.Bool.{cases_Bool, and_parts}
 use Rattle.std.proofs.lemmas.List.{nil_from_length}
 use Rattle.hex.specs.Hex.{hex_digit_value, is_hex_digit}
@@ -37,6 +37,19 @@ holds_from line waiting last s w o = read line None (sym (append-nil line)) s w 
 given_of_digits : (line : List ℕ) → AreDigits line → octets_given line ≡ take 65536 (all_but_last (octets_of_digits line))
 given_of_digits line s = ap (λ (l : List ℕ). take 65536 (all_but_last (octets_of_digits l))) (leading-all line s)
 
+-- so many pairs of so many digits
+pairs_fit : (digits pairs : ℕ) → digits ≡ 2 * pairs + 1 → digits + 1 ≤ 131074 → pairs ≤ 65536
+pairs_fit digits pairs odd room = omega arith
+
+pairs_fill : (digits pairs : ℕ) → digits ≡ 2 * pairs + 1 → 131074 < digits + 1 → 65536 < pairs
+pairs_fill digits pairs odd full = omega arith
+
+half_fits : (digits more pairs : ℕ) → digits ≡ 2 * pairs → digits + more ≤ 131072 → pairs ≤ 65536
+half_fits digits more pairs even fits = omega arith
+
+halves_fit : (digits more pairs others : ℕ) → digits ≡ 2 * pairs → more ≡ 2 * others → 1 ≤ more → digits + more ≤ 131072 → (1 ≤ others) × (pairs + others ≤ 65536)
+halves_fit digits more pairs others even also some fits = (omega arith, omega arith)
+
 -- a digit more is taken by a feed that kept this much
 module _ (line : List ℕ) (at : Stage) (waiting last : Option ℕ) (digit value : ℕ) (h : Holds at waiting last line) (is : at ≡ stage.Digits)
     (v : hex_digit_value digit ≡ Some value) where
@@ -51,7 +64,7 @@ module _ (line : List ℕ) (at : Stage) (waiting last : Option ℕ) (digit value
   holds_first none =
       let (s, w, o) = holds_digits at waiting last line h is in
       let even : waiting_value line ≡ None = sym w ∙ none in
-      rw is (holds_from (line ++ digit ∷ []) (Some value) last (AreDigits-push line digit s d)
+      subst (λ (a : Stage). Holds a (Some value) last (line ++ digit ∷ [])) (sym is) (holds_from (line ++ digit ∷ []) (Some value) last (AreDigits-push line digit s d)
       (sym (waiting-push_first line digit even ∙ ap (λ (n : ℕ). Some n) valued))
       (o ∙ ap last_of (sym (octets-push_first line digit even))))
 
@@ -69,8 +82,9 @@ module _ (line : List ℕ) (at : Stage) (waiting last : Option ℕ) (digit value
       let odd : waiting_value line ≡ Some high = sym w ∙ some in
       let more : octets_of_digits (line ++ digit ∷ []) ≡ octets_of_digits line ++ (16 * high + value) ∷ [] =
       octets-push_second line high digit odd ∙ ap (λ (n : ℕ). octets_of_digits line ++ (16 * high + n) ∷ []) valued in
-      rw is (holds_from (line ++ digit ∷ []) None _ (AreDigits-push line digit s d) (sym (waiting-push_second line high digit odd))
-      (rw more (sym (last_of-push (octets_of_digits line) _))))
+      subst (λ (a : Stage). Holds a None (Some (16 * high + value)) (line ++ digit ∷ [])) (sym is)
+      (holds_from (line ++ digit ∷ []) None (Some (16 * high + value)) (AreDigits-push line digit s d) (sym (waiting-push_second line high digit odd))
+      (sym (ap last_of more ∙ last_of-push (octets_of_digits line) (16 * high + value))))
 
   -- what is given then
   given_pair : (high : ℕ) → waiting ≡ Some high
@@ -85,24 +99,26 @@ module _ (line : List ℕ) (at : Stage) (waiting last : Option ℕ) (digit value
       → octets_given (line ++ digit ∷ []) ≡ octets_given line ++ octet ∷ []
   given_second high octet some before room =
       let (s, w, o) = holds_digits at waiting last line h is in
-      let pairs = length-octets_odd line high (sym w ∙ some) in
+      let fits = pairs_fit (length line) (length (octets_of_digits line)) (length-octets_odd line high (sym w ∙ some)) room in
       given_pair high some
-      ∙ (rw (given_of_digits line s) (given-push (octets_of_digits line) _ octet (sym o ∙ before) (omega arith)))
+      ∙ given-push (octets_of_digits line) (16 * high + value_of digit) octet (sym o ∙ before) fits
+      ∙ ap (λ (os : List ℕ). os ++ octet ∷ []) (sym (given_of_digits line s))
 
   pub given_second_full : (high octet : ℕ) → waiting ≡ Some high → last ≡ Some octet → 131074 < length line + 1
       → octets_given (line ++ digit ∷ []) ≡ octets_given line ++ []
   given_second_full high octet some before full =
       let (s, w, o) = holds_digits at waiting last line h is in
-      let pairs = length-octets_odd line high (sym w ∙ some) in
+      let many = pairs_fill (length line) (length (octets_of_digits line)) (length-octets_odd line high (sym w ∙ some)) full in
       given_pair high some
-      ∙ (rw (given_of_digits line s) (given-push_full (octets_of_digits line) _ octet (sym o ∙ before) (omega arith)))
-      ∙ sym (append-nil (octets_given line))
+      ∙ given-push_full (octets_of_digits line) (16 * high + value_of digit) octet (sym o ∙ before) many
+      ∙ sym (given_of_digits line s) ∙ sym (append-nil (octets_given line))
 
   pub given_second_none : (high : ℕ) → waiting ≡ Some high → last ≡ None → octets_given (line ++ digit ∷ []) ≡ octets_given line ++ []
   given_second_none high some before =
       let (s, w, o) = holds_digits at waiting last line h is in
       let empty = last_none (octets_of_digits line) (sym o ∙ before) in
-      given_pair high some ∙ (rw (given_of_digits line s, empty) refl)
+      given_pair high some ∙ ap (λ (os : List ℕ). take 65536 (all_but_last (os ++ (16 * high + value_of digit) ∷ []))) empty
+      ∙ sym (given_of_digits line s ∙ ap (λ (os : List ℕ). take 65536 (all_but_last os)) empty) ∙ sym (append-nil (octets_given line))
 
 -- ---- whole pairs of digits at once
 
@@ -112,8 +128,8 @@ module _ (line digits : List ℕ) (at : Stage) (waiting last : Option ℕ) (h : 
   holds_pairs octet some =
       let (s, w, o) = holds_digits at waiting last line h is in
       let none : waiting_value line ≡ None = sym w ∙ even in
-      rw (is, even) (holds_from (line ++ digits) None (Some octet) (AreDigits-append line digits s all)
-      (sym (waiting-append line digits none ∙ pairs))
+      subst (λ (a : Stage). Holds a waiting (Some octet) (line ++ digits)) (sym is) (holds_from (line ++ digits) waiting (Some octet) (AreDigits-append line digits s all)
+      (even ∙ sym (waiting-append line digits none ∙ pairs))
       (sym (ap last_of (octets-append line digits none) ∙ last_of-append (octets_of_digits line) (octets_of_digits digits) octet some)))
 
   given_pairs : 1 ≤ length digits → length line + length digits ≤ 131072
@@ -121,11 +137,10 @@ module _ (line digits : List ℕ) (at : Stage) (waiting last : Option ℕ) (h : 
   given_pairs some fits =
       let (s, w, o) = holds_digits at waiting last line h is in
       let none : waiting_value line ≡ None = sym w ∙ even in
-      let before = length-octets_even line none in
-      let more = length-octets_even digits pairs in
+      let fits = halves_fit (length line) (length digits) (length (octets_of_digits line)) (length (octets_of_digits digits)) (length-octets_even line none) (length-octets_even digits pairs) some fits in
       given_of_digits (line ++ digits) (AreDigits-append line digits s all)
       ∙ ap (λ (os : List ℕ). take 65536 (all_but_last os)) (octets-append line digits none)
-      ∙ given-append (octets_of_digits line) (octets_of_digits digits) (omega (arith, more, some)) (omega (arith, before, more, fits))
+      ∙ given-append (octets_of_digits line) (octets_of_digits digits) fits.0 fits.1
 
   -- the first ones
   pub given_first_pairs : last ≡ None → 1 ≤ length digits → length line + length digits ≤ 131072
@@ -133,18 +148,18 @@ module _ (line digits : List ℕ) (at : Stage) (waiting last : Option ℕ) (h : 
   given_first_pairs first some fits =
       let (s, w, o) = holds_digits at waiting last line h is in
       let empty = last_none (octets_of_digits line) (sym o ∙ first) in
-      let nothing : octets_given line ≡ [] = given_of_digits line s ∙ (rw empty refl) in
-      given_pairs some fits ∙ (rw (empty, nothing) refl)
+      let nothing : octets_given line ≡ [] = given_of_digits line s ∙ ap (λ (os : List ℕ). take 65536 (all_but_last os)) empty in
+      given_pairs some fits ∙ ap (λ (os : List ℕ). os ++ all_but_last (octets_of_digits digits)) (empty ∙ sym nothing)
 
   -- others: they give the octet that was held back
   pub given_more_pairs : (octet : ℕ) → last ≡ Some octet → 1 ≤ length digits → length line + length digits ≤ 131072
       → octets_given (line ++ digits) ≡ octets_given line ++ octet ∷ all_but_last (octets_of_digits digits)
   given_more_pairs octet held some fits =
       let (s, w, o) = holds_digits at waiting last line h is in
-      let before = length-octets_even line (sym w ∙ even) in
+      let short = half_fits (length line) (length digits) (length (octets_of_digits line)) (length-octets_even line (sym w ∙ even)) fits in
       let back : List ℕ = all_but_last (octets_of_digits digits) in
       given_pairs some fits
-      ∙ given-behind (octets_of_digits line) octet back (sym o ∙ held) (omega (arith, before, fits))
+      ∙ given-behind (octets_of_digits line) octet back (sym o ∙ held) short
       ∙ ap (λ (os : List ℕ). os ++ octet ∷ back) (sym (given_of_digits line s))
 
 -- ---- any other byte

@@ -1,11 +1,13 @@
 -- What is written, and block lines.
-use Rattle.std.proofs.Common.{◌≡◌, ℕ, zero, suc, ◌+◌, ◌-◌, ◌*◌, ◌/◌, ◌%◌, ◌^◌, ◌<◌, ◌≤◌, ◌==◌, nat_lt, nat_le, Bool, true, false, not, ◌&&◌, ◌||◌, List, [], ◌∷◌, ◌++◌, length, take, map, get_or, slice_index, codes, Option, Some, None, unwrap_or, is_some, refl, sym, ap, ◌∙◌, arith, append-nil, length-append, eqb-true, inl, inr}
+use Rattle.std.proofs.Common.{◌≡◌, ℕ, zero, suc, ◌+◌, ◌-◌, ◌*◌, ◌/◌, ◌%◌, ◌^◌, ◌<◌, ◌≤◌, ◌==◌, nat_lt, nat_le, Bool, true, false, not, ◌&&◌, ◌||◌, List, [], ◌∷◌, ◌++◌, length, take, map, get_or, slice_index, codes, Option, Some, None, unwrap_or, is_some, refl, sym, ap, subst, ◌∙◌, arith, append-nil, length-append, eqb-true, inl, inr}
 use Rattle.std.proofs.lemmas.Bool.{agree_below_at, and_left, and_parts, cases_Bool, cases_lt, lt-leb, leb-true, ltb-true}
 use Rattle.std.proofs.lemmas.List.{get_or_push, length_push, length-take, length-take-le, map-append, take_all}
 use Rattle.hex.specs.Hex.{encode_upper, encode_with, hex_digit_value, is_hex_digit, upper_digits}
-use Rattle.csn_bits.specs.Octets.{IsPacked, bits_of_octet, bits_of_octets, octets_of}
+use Rattle.csn_bits.specs.Octets.{IsBits, IsPacked, bits_of_octet, bits_of_octets, octets_of}
 use Rattle.csn_bits.specs.Line.{BlockLine, bits_of_tail, octets_of_digits, tail_written, upper, value_of, written}
-use Rattle.csn_bits.specs.Feed.{AreDigits, EndsWith, all_but_last, leading_digits, octets_given, tail_text, waiting_value}
+use Rattle.csn_bits.specs.Feed.{AreDigits, EndsWith, Gives, all_but_last, leading_digits, octets_given, octets_of_step, tail_text, waiting_value}
+use Rattle.csn_bits.specs.declared.feed.HexStep.{HexStep}
+use Rattle.csn_bits.specs.declared.feed.HexStep.TheVariants.{Nothing, Octet}
 use Rattle.csn_bits.proofs.Digits.{last_parts, leading-all, leading-stop, length-octets_even}
 use Rattle.csn_bits.proofs.Faults.{IsWhole}
 use Rattle.csn_bits.proofs.HexDigits.{high_fails}
@@ -175,23 +177,59 @@ block_line digits tail octet used w zeros fits =
           ) refl);
     })
 
+-- some octets and one more, of which so many bits count, hold the bits of these
+packs_behind : (front : List ℕ) (octet used : ℕ) → used ≤ 8 → octets_of (take used (bits_of_octet octet)) ≡ octet ∷ []
+    → IsBits (bits_of_octets front ++ take used (bits_of_octet octet)) → length (bits_of_octets front ++ take used (bits_of_octet octet)) ≤ 524288
+    → Packs (front ++ octet ∷ []) (8 * length front + used) (bits_of_octets front ++ take used (bits_of_octet octet))
+packs_behind front octet used few filled bits fits =
+    let back : List ℕ = take used (bits_of_octet octet) in
+    let len : length (bits_of_octets front ++ back) ≡ 8 * length front + used =
+    length-append (bits_of_octets front) back ∙ ap (λ (n : ℕ). n + length back) (length-bits_of_octets front)
+    ∙ ap (λ (n : ℕ). 8 * length front + n) (length-take-le used (bits_of_octet octet) few) in
+    let exact : front ++ octet ∷ [] ≡ octets_of (bits_of_octets front ++ back) =
+    sym (octets_of-behind front back ∙ ap (λ (l : List ℕ). front ++ l) filled) in
+    packs_from (front ++ octet ∷ []) (bits_of_octets front ++ back) (8 * length front + used) exact (sym len) bits (subst (λ (n : ℕ). n ≤ 524288) len fits)
+
 -- the octets given, with the last one, hold the bits of the line
-pub packs_line : (line : List ℕ) (octet used : ℕ) → EndsWith line octet used
+packs_line : (line : List ℕ) (octet used : ℕ) → EndsWith line octet used
     → Packs (octets_given line ++ octet ∷ []) (8 * length (octets_given line) + used)
     (bits_of_octets (octets_given line) ++ take used (bits_of_octet octet))
-packs_line line octet used e =
-    let given : List ℕ = octets_given line in
-    let bits : List ℕ = bits_of_octets given ++ take used (bits_of_octet octet) in
-    let last_len : length (take used (bits_of_octet octet)) ≡ used = length-take-le used (bits_of_octet octet) e.few in
-    let len : length bits ≡ 8 * length given + used =
-    length-append (bits_of_octets given) (take used (bits_of_octet octet)) ∙ (let m = length-bits_of_octets given in omega arith) in
-    let exact : given ++ octet ∷ [] ≡ octets_of bits =
-    sym (octets_of-behind given (take used (bits_of_octet octet)) ∙ ap (λ (l : List ℕ). given ++ l) e.filled) in
-    packs_from _ bits _ exact (sym len) e.spelled.zeros_and_ones (let h = e.spelled.few in omega arith)
+packs_line line octet used e = packs_behind (octets_given line) octet used e.few e.filled e.spelled.zeros_and_ones e.spelled.few
+
+-- they are kept, and the bits are those of the whole line
+pub packs_kept : (line octets kept : List ℕ) (octet used count : ℕ) → octets ≡ octets_given line → kept ≡ octets ++ octet ∷ [] → count ≡ length octets
+    → EndsWith line octet used
+    → Packs kept (8 * count + used) (bits_of_octets (octets_given line) ++ take used (bits_of_octet octet))
+packs_kept line octets kept octet used count given pushed counted e =
+    let bits : List ℕ = bits_of_octets (octets_given line) ++ take used (bits_of_octet octet) in
+    subst (λ (l : List ℕ). Packs l (8 * count + used) bits) (sym (pushed ∙ ap (λ (os : List ℕ). os ++ octet ∷ []) given))
+    (subst (λ (n : ℕ). Packs (octets_given line ++ octet ∷ []) (8 * n + used) bits) (sym (counted ∙ ap length given)) (packs_line line octet used e))
+
+pub line_kept : (line whole octets kept : List ℕ) (octet used count : ℕ) → line ≡ whole → octets ≡ octets_given line → kept ≡ octets ++ octet ∷ []
+    → count ≡ length octets → EndsWith line octet used → BlockLine whole (take (8 * count + used) (bits_of_octets kept))
+line_kept line whole octets kept octet used count is given pushed counted e =
+    let bits : List ℕ = bits_of_octets (octets_given line) ++ take used (bits_of_octet octet) in
+    subst (λ (b : List ℕ). BlockLine whole b) (sym (packs_kept line octets kept octet used count given pushed counted e).1)
+    (subst (λ (l : List ℕ). BlockLine l bits) is e.spelled)
+
+-- what a step gives stands behind what was given
+pub gives_octet : (line : List ℕ) (byte octet : ℕ) (step : HexStep) → step ≡ Octet octet → Gives line byte step
+    → octets_given line ++ octet ∷ [] ≡ octets_given (line ++ byte ∷ [])
+gives_octet line byte octet step is given = sym (given ∙ ap (λ (s : HexStep). octets_given line ++ octets_of_step s) is)
+
+pub gives_nothing : (line : List ℕ) (byte : ℕ) (step : HexStep) → step ≡ Nothing → Gives line byte step
+    → octets_given line ≡ octets_given (line ++ byte ∷ [])
+gives_nothing line byte step is given = sym (given ∙ ap (λ (s : HexStep). octets_given line ++ octets_of_step s) is ∙ append-nil (octets_given line))
+
+few_taken : (most : ℕ) (xs : List ℕ) → length (take most xs) ≤ most
+few_taken most xs = omega (arith, length-take most xs)
 
 -- a feed gives no more octets than a block has
-pub few_given : (line : List ℕ) → length (octets_given line) ≤ 65536
-few_given line = omega (arith, length-take 65536 (all_but_last (octets_of_digits (leading_digits line))))
+few_given : (line : List ℕ) → length (octets_given line) ≤ 65536
+few_given line = few_taken 65536 (all_but_last (octets_of_digits (leading_digits line)))
+
+pub kept_few : (line octets : List ℕ) (count : ℕ) → octets ≡ octets_given line → count ≡ length octets → count ≤ 65536
+kept_few line octets count given counted = (let few = few_given line in let same : count ≡ length (octets_given line) = counted ∙ ap length given in subst (λ (n : ℕ). n ≤ 65536) (sym same) few)
 
 -- a whole line ends with its last octet
 pub ends_with : (digits : List ℕ) (tail : Option (List ℕ)) (octet used : ℕ) → IsWhole digits tail octet used
@@ -218,3 +256,7 @@ written-none octets len none = rw none refl
 -- the line of the empty block
 pub block_line-dot : BlockLine (codes ".") []
 block_line-dot = record { zeros_and_ones = tt; few = omega arith; spelled = refl }
+
+pub dot_line : (line bits : List ℕ) → line ≡ codes "." → bits ≡ [] → BlockLine line bits
+dot_line line bits dot none =
+    subst (λ (l : List ℕ). BlockLine l bits) (sym dot) (subst (λ (b : List ℕ). BlockLine (codes ".") b) (sym none) block_line-dot)
