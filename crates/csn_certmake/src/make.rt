@@ -1,14 +1,14 @@
 //! A certificate, made of the look-ahead sets of a description.
 
 ghost use Rattle.std.specs.Prelude.{◌≡◌, ◌<◌, ◌≤◌, length, slice_index_or, [], ℕ, IfOk, OnOk, IfSome};
-ghost use Rattle.csn_desc.specs.Nodes.{DescV};
+ghost use Rattle.csn_desc.specs.Formed.{IsDescription};
 ghost use Rattle.csn_desc.specs.declared.desc.TheConstants.{MOST_NODES};
 ghost use Rattle.csn_cert.specs.PatternText.{ComesBefore};
 ghost use Rattle.csn_cert.specs.CertificateV.{Rises, IsCertificate};
 ghost use Rattle.csn_good.specs.Good.{Good};
 ghost use Rattle.csn_cert.specs.Growing.{with_position, last_position};
-ghost use Rattle.csn_certmake.specs.Rows.{IsInOrder, AddsNode, TellsNodes};
-ghost use Rattle.csn_certmake.specs.Claimed.{ClaimsNullable, ClaimsReached, ClaimsEnds, ClaimsStart, ClaimsFollow, ClaimsPatterns};
+ghost use Rattle.csn_certmake.specs.Rows.{IsInOrder, IsKnown, AddsNode, TellsNodes};
+ghost use Rattle.csn_certmake.specs.Claimed.{ClaimsNullable, ClaimsReached, ClaimsEnds, ClaimsStart, ClaimsFollow, ClaimsPatterns, ClaimsLookAhead};
 
 use crate::digits::{digits_of, follow_digits, start_digits};
 use crate::laws::look_ahead_is_good;
@@ -17,6 +17,7 @@ use crate::row::Row;
 use csn_bits::NoMemory;
 use csn_cert::{Certificate, Pattern};
 use csn_certify::Plan;
+use csn_desc::Desc;
 use csn_look::{Look, Reach};
 use std::alloc::Global;
 
@@ -34,10 +35,32 @@ pub fn make_certificate(alloc: Global, plan: Plan) -> Result<Certificate, NoMemo
 {
     look_ahead_is_good();
     let desc = plan.into_desc();
-    let look = Look::new(alloc, &desc)?;
-    let reach = Reach::new(alloc, &desc, &look)?;
-    let rows = patterns_of(alloc, &desc, &reach)?;
-    certificate_of(alloc, &look, &reach, rows.as_slice())
+    certificate_of_desc(alloc, &desc)
+}
+
+/// The certificate that claims what look-ahead knows of a description.
+fn certificate_of_desc(alloc: Global, desc: &Desc) -> Result<Certificate, NoMemory>
+    ensures description { IfOk result (λ _. IsDescription desc.now) }
+    ensures claims { IfOk result (ClaimsLookAhead desc.now) }
+{
+    let look = Look::new(alloc, desc)?;
+    let reach = Reach::new(alloc, desc, &look)?;
+    certificate_of_known(alloc, desc, &look, &reach)
+}
+
+/// The certificate that claims what is known of a description.
+fn certificate_of_known(
+    alloc: Global,
+    desc: &Desc,
+    look: &Look,
+    reach: &Reach,
+) -> Result<Certificate, NoMemory>
+    requires { IsKnown desc.now look.now reach.now }
+    ensures description { IsDescription desc.now }
+    ensures claims { IfOk result (ClaimsLookAhead desc.now) }
+{
+    let rows = patterns_of(alloc, desc, reach)?;
+    certificate_of(alloc, look, reach, rows.as_slice())
 }
 
 /// The certificate with a node for each of the rows.

@@ -1,59 +1,24 @@
-use Rattle.std.proofs.Common.{◌≡◌, slice_get, Some, Result, Ok, Err, IfOk, length, ◌∙◌, sym, subst, arith, List, ℕ, ◌<◌}
-use Rattle.std.specs.Prelude.{Contains}
-use Rattle.csn_desc.specs.Nodes.{DescV, parts_of}
-use Rattle.csn_desc.specs.Formed.{IsDescription}
-use Rattle.csn_desc.proofs.Numbering.{parts_later}
-use Rattle.std.proofs.lemmas.Option.{slice_get_within}
+use Rattle.std.proofs.Common.{Result, Ok, Err, IfOk, List, subst}
+use Rattle.csn_desc.specs.Nodes.{DescV}
 use Rattle.csn_bits.specs.declared.fault.NoMemory.{NoMemory}
-use Rattle.csn_cert.specs.PatternV.{PatternV}
-use Rattle.csn_cert.specs.CertificateV.{NodeV, IsCertificate}
-use Rattle.csn_look.specs.LookV.{LookV}
-use Rattle.csn_look.specs.ReachV.{ReachV}
-use Rattle.csn_certmake.specs.Rows.{IsKnown, TellsNodes, HaveRows}
-use Rattle.csn_certmake.specs.Claimed.{ClaimsPatterns, ClaimsLookAhead}
+use Rattle.csn_cert.specs.CertificateV.{NodeV}
+use Rattle.csn_certmake.specs.Claimed.{ClaimsLookAhead}
 use Rattle.csn_good.specs.Good.{Good}
-use Rattle.csn_certmake.proofs.Claiming.{TellsAll, nullable_told, reached_told, ends_told, start_told, follow_told, patterns_told}
-use Rattle.csn_certmake.proofs.Making.{HaveTheirs, node_has, node_made}
 use Rattle.csn_certmake.proofs.make.make_certificate.Goals as goal
-
-patterns_claimed : (d : DescV) (c : List NodeV) (rows : List (List (List PatternV))) → IsDescription d → HaveRows d rows → TellsAll d c rows → ClaimsPatterns d c
-patterns_claimed d c rows is have all i o n p at low reached =
-    let inside = slice_get_within d.nodes i n at in
-    let later : (j m : ℕ) → slice_get (parts_of n) j ≡ Some m → m < length d.nodes = parts_later d i n (λ (k : ℕ). k < length d.nodes) is at (λ k above high. high) in
-    let theirs : HaveTheirs c rows (parts_of n) = λ j m a there few. patterns_told d c rows all m a (later j m there) few ((have.each m (later j m there)).none a few) in
-    let here = patterns_told d c rows all i o inside low ((have.each i inside).none o low) in
-    let made = (have.each i inside).made n o at low reached p in (
-      λ has. node_made c rows d.reading n o p theirs low (made.0 (subst (λ (l : List PatternV). Contains l p) here has)),
-      λ has. subst (λ (l : List PatternV). Contains l p) (sym here) (made.1 (node_has c rows d.reading n o p theirs low has)),
-    )
-
-all_claimed : (r : Result (List NodeV) NoMemory) (look : LookV) (reach : ReachV) (rows : List (List (List PatternV))) (d : DescV) → IsDescription d → HaveRows d rows → IsKnown d look reach → length rows ≡ length d.nodes → IfOk r (TellsNodes look reach rows) → IfOk r IsCertificate → IfOk r (ClaimsLookAhead d)
-all_claimed (Ok c) look reach rows d is have known same tells formed =
-    let all : TellsAll d c rows = λ i inside. tells.nodes d known i (omega (arith, inside, same)) in
-    record {
-      certificate = formed;
-      number = tells.same ∙ same;
-      nullable = nullable_told d c rows all;
-      reached = reached_told d c rows all;
-      ends = ends_told d c rows all;
-      start = start_told d c rows all;
-      follow = follow_told d c rows all;
-      patterns = patterns_claimed d c rows is have all;
-    }
-all_claimed (Err e) look reach rows d is have known same tells formed = tt
 
 if_ok : (r : Result (List NodeV) NoMemory) {P Q : List NodeV → Type 0} → IfOk r P → ((c : List NodeV) → P c → Q c) → IfOk r Q
 if_ok (Ok c) h by = by c h
 if_ok (Err e) h by = tt
 
+both_ok : (r : Result (List NodeV) NoMemory) {P Q R : List NodeV → Type 0} → IfOk r P → IfOk r Q → ((c : List NodeV) → P c → Q c → R c) → IfOk r R
+both_ok (Ok c) p q by = by c p q
+both_ok (Err e) p q by = tt
+
 pub returns : goal.returns
 returns c =
     let d = c.into_desc-desc.result in
-    let r = c.certificate_of.result in
-    let is = c.patterns_of.ensures.description in
-    let known : IsKnown d c.in_ok-look.look c.in_ok-reach.reach = record { sets = c.in_ok-look.ensures.sets; reached = c.in_ok-reach.ensures.reached; follow = c.in_ok-reach.ensures.follow } in
-    let rows = subst (λ (rows : List (List (List PatternV))). HaveRows d rows) (sym c.as_slice.ensures.value) c.in_ok-rows.ensures.rows in
-    let all = all_claimed r c.in_ok-look.look c.in_ok-reach.reach c.as_slice.result.now d is rows known rows.same c.certificate_of.ensures.nodes c.certificate_of.ensures.well_formed in
+    let r = c.certificate_of_desc.result in
+    let all = c.certificate_of_desc.ensures.claims in
     let claimed = subst (λ (e : DescV). IfOk r (ClaimsLookAhead e)) c.into_desc-desc.ensures.desc all in
     record {
       number = if_ok r claimed (λ cert claims. claims.number);
@@ -63,5 +28,5 @@ returns c =
       start = if_ok r claimed (λ cert claims. claims.start);
       follow = if_ok r claimed (λ cert claims. claims.follow);
       patterns = if_ok r claimed (λ cert claims. claims.patterns);
-      good = subst (λ (e : DescV). IfOk r (Good e)) c.into_desc-desc.ensures.desc (if_ok r all (λ cert claims. c.look_ahead_is_good.ensures d cert is c.into_desc-desc.ensures.certified claims));
+      good = subst (λ (e : DescV). IfOk r (Good e)) c.into_desc-desc.ensures.desc (both_ok r all c.certificate_of_desc.ensures.description (λ cert claims is. c.look_ahead_is_good.ensures d cert is c.into_desc-desc.ensures.certified claims));
     }
