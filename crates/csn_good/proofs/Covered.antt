@@ -1,8 +1,7 @@
 -- What the tests of the private functions come to for the rule of keys.
-use Rattle.std.proofs.Common.{◌≡◌, ℕ, zero, suc, ◌+◌, ◌-◌, ◌*◌, ◌%◌, ◌<◌, ◌≤◌, Bool, true, false, List, [], ◌∷◌, ◌++◌, length, take, map, inl, inr, refl, sym, ◌∙◌, ap, subst, arith, Option, Some, None, slice_get}
-use Rattle.std.specs.Prelude.{◌⊎◌, ◌↔◌, IsTrue, IfSome, Contains, is_some, replicate}
+use Rattle.std.proofs.Common.{◌≡◌, ℕ, zero, suc, ◌+◌, ◌-◌, ◌%◌, ◌<◌, ◌≤◌, List, [], ◌∷◌, ◌++◌, length, take, map, inl, inr, refl, sym, ◌∙◌, ap, subst, arith, Some, slice_get}
+use Rattle.std.specs.Prelude.{◌⊎◌, ◌↔◌, IsTrue, Contains, replicate}
 use Rattle.csn_bits.specs.Octets.{octet_position, pattern}
-use Rattle.csn_desc.specs.declared.reading.Reading.{Reading}
 use Rattle.csn_desc.specs.declared.symbol.Symbol.{Symbol}
 use Rattle.csn_desc.specs.declared.symbol.Symbol.TheVariants.{Zero, One, Low, High}
 use Rattle.csn_desc.specs.declared.node.Count.{Count}
@@ -14,12 +13,12 @@ use Rattle.csn_desc.specs.Spelled.{symbol_bit, spelled}
 use Rattle.csn_cert.specs.declared.pattern.Mark.{Mark}
 use Rattle.csn_cert.specs.declared.pattern.Mark.TheVariants.{Any}
 use Rattle.csn_cert.specs.PatternV.{PatternV}
-use Rattle.csn_cert.specs.CertificateV.{NodeV, PositionV, IsCertificate}
-use Rattle.csn_good.specs.ClaimedSets.{patterns_of, patterns_at, claims_of}
-use Rattle.csn_good.specs.Patterns.{mark_of, spare_mark, shortened, unread, CoverMarks, Covers, IsCovered, PartsPatterns, TimesPatterns, NodePatterns, patterns_lits, patterns_field, patterns_spare, patterns_pad, patterns_null, patterns_rest, patterns_many, patterns_trunc, patterns_window, patterns_counted_field, patterns_counted_times, patterns_seq, patterns_times, patterns_choice, patterns_named, leaf_pattern}
+use Rattle.csn_cert.specs.CertificateV.{NodeV, IsCertificate}
+use Rattle.csn_good.specs.ClaimedSets.{claims_of}
+use Rattle.csn_good.specs.Patterns.{mark_of, CoverMarks, Covers, IsCovered, PartsPatterns, TimesPatterns, NodePatterns, patterns_lits, patterns_field, patterns_spare, patterns_pad, patterns_null, patterns_rest, patterns_many, patterns_trunc, patterns_window, patterns_counted_field, patterns_counted_times, patterns_seq, patterns_times, patterns_choice, patterns_named, leaf_pattern}
 use Rattle.csn_good.specs.Good.{KeepsKeys}
 use Rattle.csn_good.specs.Made.{MadeAt, AreMade}
-use Rattle.csn_good.specs.Covering.{IsLeaf, AreCovered, PartIsCovered, EachIsCovered, MadeIsCoveredAt, MadeIsCovered, LeafIsCovered}
+use Rattle.csn_good.specs.Covering.{IsLeaf, PartIsCovered, EachIsCovered, MadeIsCovered, LeafIsCovered}
 use Rattle.csn_good.proofs.SetArms.{reached_small}
 use Rattle.std.proofs.lemmas.Bool.{cases_order}
 use Rattle.csn_good.proofs.Making.{take_part, take_whole}

@@ -1,14 +1,15 @@
 -- Where parts may end, one after another, as sets of octet positions tell it.
 use Rattle.std.proofs.Common.{◌≡◌, ℕ, zero, suc, ◌+◌, ◌<◌, ◌≤◌, ◌⊎◌, inl, inr, Bool, true, false, List, [], ◌∷◌, length, drop, refl, sym, ◌∙◌, ap, subst, arith, Option, Some, None, slice_get}
-use Rattle.std.specs.Prelude.{IsTrue, slice_set}
+use Rattle.std.specs.Prelude.{◌↔◌, IsTrue, slice_set}
 use Rattle.std.proofs.lemmas.Bool.Decides.{eqb_tells}
+use Rattle.std.proofs.lemmas.Option.{slice_get_within}
 use Rattle.csn_cert.specs.CertificateV.{NodeV, PositionV}
 use Rattle.csn_cert.specs.Growing.{claimed}
 use Rattle.csn_claims.specs.Claims.{Claims}
 use Rattle.csn_claims.specs.Ends.{PartsEnd, TimesEnd, ManyEnd, LeadEnd, parts_end, parts_next, times_end, times_next, many_end, many_next, lead_end, lead_next}
 use Rattle.csn_claims.proofs.Reaching.{many_end_more}
 use Rattle.csn_good.specs.ClaimedSets.{ends_at, claims_of}
-use Rattle.csn_good.specs.Octets.{has_octet, OctetsAre, OfSome, EndsFewer}
+use Rattle.csn_good.specs.Octets.{has_octet, OctetsAre, OfSome, EndsFewer, SomeEnds}
 use Rattle.csn_good.proofs.Digits.{digit_within}
 
 -- ---- lists
@@ -68,6 +69,9 @@ passed s P k are not_here o low = (
   (λ h. let f = (are o low).0 h in let less = f.1 in (f.0, omega arith)),
   (λ (h, less). elim (eqb_tells o k) [ inl same ↦ absurd (not_here (subst P same.1 h)) | inr apart ↦ let differ = apart.1 in (are o low).1 (h, omega arith) ]),
 )
+
+pub none_yet : (s : List Bool) (P : ℕ → Type 0) → OctetsAre s (λ o. ⊥) → OctetsAre s (λ o. P o × (o < 0))
+none_yet s P are o low = ((λ h. absurd ((are o low).0 h)), (λ h. let less = h.1 in absurd (omega (arith, less))))
 
 pub all_collected : (s : List Bool) (P : ℕ → Type 0) (k : ℕ) → 8 ≤ k → OctetsAre s (λ o. P o × (o < k)) → OctetsAre s P
 all_collected s P k long are o low = ((λ h. ((are o low).0 h).0), (λ h. (are o low).1 (h, omega arith)))
@@ -321,3 +325,50 @@ pub record EndsBefore (claims : Claims) (parts : List ℕ) (at o p : ℕ) : Type
   pub part : ℕ
   pub is : slice_get parts place ≡ Some part
   pub ends : IsTrue (claims.ends part o p)
+
+module _ (claims : Claims) (parts : List ℕ) (from : List Bool) where
+  pub some_begin : (none : List Bool) → OctetsAre none (λ o. ⊥) → OctetsAre none (λ p. OfSome from (λ o. EndsBefore claims parts 0 o p))
+  some_begin none empty p low = ((λ h. absurd ((empty p low).0 h)), (λ h. let less = h.fact.before in absurd (omega (arith, less))))
+
+  same_part : {at place i part : ℕ} → slice_get parts at ≡ Some i → slice_get parts place ≡ Some part → place ≡ at → part ≡ i
+  same_part one two same = cc
+
+  pub some_on : (at i : ℕ) (ends next both : List Bool) → slice_get parts at ≡ Some i → LeadsOn claims i from next → OctetsAre both (λ o. IsTrue (has_octet ends o) ⊎ IsTrue (has_octet next o)) → OctetsAre ends (λ p. OfSome from (λ o. EndsBefore claims parts at o p)) → OctetsAre both (λ p. OfSome from (λ o. EndsBefore claims parts (at + 1) o p))
+  some_on at i ends next both is leads joins before p low = (
+    (λ h. elim ((joins p low).0 h) [
+      | inl old ↦
+          let f = (before p low).0 old in
+          let less = f.fact.before in
+          record { octet = f.octet; small = f.small; there = f.there; fact = record { place = f.fact.place; before = omega (arith, less); part = f.fact.part; is = f.fact.is; ends = f.fact.ends } }
+      | inr new ↦
+          let f = (leads p low).0 new in
+          record { octet = f.octet; small = f.small; there = f.there; fact = record { place = at; before = omega arith; part = i; is = is; ends = f.fact } }
+    ]),
+    (λ h. (joins p low).1 (elim (eqb_tells h.fact.place at) [
+      | inl same ↦ inr ((leads p low).1 (record { octet = h.octet; small = h.small; there = h.there; fact = subst (λ k. IsTrue (claims.ends k h.octet p)) (same_part is h.fact.is same.1) h.fact.ends }))
+      | inr apart ↦
+          let less = h.fact.before in
+          let differ = apart.1 in
+          inl ((before p low).1 (record { octet = h.octet; small = h.small; there = h.there; fact = record { place = h.fact.place; before = omega (arith, less, differ); part = h.fact.part; is = h.fact.is; ends = h.fact.ends } }))
+    ])),
+  )
+
+  pub some_done : (at : ℕ) (ends : List Bool) → length parts ≤ at → OctetsAre ends (λ p. OfSome from (λ o. EndsBefore claims parts at o p)) → OctetsAre ends (λ p. OfSome from (λ o. SomeEnds claims parts o p))
+  some_done at ends all before p low = (
+    (λ h. let f = (before p low).0 h in record { octet = f.octet; small = f.small; there = f.there; fact = record { place = f.fact.place; part = f.fact.part; at = f.fact.is; ends = f.fact.ends } }),
+    (λ h.
+        let inside = slice_get_within parts h.fact.place h.fact.part h.fact.at in
+        (before p low).1 (record { octet = h.octet; small = h.small; there = h.there; fact = record { place = h.fact.place; before = omega (arith, inside, all); part = h.fact.part; is = h.fact.at; ends = h.fact.ends } })),
+  )
+
+-- ---- what a test tells
+
+-- what a test denies is not so
+pub denied : {b : Bool} {P : Type 0} → IsTrue b ↔ P → b ≡ false → P → ⊥
+denied tells fails p = let holds = tells.1 p in absurd (cc)
+
+pub never : {P : Type 0} → (P → ⊥) → IsTrue false ↔ P
+never wrong = ((λ h. absurd (cc)), (λ h. absurd (wrong h)))
+
+pub always : {P : Type 0} → P → IsTrue true ↔ P
+always holds = ((λ h. holds), (λ h. refl))

@@ -1,10 +1,10 @@
 -- The least rule that is broken at a node, and the first node at which one is.
-use Rattle.std.proofs.Common.{◌≡◌, ℕ, zero, suc, ◌<◌, ◌≤◌, List, length, inl, inr, refl, sym, subst, arith, Some, slice_get}
+use Rattle.std.proofs.Common.{◌≡◌, ℕ, zero, suc, ◌<◌, ◌≤◌, List, inl, inr, refl, sym, subst, arith, Some, slice_get}
 use Rattle.std.specs.Prelude.{◌⊎◌}
 use Rattle.csn_desc.specs.declared.node.Node.{Node}
 use Rattle.csn_desc.specs.Nodes.{DescV}
 use Rattle.csn_cert.specs.CertificateV.{NodeV}
-use Rattle.csn_good.specs.Good.{KeepsNumber, KeepsNullable, KeepsEnds, KeepsStart, KeepsKeys, KeepsReached, KeepsFollow, KeepsApart, KeepsRules, Good, Breaks, breaks_number, breaks_nullable, breaks_ends, breaks_start, breaks_keys, breaks_reached, breaks_follow, breaks_apart, FirstFault}
+use Rattle.csn_good.specs.Good.{KeepsNumber, KeepsNullable, KeepsEnds, KeepsStart, KeepsKeys, KeepsReached, KeepsFollow, KeepsApart, KeepsRules, Breaks, breaks_number, breaks_nullable, breaks_ends, breaks_start, breaks_keys, breaks_reached, breaks_follow, breaks_apart, FirstFault}
 use Rattle.csn_good.specs.Faults.{FaultAt}
 
 lower : (a b : ℕ) → (a < b) ⊎ (b ≤ a)

@@ -1,5 +1,5 @@
 -- What is known of the last parts, with one more before them.
-use Rattle.std.proofs.Common.{◌≡◌, ℕ, zero, suc, ◌+◌, ◌-◌, ◌≤◌, ◌↔◌, false, List, [], ◌∷◌, length, sym, ◌∙◌, subst, arith, Some, slice_get}
+use Rattle.std.proofs.Common.{◌≡◌, ℕ, zero, suc, ◌+◌, ◌≤◌, ◌↔◌, false, List, [], ◌∷◌, length, sym, ◌∙◌, subst, arith, Some, slice_get}
 use Rattle.std.specs.Prelude.{IsTrue, ◌&&◌}
 use Rattle.csn_claims.specs.Claims.{Claims}
 use Rattle.csn_claims.specs.Nullable.{AllNullable, all_end, all_next}

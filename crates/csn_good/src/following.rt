@@ -19,7 +19,7 @@ const END: u8 = 2;
 
 /// What stands behind a part besides what may follow its node: the later parts, and behind them what follows the node
 /// where these may have no bits or be left out; the part itself again; nothing else; or the end alone.
-#[derive(Clone, Copy, Debug)]
+#[derive(Clone, Copy)]
 pub(crate) enum Around {
     Later { tail: Tail, ends_early: bool },
     Again,

@@ -10,7 +10,7 @@ use csn_cert::Certificate;
 use csn_desc::Parts;
 
 /// For each octet position whether it is in the set.
-#[derive(Clone, Copy, Debug, PartialEq, Eq)]
+#[derive(Clone, Copy)]
 pub(crate) struct Octets {
     pub has: [bool; 8],
 }

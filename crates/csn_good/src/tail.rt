@@ -11,7 +11,7 @@ use csn_cert::Certificate;
 use csn_desc::Parts;
 
 /// What is known of some last parts.
-#[derive(Clone, Copy, Debug)]
+#[derive(Clone, Copy)]
 pub(crate) struct Tail {
     pub nullable: bool,
     // the octet positions at which they may begin with the bit

@@ -3,7 +3,7 @@ use Rattle.std.specs.Prelude.{IfSome, IfNone}
 use Rattle.std.proofs.lemmas.Bool.Decides.{eqb_tells}
 use Rattle.std.proofs.lemmas.Option.{slice_get_within}
 use Rattle.csn_desc.proofs.Numbering.{parts_later}
-use Rattle.csn_good.specs.Good.{KeepsNumber, KeepsRules, Good, FirstFault}
+use Rattle.csn_good.specs.Good.{KeepsRules, Good, FirstFault}
 use Rattle.csn_good.specs.Faults.{FaultAt}
 use Rattle.csn_good.proofs.Arms.{node_within}
 use Rattle.csn_good.proofs.Holding.{unbroken}

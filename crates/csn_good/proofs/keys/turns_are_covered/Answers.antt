@@ -1,4 +1,4 @@
-use Rattle.std.proofs.Common.{◌↔◌, ◌∙◌, IsTrue, ap, subst, sym}
+use Rattle.std.proofs.Common.{◌↔◌, ◌∙◌, IsTrue, ap}
 use Rattle.csn_desc.specs.declared.node.Node.TheVariants.{Times}
 use Rattle.csn_good.specs.Good.{KeepsKeys}
 use Rattle.csn_good.specs.Covering.{IsLeaf}
