@@ -1,8 +1,9 @@
 -- What a sink takes of a text, piece by piece.
-use Rattle.std.proofs.Common.{◌≡◌, ◌≢◌, ℕ, ◌+◌, ◌-◌, ◌≤◌, List, ◌++◌, length, take, drop, Option, sym, ◌∙◌, ap, subst, arith, length-drop}
-use Rattle.std.proofs.lemmas.List.{length-take, take-append-drop, take_all}
+use Rattle.std.proofs.Common.{◌≡◌, ◌≢◌, ℕ, ◌+◌, ◌-◌, ◌≤◌, List, ◌++◌, length, take, drop, Option, refl, sym, ◌∙◌, ap, subst, arith, length-drop}
+use Rattle.std.proofs.lemmas.List.{length-take, take-append-drop, take_all, drop_all}
 use Rattle.std.proofs.Math.Seq.{take-append-add}
 use Rattle.csn_io.specs.Put.{Appended}
+use Rattle.csn_io.specs.Faults.{Keeps}
 use Rattle.csn_replay.specs.declared.told.Told.{Told}
 use Rattle.csn_replay.specs.declared.told.Told.TheVariants.{Ok}
 use Rattle.csn_replay.specs.Told.{Wrote}
@@ -24,3 +25,25 @@ take_more_of p n xs h =
 pub broke_off : (told : Told) (before now after : Option (List ℕ)) (n : ℕ) (text : List ℕ) → told ≢ Ok → after ≡ now → Appended before now (take n text) → Wrote told before after text
 broke_off told before now after n text fault still took =
     (take n text, drop n text, sym (take-append-drop n text), subst (λ taken. Appended before taken (take n text)) (sym still) took, λ ok. absurd (fault ok))
+
+-- the whole text was taken
+pub took_all : (before after : Option (List ℕ)) (n : ℕ) (text : List ℕ) → length text ≤ n → Appended before after (take n text) → Wrote Ok before after text
+took_all before after n text all took = (take n text, drop n text, sym (take-append-drop n text), took, λ ok. drop_all n text all)
+
+-- ---- what holds of the sink
+
+-- nothing was asked of it
+pub kept_all : {Blamed : Type 0} (Steady : Type 0) (faults : ℕ) → Keeps Steady Steady faults faults Blamed
+kept_all Steady faults = (omega arith, (λ was. (was, refl)), (λ free. refl))
+
+-- all calls but the last one met no fault
+pub kept_on : {Old Middle New Blamed Later : Type 0} {old middle new : ℕ} → middle ≡ old → (Old → Middle) → Keeps Middle New middle new Blamed → (Blamed → Later) → Keeps Old New old new Later
+kept_on same steady keeps blames = (
+  omega (arith, same, keeps.0),
+  (λ was. let next = keeps.1 (steady was) in (next.0, next.1 ∙ same)),
+  (λ free. keeps.2 (λ is. free (blames is)) ∙ same),
+)
+
+-- no call met one
+pub kept_still : {Old New Blamed : Type 0} {old new : ℕ} → new ≡ old → (Old → New) → Keeps Old New old new Blamed
+kept_still same steady = (omega (arith, same), (λ was. (steady was, same)), (λ free. same))

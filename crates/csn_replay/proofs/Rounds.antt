@@ -29,6 +29,10 @@ pub wrote_all : (before after : Option (List ℕ)) (text : List ℕ) → Wrote O
 wrote_all before after text (front, rest, split, took, whole) =
     subst (Appended before after) (sym (split ∙ ap (λ end. front ++ end) (whole refl) ∙ append-nil front)) took
 
+-- nothing was taken of a text that is cut off
+pub wrote_none : {told : Told} (t : Option (List ℕ)) (text : List ℕ) → told ≢ Ok → Wrote told t t text
+wrote_none t text fault = ([], text, refl, nothing_taken t, λ ok. absurd (fault ok))
+
 -- one more watcher reported
 one_reported : (due left : List Watched) (first : Watched) (was now later : Option (List ℕ))
     → Reporting due (first ∷ left) was now → Wrote Ok now later (report_line first ++ codes "\n") → Reporting due left was later

@@ -1,4 +1,4 @@
-ghost use Rattle.std.specs.Prelude.{◌≡◌, ◌≢◌, ◌↔◌, ◌<◌, ◌+◌, ◌++◌, true, IfSome, IfNone, List, map, codes, vec_len, length};
+ghost use Rattle.std.specs.Prelude.{◌≡◌, ◌≢◌, ◌↔◌, ◌<◌, ◌+◌, ◌++◌, true, IfSome, IfNone, IfOk, List, map, codes, vec_len, length};
 ghost use Rattle.std.specs.Option.{option_map};
 ghost use Rattle.csn_io.specs.Faults.{Keeps, Rose};
 ghost use Rattle.csn_replay.specs.Told.{Wrote};
@@ -10,6 +10,7 @@ use crate::output::put_all;
 use crate::seen::{Go, Seen};
 use crate::told::Told;
 use crate::watcher::Watcher;
+use csn_bits::NoMemory;
 use csn_io::Sink;
 use std::alloc::Global;
 
@@ -36,6 +37,15 @@ fn show(watchers: &mut Vec<Box<dyn Watcher>>, at: usize, seen: &Seen) -> Option<
     }
 }
 
+/// The report line of a watcher, and a line feed.
+fn fed_line(alloc: Global, watcher: &Box<dyn Watcher>) -> Result<Vec<u8>, NoMemory>
+    ensures { IfOk result (λ line. line.items ≡ report_line (watched watcher.now) ++ codes "\n") }
+{
+    let mut line = watcher.report_line(alloc)?;
+    line.push(b'\n')?;
+    Ok(line)
+}
+
 /// Writes the report line of a watcher, and a line feed.
 fn report<K: Sink>(alloc: Global, watcher: &Box<dyn Watcher>, out: &mut K) -> Told
     ensures wrote { Wrote result (K.taken out.old) (K.taken out.new) (report_line (watched watcher.now) ++ codes "\n") }
@@ -43,11 +53,8 @@ fn report<K: Sink>(alloc: Global, watcher: &Box<dyn Watcher>, out: &mut K) -> To
     ensures outside { Keeps (K.steady out.old) (K.steady out.new) (K.faults out.old) (K.faults out.new) (result ≡ WriteFault) }
     ensures steady_no_fault { K.steady out.old → result ≢ WriteFault }
 {
-    let Ok(mut line) = watcher.report_line(alloc) else {
-        return Told::NoMemory;
-    };
-    match line.push(b'\n') {
-        Ok(()) => put_all(&line, out),
+    match fed_line(alloc, watcher) {
+        Ok(line) => put_all(&line, out),
         Err(_) => Told::NoMemory,
     }
 }

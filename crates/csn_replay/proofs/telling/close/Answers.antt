@@ -1,6 +1,8 @@
-use Rattle.std.proofs.Common.{◌≡◌, vec_len, length, refl, sym, ap, ◌∙◌, arith, rules}
+use Rattle.std.proofs.Common.{◌≡◌, vec_len, length, refl, sym, ap, subst, ◌∙◌, arith, rules}
 use Rattle.std.proofs.lemmas.List.{nil_from_length}
 use Rattle.csn_replay.proofs.Rounds.{none_reported_of, one_reported_of, broke_off_of, all_reported_of}
+use Rattle.csn_io.specs.Faults.{Rose}
+use Rattle.csn_replay.proofs.Puts.{kept_on, kept_still}
 use Rattle.csn_replay.proofs.telling.close.Goals as goal
 
 pub loop-watcher-init : goal.loop-watcher-init
@@ -36,3 +38,31 @@ returns-in-NoMemory-clause-wrote g c =
 
 pub returns-clause-wrote : goal.returns-clause-wrote
 returns-clause-wrote g c = all_reported_of _ _ _ _ _ (nil_from_length _ (sym c.loop-watcher.invariant.len ∙ c.in-None.ensures.steps.0)) c.loop-watcher.invariant.reporting
+
+pub returns-clause-write_fault : goal.returns-clause-write_fault
+returns-clause-write_fault g c = λ is. cc
+
+pub returns-clause-outside : goal.returns-clause-outside
+returns-clause-outside g c = kept_still c.loop-watcher.invariant.no_fault c.loop-watcher.invariant.steady
+
+pub returns-clause-steady_no_fault : goal.returns-clause-steady_no_fault
+returns-clause-steady_no_fault g c = λ was is. cc
+
+pub returns-in-WriteFault-clause-write_fault : goal.returns-in-WriteFault-clause-write_fault
+returns-in-WriteFault-clause-write_fault g c = λ is.
+    subst (λ n. Rose n (g.K.Sink.faults c.report.new.out)) c.loop-watcher.invariant.no_fault (c.in-WriteFault.ensures.write_fault is)
+
+pub returns-in-WriteFault-clause-outside : goal.returns-in-WriteFault-clause-outside
+returns-in-WriteFault-clause-outside g c = kept_on c.loop-watcher.invariant.no_fault c.loop-watcher.invariant.steady c.in-WriteFault.ensures.outside (λ is. is)
+
+pub returns-in-WriteFault-clause-steady_no_fault : goal.returns-in-WriteFault-clause-steady_no_fault
+returns-in-WriteFault-clause-steady_no_fault g c = λ was. c.in-WriteFault.ensures.steady_no_fault (c.loop-watcher.invariant.steady was)
+
+pub returns-in-NoMemory-clause-write_fault : goal.returns-in-NoMemory-clause-write_fault
+returns-in-NoMemory-clause-write_fault g c = λ is. cc
+
+pub returns-in-NoMemory-clause-outside : goal.returns-in-NoMemory-clause-outside
+returns-in-NoMemory-clause-outside g c = kept_on c.loop-watcher.invariant.no_fault c.loop-watcher.invariant.steady c.in-NoMemory.ensures.outside (λ is. is)
+
+pub returns-in-NoMemory-clause-steady_no_fault : goal.returns-in-NoMemory-clause-steady_no_fault
+returns-in-NoMemory-clause-steady_no_fault g c = λ was is. cc

@@ -1,4 +1,4 @@
-use Rattle.std.proofs.Common.{refl, arith, subst, inl, inr, rules, ◌∙◌}
+use Rattle.std.proofs.Common.{refl, arith, subst, inl, inr, ◌∙◌}
 use Rattle.csn_io.specs.Faults.{Rose}
 use Rattle.csn_replay.proofs.Rounds.{none_told, stayed, ended, passed_over, all_told}
 use Rattle.csn_replay.proofs.telling.tell.Goals as goal
@@ -44,7 +44,24 @@ loop-at-preserved g c =
     ]
 
 pub returns-clause-watchers : goal.returns-clause-watchers
-returns-clause-watchers g c = (all_told _ _ _ _ _ _ _ _ (search rules) c.loop-at.invariant.telling).0
+returns-clause-watchers g c = (all_told _ _ _ _ _ _ _ _ (omega (arith, c.loop-at-test.false, c.len.ensures)) c.loop-at.invariant.telling).0
 
 pub returns-clause-wrote : goal.returns-clause-wrote
-returns-clause-wrote g c = (all_told _ _ _ _ _ _ _ _ (search rules) c.loop-at.invariant.telling).1
+returns-clause-wrote g c = (all_told _ _ _ _ _ _ _ _ (omega (arith, c.loop-at-test.false, c.len.ensures)) c.loop-at.invariant.telling).1
+
+pub show-requires : goal.show-requires
+show-requires g c = omega (arith, c.loop-at-test.true, c.len.ensures)
+
+pub returns-clause-write_fault : goal.returns-clause-write_fault
+returns-clause-write_fault g c = c.loop-at.invariant.write_fault
+
+pub returns-clause-steady_no_fault : goal.returns-clause-steady_no_fault
+returns-clause-steady_no_fault g c = c.loop-at.invariant.steady_no_fault
+
+pub returns-clause-outside : goal.returns-clause-outside
+returns-clause-outside g c =
+    let kept = c.loop-at.invariant in (
+      kept.never_falls,
+      (λ was. (kept.steady was, kept.no_fault (kept.steady_no_fault was))),
+      kept.no_fault,
+    )
