@@ -1,5 +1,5 @@
 -- The innermost node of a builder is the last of its list.
-use Rattle.std.proofs.Common.{◌≡◌, ℕ, zero, suc, ◌-◌, ◌+◌, ◌<◌, ◌≤◌, Bool, true, false, List, [], ◌∷◌, ◌++◌, length, reverse, take, refl, sym, ◌∙◌, ap, subst, arith, Option, Some, None, option_to_list, nat_lt, ltb-true, ltb-false, append-nil, length-append, set, get_or, Result, Ok, Err, is_err, OnOk, ◌==◌, ◌⊎◌, inl, inr, eq-eqb, eq-or-lt_of_le}
+use Rattle.std.proofs.Common.{◌≡◌, ℕ, zero, suc, ◌-◌, ◌+◌, ◌<◌, ◌≤◌, Bool, true, false, List, [], ◌∷◌, ◌++◌, length, reverse, take, refl, sym, ◌∙◌, ap, subst, arith, Option, Some, None, option_to_list, nat_lt, ltb-true, ltb-false, append-nil, length-append, set, get_or, Result, Ok, Err, is_err, OnOk, OnErr, add-one, ◌==◌, ◌⊎◌, inl, inr, eq-eqb, eq-or-lt_of_le}
 use Rattle.std.specs.Prelude.{slice_get, ◌&&◌, ◌||◌}
 use Rattle.std.specs.List.{list_any}
 use Rattle.std.proofs.lemmas.List.{reverse-append, set-append_left, length-reverse}
@@ -8,7 +8,7 @@ use Rattle.csn_desc.specs.declared.node.Head.{Head}
 use Rattle.csn_desc.specs.declared.node.Head.TheVariants as head
 use Rattle.csn_desc.specs.declared.reading.Reading.{Reading}
 use Rattle.csn_desc.specs.Nodes.{head_of, parts_of}
-use Rattle.csn_desc.specs.Building.{node_of, with_part, set_part, part_begun, Takes, HasItsParts}
+use Rattle.csn_desc.specs.Building.{entered, node_of, with_part, set_part, part_begun, Takes, HasItsParts}
 use Rattle.csn_desc.specs.Laid.{PartsLaid, laid_end, laid_next}
 use Rattle.csn_desc.specs.Standing.{Chain, chain_in, Stands}
 use Rattle.csn_desc.proofs.WellFormed.{laid_behind}
@@ -130,11 +130,29 @@ enters_last r nodes items above h s few deep takes at =
     subst P (sym (begun_as nodes (reverse items) items above refl at))
     (subst Q (sym (last_first items (length nodes))) (enters_around r nodes (reverse items) h s few deep takes))
 
+pub entered_last :
+    (r : Reading) (nodes : List Node) (items : List ℕ) (above : Option ℕ) (h : Head) (node : Node) (number : ℕ) (new : List Node) (around : List ℕ)
+    → number ≡ length nodes → slice_get items (length items - 1) ≡ above → node ≡ node_of h (number + 1)
+    → new ≡ part_begun nodes (option_to_list above) ++ node ∷ [] → around ≡ items ++ number ∷ []
+    → record { reading = r; nodes = new; around = reverse around } ≡ entered h (record { reading = r; nodes = nodes; around = reverse items })
+entered_last r nodes items above h node number new around is at node_is new_is around_is =
+    let nodes_are : new ≡ part_begun nodes (reverse items) ++ node_of h (suc (length nodes)) ∷ [] =
+    new_is ∙ ap (λ n. part_begun nodes (option_to_list above) ++ n ∷ []) (node_is ∙ ap (λ k. node_of h k) (add-one number ∙ ap suc is))
+    ∙ ap (λ l. l ++ node_of h (suc (length nodes)) ∷ []) (begun_as nodes (reverse items) items above refl at) in
+    let around_are : reverse around ≡ length nodes ∷ reverse items =
+    ap (λ l. reverse l) around_is ∙ last_first items number ∙ ap (λ k. k ∷ reverse items) is in
+    ap (λ l. record { reading = r; nodes = l; around = reverse around }) nodes_are
+    ∙ ap (λ (l : List ℕ). record { reading = r; nodes = part_begun nodes (reverse items) ++ node_of h (suc (length nodes)) ∷ []; around = l }) around_are
+
 -- ---- what is pushed
 
 pub ok_holds : {A E : Type 0} {P : Type 0} (r : Result A E) → is_err r ≡ false → OnOk r P → P
 ok_holds (Ok x) e h = h
 ok_holds (Err x) e h = cc
+
+pub err_holds : {A E : Type 0} {P : Type 0} (r : Result A E) → is_err r ≡ true → OnErr r P → P
+err_holds (Ok x) e h = cc
+err_holds (Err x) e h = h
 
 pub pushed :
     (nodes : List Node) (node : Node) (i : ℕ) (above : Option ℕ) (m new : Node)
