@@ -1,6 +1,6 @@
 //! What the watchers of this crate are made of.
 
-ghost use Rattle.std.specs.Prelude.{◌≡◌, ◌+◌, ◌++◌, ◌↔◌, IfOk, min, true, leb, codes};
+ghost use Rattle.std.specs.Prelude.{◌≡◌, ◌+◌, ◌++◌, ◌↔◌, IfOk, OnOk, min, true, leb, codes};
 ghost use Rattle.std.specs.Fmt.{decimal};
 ghost use Rattle.csn_replay.specs.Watched.{greatest_count, title};
 ghost use Rattle.csn_replay.specs.declared.seen.Go.TheVariants.{Done};
@@ -45,6 +45,15 @@ pub fn line_of(alloc: Global, kind: Kind, count: u64) -> Result<Vec<u8>, NoMemor
     ensures { IfOk result (λ line. line.items ≡ title kind ++ codes " " ++ decimal count) }
 {
     let mut line = Vec::new(alloc);
+    push_title(&mut line, kind)?;
+    push_count(&mut line, count)?;
+    Ok(line)
+}
+
+/// Adds what a count of this kind is called.
+fn push_title(line: &mut Vec<u8>, kind: Kind) -> Result<(), NoMemory>
+    ensures { OnOk result (line.new.items ≡ line.old.items ++ title kind) }
+{
     match kind {
         Kind::Blocks(entry) => {
             line.extend_from_slice(b"entry ")?;
@@ -53,7 +62,14 @@ pub fn line_of(alloc: Global, kind: Kind, count: u64) -> Result<Vec<u8>, NoMemor
         Kind::Refused => line.extend_from_slice(b"refused")?,
         Kind::Length => line.extend_from_slice(b"bits")?,
     }
+    Ok(())
+}
+
+/// Adds a space, and the count in decimal.
+fn push_count(line: &mut Vec<u8>, count: u64) -> Result<(), NoMemory>
+    ensures { OnOk result (line.new.items ≡ line.old.items ++ codes " " ++ decimal count) }
+{
     line.push(b' ')?;
     line.extend_from_slice(Buffer::new().format(count).as_bytes())?;
-    Ok(line)
+    Ok(())
 }

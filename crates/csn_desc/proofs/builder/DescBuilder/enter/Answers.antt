@@ -52,15 +52,15 @@ invariant_of-self-2 c =
 
 -- ---- why a node is not entered
 
-IsNotMany : Result ℕ DescFault → Type 0
+abbrev IsNotMany : Result ℕ DescFault → Type 0
 IsNotMany (Err TooManyNodes) = ⊥
 IsNotMany _ = ⊤
 
-IsNotDeep : Result ℕ DescFault → Type 0
+abbrev IsNotDeep : Result ℕ DescFault → Type 0
 IsNotDeep (Err TooDeep) = ⊥
 IsNotDeep _ = ⊤
 
-IsNotVals : Result ℕ DescFault → Type 0
+abbrev IsNotVals : Result ℕ DescFault → Type 0
 IsNotVals (Err (TooManyVals node)) = ⊥
 IsNotVals _ = ⊤
 
