@@ -1,7 +1,8 @@
 -- Rows of patterns that are made octet position by octet position.
-use Rattle.std.proofs.Common.{◌≡◌, ℕ, zero, suc, ◌+◌, ◌%◌, ◌<◌, ◌≤◌, ⊎_elim, Bool, true, false, ◌&&◌, List, [], ◌∷◌, ◌++◌, length, map, refl, sym, ap, ◌∙◌, subst, arith, length-append, slice_index_or, get_or, slice_get, Some, take, append_assoc, append-nil}
+use Rattle.std.proofs.Common.{◌≡◌, ℕ, zero, suc, ◌+◌, ◌%◌, ◌<◌, ◌≤◌, ⊎_elim, Bool, true, false, ◌&&◌, List, [], ◌∷◌, ◌++◌, length, map, flat_map, refl, sym, ap, ◌∙◌, subst, arith, length-append, slice_index_or, get_or, slice_get, Some, take, append_assoc, append-nil}
 use Rattle.std.proofs.lemmas.Bool.{cases_lt}
-use Rattle.std.proofs.lemmas.List.{get_or_append_left, get_or_push}
+use Rattle.std.proofs.lemmas.List.{get_or_append_left, get_or_push, map-append, take_more}
+use Rattle.std.proofs.lemmas.Grind.{flat_map-append}
 use Rattle.csn_cert.specs.PatternV.{PatternV}
 use Rattle.csn_cert.specs.PatternText.{ComesBefore}
 use Rattle.csn_cert.specs.CertificateV.{Rises}
@@ -92,3 +93,14 @@ choice_next of_part (j ∷ parts) zero i octet is = (let same : j ≡ i = cc in 
 choice_next of_part (j ∷ parts) (suc at) i octet is =
     let next : suc (at + 1) ≡ suc at + 1 = omega arith in
     append_assoc (of_part j octet) (choice_of of_part (take at parts) octet) (of_part i octet) ∙ ap (λ l. of_part j octet ++ l) (choice_next of_part parts at i octet is) ∙ ap (λ n. choice_of of_part (take n (j ∷ parts)) octet) next
+
+-- ---- lists that are gone through
+
+pub flat_next : (f : PatternV → List PatternV) (xs : List PatternV) (k : ℕ) (x : PatternV) → k < length xs → x ≡ get_or xs k x → flat_map f (take k xs) ++ f x ≡ flat_map f (take (k + 1) xs)
+flat_next f xs k x low is =
+    sym (ap (λ l. flat_map f l) (take_more xs k x low ∙ ap (λ y. take k xs ++ y ∷ []) (sym is))
+    ∙ flat_map-append f (take k xs) (x ∷ []) ∙ ap (λ l. flat_map f (take k xs) ++ l) (append-nil (f x)))
+
+pub map_next : (f : PatternV → PatternV) (xs : List PatternV) (k : ℕ) (x : PatternV) → k < length xs → x ≡ get_or xs k x → map f (take k xs) ++ f x ∷ [] ≡ map f (take (k + 1) xs)
+map_next f xs k x low is =
+    sym (ap (map f) (take_more xs k x low ∙ ap (λ y. take k xs ++ y ∷ []) (sym is)) ∙ map-append f (take k xs) (x ∷ []))
