@@ -1,7 +1,7 @@
 -- The head of a capture's line, as it grows.
-use Rattle.std.proofs.Common.{◌≡◌, ◌≢◌, ℕ, ◌+◌, ◌<◌, ◌≤◌, ◌==◌, List, [], ◌∷◌, ◌++◌, length, take, drop, refl, sym, ◌∙◌, ap, subst, arith}
+use Rattle.std.proofs.Common.{◌≡◌, ◌≢◌, ℕ, suc, ◌+◌, ◌<◌, ◌≤◌, ◌==◌, List, [], ◌∷◌, ◌++◌, length, take, drop, refl, sym, ◌∙◌, ap, subst, arith, length-append}
 use Rattle.std.specs.Prelude.{if◌then◌else◌, slice_index}
-use Rattle.std.proofs.lemmas.List.{append_assoc, append-nil, get_or_append_left}
+use Rattle.std.proofs.lemmas.List.{append_assoc, append-nil, drop-append-le, drop_all, get_or_append_left}
 use Rattle.std.proofs.lemmas.List.Elements.{All-append}
 use Rattle.std.proofs.Math.Seq.{take-length}
 use Rattle.std.proofs.lemmas.Bool.{eqb-true}
@@ -10,7 +10,8 @@ use Rattle.csn_catalogue.specs.declared.entry.Entry.{Entry}
 use Rattle.csn_catalogue.specs.declared.entry.Entry.TheVariants.{Uplink, Downlink, Si1, Si3, Si4, Si13, Ia}
 use Rattle.csn_catalogue.specs.Entries.{entry_word}
 use Rattle.csn_replay.specs.Capture.{IsCapture, space}
-use Rattle.csn_replay.specs.Head.{HasNoSpace}
+use Rattle.csn_replay.specs.Head.{HasNoSpace, HeadOf, block_so_far}
+use Rattle.csn_replay.specs.declared.head.CaptureHead.{CaptureHead}
 use Rattle.csn_replay.specs.Laws.{HeadsTellCaptures}
 use Rattle.csn_replay.specs.declared.head.CaptureHead.TheVariants.{Word, Block, Missing}
 use Rattle.csn_replay.proofs.Captures.{NotSpace, each_entry, word_clear, space_stands, space_within, clear_before, split_at_space, before_space}
@@ -88,3 +89,43 @@ heads_tell_captures (Block entry) line (block, is) =
           (same, has.2 ∙ ap (λ one. length (entry_word one) + 1) same);
     }
 heads_tell_captures Missing line never = λ entry at capture. never [] entry at (subst (λ text. IsCapture text entry at) (sym (append-nil line)) capture)
+
+-- ---- what has come of the block
+
+-- nothing, where the line is no capture
+pub missing_none : (head : CaptureHead) (line bytes : List ℕ) → head ≡ Missing → block_so_far head (line ++ bytes) ≡ block_so_far head line ++ drop (length bytes) bytes
+missing_none head line bytes is =
+    subst (λ h. block_so_far h (line ++ bytes) ≡ block_so_far h line ++ drop (length bytes) bytes) (sym is) (sym (drop_all (length bytes) bytes (omega arith)))
+
+-- nor before the space
+pub word_none : (head : CaptureHead) (word : _) (line bytes : List ℕ) → head ≡ Word word → [] ≡ block_so_far head line ++ drop (length bytes) bytes
+word_none head word line bytes is = sym (ap (λ h. block_so_far h line ++ drop (length bytes) bytes) is ∙ drop_all (length bytes) bytes (omega arith))
+
+-- behind it all that comes
+pub block_goes_on : (head : CaptureHead) (entry : Entry) (line bytes : List ℕ) → head ≡ Block entry → HeadOf head line → block_so_far head (line ++ bytes) ≡ block_so_far head line ++ bytes
+block_goes_on head entry line bytes is of =
+    let known : HeadOf (Block entry) line = subst (λ h. HeadOf h line) is of in
+    let long : length (entry_word entry) + 1 ≤ length line = omega (arith, ap length known.1, length-append (entry_word entry) (space ∷ known.0)) in
+    subst (λ h. block_so_far h (line ++ bytes) ≡ block_so_far h line ++ bytes) (sym is) (drop-append-le (length (entry_word entry) + 1) line bytes long)
+
+pub block_is_on : (head : CaptureHead) (entry : Entry) (line bytes : List ℕ) → head ≡ Block entry → HeadOf head line → HeadOf head (line ++ bytes)
+block_is_on head entry line bytes is of =
+    let known : HeadOf (Block entry) line = subst (λ h. HeadOf h line) is of in
+    subst (λ h. HeadOf h (line ++ bytes)) (sym is)
+    (known.0 ++ bytes, ap (λ l. l ++ bytes) known.1 ∙ append_assoc (entry_word entry) (space ∷ known.0) bytes)
+
+drop_word : (word behind : List ℕ) → drop (length word + 1) (word ++ space ∷ behind) ≡ behind
+drop_word [] behind = refl
+drop_word (byte ∷ word) behind =
+    let on : length (byte ∷ word) + 1 ≡ suc (length word + 1) = omega arith in
+    ap (λ n. drop n (byte ∷ word ++ space ∷ behind)) on ∙ drop_word word behind
+
+pub block_behind : (head : CaptureHead) (word : _) (entry : Entry) (line text behind : List ℕ) → head ≡ Word word → text ≡ entry_word entry ++ space ∷ behind → drop (length (entry_word entry) + 1) text ≡ block_so_far head line ++ behind
+block_behind head word entry line text behind is split =
+    ap (drop (length (entry_word entry) + 1)) split ∙ drop_word (entry_word entry) behind ∙ sym (ap (λ h. block_so_far h line ++ behind) is)
+
+pub no_block : {head : CaptureHead} {word : _} {entry : Entry} → head ≡ Word word → head ≡ Block entry → ⊥
+no_block is other = let clash = sym is ∙ other in cc
+
+pub not_missing : {head : CaptureHead} {word : _} → head ≡ Word word → head ≡ Missing → ⊥
+not_missing is other = let clash = sym is ∙ other in cc
