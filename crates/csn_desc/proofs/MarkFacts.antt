@@ -5,7 +5,7 @@ use Rattle.std.proofs.lemmas.List.Folds.{list_any_more}
 use Rattle.std.proofs.lemmas.List.FromFn.{length-map-range_with_len, get_or-map-range_with_len, fill_by_all}
 use Rattle.csn_desc.specs.declared.node.Node.{Node}
 use Rattle.csn_desc.specs.Formed.{is_counted, node_counts_on, counted_marks}
-use Rattle.std.proofs.lemmas.List.{set_past}
+use Rattle.std.proofs.lemmas.List.{set_past, take_all}
 use Rattle.csn_desc.specs.Marks.{stands_on, marked}
 
 pub past_same : (xs : List Bool) (f : ℕ) → length xs ≤ f → xs ≡ set xs f true
@@ -22,6 +22,9 @@ marks_of nodes i = map (is_counted (take i nodes)) (range_with_len 0 (length nod
 
 pub first_marks : (nodes : List Node) → replicate (length nodes) false ≡ marks_of nodes 0
 first_marks nodes = none_marked (is_counted (take 0 nodes)) (λ k. refl) 0 (length nodes)
+
+pub all_marks : (nodes : List Node) (i : ℕ) → length nodes ≤ i → marks_of nodes i ≡ counted_marks nodes
+all_marks nodes i all = ap (λ ns. map (is_counted ns) (range_with_len 0 (length nodes))) (take_all i nodes all)
 
 marked_by : (f k : ℕ) → f ≡ k ⊎ (f ≡ k → ⊥)
 marked_by f k = by_test (f == k) refl

@@ -1,6 +1,6 @@
 -- The marks grow node by node.
-use Rattle.std.proofs.Common.{◌∙◌, sym}
-use Rattle.csn_desc.proofs.MarkFacts.{first_marks, next_marks}
+use Rattle.std.proofs.Common.{◌∙◌, sym, arith}
+use Rattle.csn_desc.proofs.MarkFacts.{first_marks, next_marks, all_marks}
 use Rattle.csn_desc.proofs.overfull.counted_marks.Goals as goal
 
 pub loop-node-init : goal.loop-node-init
@@ -10,3 +10,6 @@ pub loop-node-preserved : goal.loop-node-preserved
 loop-node-preserved c =
     c.mark.ensures ∙ next_marks c.args.nodes.now c.loop-node.node-index c.node-item.result c.loop-node.marks.items c.loop-node-test.true (sym c.node-item.is) c.loop-node.invariant
     c.counted_field.result c.counted_field.ensures
+
+pub returns : goal.returns
+returns c = c.loop-node.invariant ∙ all_marks c.args.nodes.now c.loop-node.node-index (omega (arith, c.loop-node-test.false))
