@@ -1,6 +1,6 @@
 -- The innermost node of a builder is the last of its list.
 use Rattle.std.proofs.Common.{◌≡◌, ℕ, zero, suc, ◌-◌, ◌+◌, ◌<◌, ◌≤◌, Bool, true, false, List, [], ◌∷◌, ◌++◌, length, reverse, take, refl, sym, ◌∙◌, ap, subst, arith, Option, Some, None, option_to_list, nat_lt, ltb-true, ltb-false, append-nil, length-append, set, get_or, Result, Ok, Err, is_err, OnOk, OnErr, add-one, ◌==◌, ◌⊎◌, inl, inr, eq-eqb, eq-or-lt_of_le}
-use Rattle.std.specs.Prelude.{slice_get, ◌&&◌, ◌||◌}
+use Rattle.std.specs.Prelude.{slice_get, ◌&&◌, ◌||◌, IsSome}
 use Rattle.std.specs.List.{list_any}
 use Rattle.std.proofs.lemmas.List.{reverse-append, set-append_left, length-reverse}
 use Rattle.csn_desc.specs.declared.node.Node.{Node}
@@ -164,12 +164,42 @@ pushed nodes node i above m new is at e =
     ∙ ap (λ o. set_part nodes i o ++ node ∷ []) (sym at)
     ∙ ap (λ o. part_begun nodes (option_to_list o) ++ node ∷ []) (sym is)
 
-pub same_node : (nodes : List Node) (node : Node) (i : ℕ) (m k : Node) → slice_get nodes i ≡ Some m → k ≡ get_or (nodes ++ node ∷ []) i k → k ≡ m
-same_node nodes node i m k at is =
-    let within = get_within nodes i m at in
-    let there : slice_get (nodes ++ node ∷ []) i ≡ Some k = node_at_index (nodes ++ node ∷ []) i k (omega (arith, within, length-append nodes (node ∷ []))) is in
-    let before : slice_get (nodes ++ node ∷ []) i ≡ slice_get nodes i = get_before nodes (node ∷ []) i within in
+pub set_same : (nodes : List Node) (i : ℕ) (k : Node) → k ≡ get_or nodes i k → set nodes i k ≡ nodes
+set_same [] i k is = refl
+set_same (n ∷ nodes) zero k is = ap (λ m. m ∷ nodes) is
+set_same (n ∷ nodes) (suc i) k is = ap (λ l. n ∷ l) (set_same nodes i k is)
+
+-- a node that was read is the one that stands there
+pub read_node : (nodes : List Node) (i : ℕ) (m k : Node) → slice_get nodes i ≡ Some m → k ≡ get_or nodes i k → k ≡ m
+read_node nodes i m k at is =
+    let there : slice_get nodes i ≡ Some k = node_at_index nodes i k (get_within nodes i m at) is in
     cc
+
+-- where the node above it has it as a part
+pub above_begun : (nodes : List Node) (node : Node) (above : Option ℕ) (all new : List Node)
+    → ((i : ℕ) → above ≡ Some i → (n : Node) × (slice_get nodes i ≡ Some n) × (length (parts_of n) < 16384))
+    → all ≡ nodes ++ node ∷ [] → (above ≡ None → new ≡ all)
+    → ((i : ℕ) (n : Node) → above ≡ Some i → slice_get all i ≡ Some n → new ≡ set all i (with_part (length nodes) n))
+    → new ≡ part_begun nodes (option_to_list above) ++ node ∷ []
+above_begun nodes node None all new there is none some = none refl ∙ is
+above_begun nodes node (Some i) all new there is none some =
+    let n = there i refl in
+    let at : slice_get all i ≡ Some n.0 = ap (λ l. slice_get l i) is ∙ get_before nodes (node ∷ []) i (get_within nodes i n.0 n.1) ∙ n.1 in
+    some i n.0 refl at ∙ ap (λ l. set l i (with_part (length nodes) n.0)) is ∙ pushed nodes node i (Some i) n.0 (with_part (length nodes) n.0) refl n.1 refl
+
+snoc_same : {A : Type 0} (xs ys : List A) (x y : A) → xs ++ x ∷ [] ≡ ys ++ y ∷ [] → ys ≡ xs
+snoc_same [] [] x y same = refl
+snoc_same [] (b ∷ ys) x y same = absurd (omega (arith, ap length same, length-append ys (y ∷ [])))
+snoc_same (a ∷ xs) [] x y same = absurd (omega (arith, ap length same, length-append xs (x ∷ [])))
+snoc_same (a ∷ xs) (b ∷ ys) x y same =
+    let head : b ≡ a = cc in
+    let tail : xs ++ x ∷ [] ≡ ys ++ y ∷ [] = cc in
+    ap (λ z. z ∷ ys) head ∙ ap (λ l. a ∷ l) (snoc_same xs ys x y tail)
+
+-- the last one leaves again
+pub popped : {A : Type 0} (xs ys : List A) (x : A) (last : Option A) → xs ++ x ∷ [] ≡ ys ++ option_to_list last → IsSome last → ys ≡ xs
+popped xs ys x None same some = absurd (cc)
+popped xs ys x (Some y) same some = snoc_same xs ys x y same
 
 pub long_reverse : {A : Type 0} (xs : List A) → length (reverse xs) ≡ length xs
 long_reverse xs = length-reverse xs

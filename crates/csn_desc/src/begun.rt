@@ -1,6 +1,6 @@
 //! What is asked and written of single nodes while a description is built.
 
-ghost use Rattle.std.specs.Prelude.{◌≡◌, ◌<◌, ◌≤◌, ◌↔◌, ◌==◌, IsTrue, IsSomeAnd, ℕ, option_to_list, [], ◌∷◌, ◌++◌, if◌then◌else◌, length, slice_get, option_copied, OnOk, OnErr};
+ghost use Rattle.std.specs.Prelude.{◌≡◌, ◌<◌, ◌≤◌, ◌↔◌, ◌==◌, IsTrue, IsSomeAnd, ℕ, option_to_list, [], ◌∷◌, ◌++◌, if◌then◌else◌, length, set, slice_get, option_copied, OnOk, OnErr};
 ghost use Rattle.std.specs.Prelude.{reverse};
 ghost use Rattle.std.specs.List.{list_any};
 ghost use Rattle.csn_desc.specs.Nodes.{head_of, parts_of};
@@ -53,6 +53,19 @@ fn add_part(node: &mut Node, part: u16) -> Result<(), NoMemory>
     }
 }
 
+/// The node with the number `above`, where there is one, has a part more, where it may have many.
+fn add_part_above(nodes: &mut Vec<Node>, above: Option<u16>, part: u16) -> Result<(), NoMemory>
+    requires { (i : ℕ) → above ≡ Some i → (n : Node) × (slice_get nodes.old.items i ≡ Some n) × (length (parts_of n) < MOST_NODES) }
+    ensures none { above ≡ None → nodes.new.items ≡ nodes.old.items }
+    ensures some { (i : ℕ) (n : Node) → above ≡ Some i → slice_get nodes.old.items i ≡ Some n → OnOk result (nodes.new.items ≡ set nodes.old.items i (with_part part n)) }
+    ensures err { OnErr result (nodes.new.items ≡ nodes.old.items) }
+{
+    match above {
+        None => Ok(()),
+        Some(above) => add_part(&mut nodes[above as usize], part),
+    }
+}
+
 /// Adds a node at the end, as a part of the one with the number `above`.
 pub(crate) fn push_part(
     nodes: &mut Vec<Node>,
@@ -68,10 +81,7 @@ pub(crate) fn push_part(
     if nodes.push(node).is_err() {
         return Err(NoMemory);
     }
-    let Some(above) = above else {
-        return Ok(());
-    };
-    if add_part(&mut nodes[above as usize], number).is_err() {
+    if add_part_above(nodes, above, number).is_err() {
         nodes.pop();
         return Err(NoMemory);
     }
