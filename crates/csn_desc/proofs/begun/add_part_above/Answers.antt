@@ -1,7 +1,6 @@
 -- A part more of the node above.
 use Rattle.std.proofs.Common.{◌≡◌, ◌<◌, ℕ, Option, Some, None, Result, Ok, Err, OnOk, OnErr, length, set, refl, sym, ◌∙◌, ap, subst, arith}
 use Rattle.std.specs.Prelude.{slice_get}
-use Rattle.csn_desc.specs.declared.node.Node.{Node}
 use Rattle.csn_desc.specs.Building.{with_part}
 use Rattle.csn_desc.specs.Nodes.{parts_of}
 use Rattle.csn_desc.proofs.Entering.{get_within}

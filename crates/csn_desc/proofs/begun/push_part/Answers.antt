@@ -1,5 +1,5 @@
 -- A node more, and a part more of the node above it.
-use Rattle.std.proofs.Common.{◌≡◌, length, option_to_list, [], ◌∷◌, ◌++◌, set, sym, ◌∙◌, ap, arith, not, if◌then◌else◌, length-append}
+use Rattle.std.proofs.Common.{◌≡◌, length, [], ◌∷◌, ◌++◌, set, sym, ◌∙◌, ap, arith, not, if◌then◌else◌, length-append}
 use Rattle.std.specs.Prelude.{slice_get, Some}
 use Rattle.csn_desc.specs.Building.{with_part}
 use Rattle.csn_desc.proofs.Entering.{get_within, get_before}
