@@ -2,6 +2,7 @@
 use Rattle.std.proofs.Common.{◌≡◌, ℕ, zero, suc, ◌<◌, List, ◌∷◌, [], ◌++◌, map, length, get_or, get_or-set_same, set, true, false, Some, None, refl, sym, ◌∙◌, ap, subst, arith}
 use Rattle.std.specs.List.{remove}
 use Rattle.csn_replay.specs.declared.seen.Seen.{Seen}
+use Rattle.csn_replay.specs.declared.seen.Go.TheVariants.{Stay, Done}
 use Rattle.csn_replay.specs.Watched.{Watched, Showed, counted, is_done}
 
 -- behind the first ones stands the next, and what becomes of the list where it is put in place of it, or taken away
@@ -31,6 +32,9 @@ stands_behind f (x ∷ xs) (suc at) d (b ∷ before) others here within is =
     let head : f x ≡ b = cc in
     let tail : map f xs ≡ before ++ others = cc in
     behind_one f x b xs at d before others head (stands_behind f xs at d before others (omega arith) (omega arith) tail)
+
+pub stays_on : Stay ≡ Done → ⊥
+stays_on same = cc
 
 -- the next watcher saw the block, and stays
 pub stays : {A : Type 0} (f : A → Watched) (seen : Seen) (xs : List A) (at : ℕ) (old new : A) (before others : List Watched)

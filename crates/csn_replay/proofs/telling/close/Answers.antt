@@ -7,7 +7,7 @@ use Rattle.csn_replay.proofs.telling.close.Goals as goal
 
 pub loop-watcher-init : goal.loop-watcher-init
 loop-watcher-init g c =
-    let all : vec_len c.args.watchers ≡ length c.args.watchers.items = search rules in
+    let all : vec_len c.args.watchers ≡ length c.args.watchers.items = omega arith in
     record {
       can_next = search rules;
       is_finite = search rules;
