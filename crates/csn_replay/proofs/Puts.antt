@@ -1,11 +1,13 @@
 -- What a sink takes of a text, piece by piece.
-use Rattle.std.proofs.Common.{◌≡◌, ◌≢◌, ℕ, ◌+◌, ◌-◌, ◌≤◌, List, ◌++◌, length, take, drop, Option, refl, sym, ◌∙◌, ap, subst, arith, length-drop}
+use Rattle.std.proofs.Common.{◌≡◌, ◌≢◌, ◌⊎◌, inl, inr, ℕ, ◌+◌, ◌-◌, ◌≤◌, List, ◌++◌, length, take, drop, Option, refl, sym, ◌∙◌, ap, subst, arith, length-drop}
 use Rattle.std.proofs.lemmas.List.{length-take, take-append-drop, take_all, drop_all}
 use Rattle.std.proofs.Math.Seq.{take-append-add}
 use Rattle.csn_io.specs.Put.{Appended}
+use Rattle.csn_io.proofs.Told.{appended_more}
 use Rattle.csn_io.specs.Faults.{Keeps}
 use Rattle.csn_replay.specs.declared.told.Told.{Told}
-use Rattle.csn_replay.specs.declared.told.Told.TheVariants.{Ok}
+use Rattle.csn_io.specs.declared.sink.Put.TheVariants as put
+use Rattle.csn_replay.specs.declared.told.Told.TheVariants.{Ok, WriteFault, NoMemory}
 use Rattle.csn_replay.specs.Told.{Wrote}
 
 -- a slice from p on is what is left behind p
@@ -47,3 +49,42 @@ kept_on same steady keeps blames = (
 -- no call met one
 pub kept_still : {Old New Blamed : Type 0} {old new : ℕ} → new ≡ old → (Old → New) → Keeps Old New old new Blamed
 kept_still same steady = (omega (arith, same), (λ was. (steady was, same)), (λ free. same))
+
+-- ---- answers that are not one another
+
+pub ok_is_no_fault : Ok ≡ WriteFault → ⊥
+ok_is_no_fault same = cc
+
+pub memory_is_no_fault : NoMemory ≡ WriteFault → ⊥
+memory_is_no_fault same = cc
+
+pub fault_is_not_ok : WriteFault ≡ Ok → ⊥
+fault_is_not_ok same = cc
+
+pub memory_is_not_ok : NoMemory ≡ Ok → ⊥
+memory_is_not_ok same = cc
+
+pub told_ok : {told : Told} → told ≡ Ok → told ≡ WriteFault → ⊥
+told_ok is other = ok_is_no_fault (sym is ∙ other)
+
+pub told_fault : {told : Told} → (told ≡ WriteFault) ⊎ (told ≡ NoMemory) → told ≡ Ok → ⊥
+told_fault is other = elim is [ inl fault ↦ fault_is_not_ok (sym fault ∙ other) | inr memory ↦ memory_is_not_ok (sym memory ∙ other) ]
+
+pub took_has_not_failed : {n : ℕ} → put.Took n ≡ put.Failed → ⊥
+took_has_not_failed same = cc
+
+pub full_has_not_failed : put.NoMemory ≡ put.Failed → ⊥
+full_has_not_failed same = cc
+
+-- ---- a piece more
+
+pub within_more : (p n : ℕ) (text : List ℕ) → p ≤ length text → n ≤ length (take (length text - p) (drop p text)) → p + n ≤ length text
+within_more p n text low few =
+    let piece = ap length (slice_from p text) in
+    omega (arith, low, few, piece, length-drop p text)
+
+pub took_more : (before now later : Option (List ℕ)) (p n : ℕ) (text : List ℕ) → p ≤ length text
+    → Appended before now (take p text) → Appended now later (take n (take (length text - p) (drop p text))) → Appended before later (take (p + n) text)
+took_more before now later p n text low took more =
+    subst (Appended before later) (sym (take_more_of p n text low))
+    (appended_more before now later (take p text) (take n (take (length text - p) (drop p text))) took more)

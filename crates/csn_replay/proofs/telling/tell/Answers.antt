@@ -1,12 +1,13 @@
-use Rattle.std.proofs.Common.{refl, arith, subst, inl, inr, ◌∙◌}
+use Rattle.std.proofs.Common.{refl, arith, subst, ◌∙◌}
 use Rattle.csn_io.specs.Faults.{Rose}
+use Rattle.csn_replay.proofs.Puts.{ok_is_no_fault, told_ok, told_fault}
 use Rattle.csn_replay.proofs.Rounds.{none_told, stayed, ended, passed_over, all_told}
 use Rattle.csn_replay.proofs.telling.tell.Goals as goal
 use Rattle.csn_replay.proofs.telling.tell.Goals.{in-Ok, in-WriteFault}
 
 pub loop-at-init : goal.loop-at-init
 loop-at-init g c =
-    record { write_fault = λ is. cc; no_fault = λ fine. refl; never_falls = omega arith; steady = λ was. was; steady_no_fault = λ was is. cc; telling = none_told _ _ _ }
+    record { write_fault = λ is. absurd (ok_is_no_fault is); no_fault = λ fine. refl; never_falls = omega arith; steady = λ was. was; steady_no_fault = λ was. ok_is_no_fault; telling = none_told _ _ _ }
 
 pub loop-at-preserved-in-None : goal.loop-at-preserved-in-None
 loop-at-preserved-in-None g c =
@@ -23,7 +24,7 @@ pub loop-at-preserved : goal.loop-at-preserved
 loop-at-preserved g c =
     elim c.match-told.branch [
       | in-Ok w ↦
-          let fine = c.loop-at.invariant.no_fault (λ is. cc) in
+          let fine = c.loop-at.invariant.no_fault (told_ok w.in-Ok.is) in
           rw (w.out-is, w.told-is) (record {
             write_fault = λ is. subst (λ n. Rose n (g.K.Sink.faults w.report-told.new.out)) fine (w.report-told.ensures.write_fault is);
             no_fault = λ is. w.report-told.ensures.outside.2 is ∙ fine;
@@ -39,7 +40,7 @@ loop-at-preserved g c =
             never_falls = c.loop-at.invariant.never_falls;
             steady = c.loop-at.invariant.steady;
             steady_no_fault = c.loop-at.invariant.steady_no_fault;
-            telling = passed_over _ _ _ _ _ _ _ _ _ (λ is. elim w.in-WriteFault.is [ inl fault ↦ cc | inr fault ↦ cc ]) c.loop-at.invariant.telling c.in-Some.ensures.showed;
+            telling = passed_over _ _ _ _ _ _ _ _ _ (told_fault w.in-WriteFault.is) c.loop-at.invariant.telling c.in-Some.ensures.showed;
           })
     ]
 
