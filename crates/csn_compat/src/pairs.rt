@@ -11,7 +11,7 @@ use csn_desc::{Count, Desc, Node};
 pub(crate) const MOST_PAIRS: usize = 64;
 
 /// A labelled field of the old description, and the one of the new description that takes its bits.
-#[derive(Clone, Copy, Debug, Default, PartialEq, Eq)]
+#[derive(Clone, Copy, Default)]
 pub(crate) struct Pair {
     /// The node of the old label.
     pub before: u16,

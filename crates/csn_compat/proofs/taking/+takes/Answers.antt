@@ -2,7 +2,7 @@
 use Rattle.std.proofs.Common.{◌≡◌, ℕ, suc, ◌-◌, true, List, length, refl, sym, ◌∙◌, ap, subst, arith, inl, inr, Some, eqb-true, get_or, add-one}
 use Rattle.std.specs.Prelude.{slice_get}
 use Rattle.std.proofs.lemmas.Option.{slice_get_within, slice_get-get_or}
-use Rattle.std.proofs.lemmas.Bool.{eq-eqb}
+use Rattle.std.proofs.lemmas.Bool.{eq-eqb, false≢true, true≢false}
 use Rattle.csn_desc.specs.declared.node.Node.TheVariants.{Rest, Choice, Times, Many, Window, Named}
 use Rattle.csn_compat.specs.declared.pairs.Pair.{Pair}
 use Rattle.csn_compat.specs.Takes.{Takes, takes_labelled, takes_by_labelled, takes_by_rest, takes_choice, takes_by_choice, takes_seq, takes_times, takes_many, takes_trunc, takes_window}
@@ -26,12 +26,11 @@ each_is_taken-takes-requires t c =
 
 pub each_is_taken-returns-then-not-takes-clause-each : goal.each_is_taken-returns-then-not-takes-clause-each
 each_is_taken-returns-then-not-takes-clause-each t c = (
-  λ e. absurd (cc),
+  λ e. absurd (false≢true e),
   λ each.
       let P : List Pair → Type 0 = λ ps. Takes c.args.was.now c.args.now.now c.get.result c.args.j ps in
       let yes = c.takes.ensures.takes.1 (subst P (sym c.loop-at.invariant.kept) (each c.loop-at.at c.get.result c.get.ensures)) in
-      let no = c.if-not-takes.true in
-      absurd (cc),
+      absurd (true≢false (sym yes ∙ c.if-not-takes.true)),
 )
 
 pub each_is_taken-returns-then-not-takes-clause-kept : goal.each_is_taken-returns-then-not-takes-clause-kept
@@ -74,7 +73,7 @@ some_takes-returns-then-takes-clause-kept t c = c.takes.ensures.kept ∙ c.loop-
 
 pub some_takes-returns-clause-some : goal.some_takes-returns-clause-some
 some_takes-returns-clause-some t c =
-    (λ e. absurd (cc), λ some. absurd (c.loop-at.invariant.none some.0 some.1 (let within = slice_get_within c.args.others.now some.0 some.1 some.2 in omega (arith, c.len-at-end.ensures.len, c.loop-at-test.false)) some.2 some.3))
+    (λ e. absurd (false≢true e), λ some. absurd (c.loop-at.invariant.none some.0 some.1 (let within = slice_get_within c.args.others.now some.0 some.1 some.2 in omega (arith, c.len-at-end.ensures.len, c.loop-at-test.false)) some.2 some.3))
 
 pub some_takes-returns-clause-kept : goal.some_takes-returns-clause-kept
 some_takes-returns-clause-kept t c = c.loop-at.invariant.kept
@@ -86,7 +85,7 @@ pub some_takes-loop-at-preserved : goal.some_takes-loop-at-preserved
 some_takes-loop-at-preserved t c =
     let P : ℕ → ℕ → Type 0 = λ k q. Takes c.args.was.now c.args.now.now c.args.i q c.args.pairs.now.items → ⊥ in
     let Q : List Pair → Type 0 = λ ps. Takes c.args.was.now c.args.now.now c.args.i c.get.result ps in
-    let here : P c.loop-at.at c.get.result = λ takes. (let yes = c.takes.ensures.takes.1 (subst Q (sym c.loop-at.invariant.kept) takes) in let no = c.if-takes.false in absurd (cc)) in
+    let here : P c.loop-at.at c.get.result = λ takes. (let yes = c.takes.ensures.takes.1 (subst Q (sym c.loop-at.invariant.kept) takes) in absurd (true≢false (sym yes ∙ c.if-takes.false))) in
     record {
       kept = c.takes.ensures.kept ∙ c.loop-at.invariant.kept;
       none = up_to P c.args.others.now c.loop-at.at c.get.result c.get.ensures here c.loop-at.invariant.none;
@@ -105,11 +104,10 @@ first_are_taken-takes-requires t c =
 pub first_are_taken-returns-then-not-takes-clause-takes : goal.first_are_taken-returns-then-not-takes-clause-takes
 first_are_taken-returns-then-not-takes-clause-takes t c =
     let P : List Pair → Type 0 = λ ps. Takes c.args.was.now c.args.now.now c.get-part.result c.get-other.result ps in (
-      λ e. absurd (cc),
+      λ e. absurd (false≢true e),
       λ first.
           let yes = c.takes.ensures.takes.1 (subst P (sym c.loop-at.invariant.pairs) (first c.loop-at.at c.get-part.result c.get-other.result c.loop-at-test.true c.get-part.ensures c.get-other.ensures)) in
-          let no = c.if-not-takes.true in
-          absurd (cc),
+          absurd (true≢false (sym yes ∙ c.if-not-takes.true)),
     )
 
 pub first_are_taken-returns-then-not-takes-clause-kept : goal.first_are_taken-returns-then-not-takes-clause-kept
@@ -188,7 +186,7 @@ last_is_taken-returns-else-len-clause-takes t c =
     let there = slice_get-get_or c.args.parts.now last 0 (omega (arith, long, c.requires.few)) in (
       λ e. (let same = eqb-true c.len.result c.len-2.result e in absurd (omega (arith, same, c.if-len.false))),
       λ h. elim (h last (get_or c.args.parts.now last 0) c.get-other.result long there c.get-other.ensures) [
-        | inl any ↦ (let yes = c.is_any_bits.ensures.1 any in let no = c.if-is_any_bits.false in absurd (cc))
+        | inl any ↦ (let yes = c.is_any_bits.ensures.1 any in absurd (true≢false (sym yes ∙ c.if-is_any_bits.false)))
         | inr both ↦ eq-eqb c.len.result c.len-2.result (c.len.ensures.len ∙ both.0 ∙ sym c.len-2.ensures.len)
       ],
     )
@@ -197,7 +195,7 @@ last_is_taken-returns-else-len-clause-takes t c =
 
 pub sequence_is_taken-returns-then-len-clause-takes : goal.sequence_is_taken-returns-then-len-clause-takes
 sequence_is_taken-returns-then-len-clause-takes t c = (
-  λ e. absurd (cc),
+  λ e. absurd (false≢true e),
   λ h. absurd (seq_too_long c.args.was.now c.args.now.now c.args.parts.now c.args.others.now c.args.pairs.now.items (omega (arith, c.len.ensures.len, c.len-2.ensures.len, c.if-len.true)) h),
 )
 
@@ -235,7 +233,7 @@ sequence_is_taken-returns-clause-takes t c =
 
 pub truncation_is_taken-returns-then-len-clause-takes : goal.truncation_is_taken-returns-then-len-clause-takes
 truncation_is_taken-returns-then-len-clause-takes t c = (
-  λ e. absurd (cc),
+  λ e. absurd (false≢true e),
   λ h. absurd (lead_too_long c.args.was.now c.args.now.now c.args.parts.now c.args.others.now c.args.pairs.now.items (omega (arith, c.len.ensures.len, c.len-2.ensures.len, c.if-len.true)) h),
 )
 
@@ -282,8 +280,7 @@ kind_is_taken-returns-then-counts_agree-clause-takes t c j =
 
 pub kind_is_taken-returns-else-counts_agree-clause-takes : goal.kind_is_taken-returns-else-counts_agree-clause-takes
 kind_is_taken-returns-else-counts_agree-clause-takes t c j =
-    let no = c.if-counts_agree.false in
-    along_nodes c.args.was.now c.args.now.now c.args.i j c.counts_agree.result c.in-Times-Times.is-0 c.in-Times-Times.is-1 (λ e. absurd (cc), λ h. (let both = of_times c.args.was.now c.args.now.now h in c.counts_agree.ensures.1 both.0))
+    along_nodes c.args.was.now c.args.now.now c.args.i j c.counts_agree.result c.in-Times-Times.is-0 c.in-Times-Times.is-1 (λ e. absurd (true≢false (sym e ∙ c.if-counts_agree.false)), λ h. (let both = of_times c.args.was.now c.args.now.now h in c.counts_agree.ensures.1 both.0))
 
 pub kind_is_taken-returns-then-counts_agree-2-clause-takes : goal.kind_is_taken-returns-then-counts_agree-2-clause-takes
 kind_is_taken-returns-then-counts_agree-2-clause-takes t c j =
@@ -292,8 +289,7 @@ kind_is_taken-returns-then-counts_agree-2-clause-takes t c j =
 
 pub kind_is_taken-returns-else-counts_agree-2-clause-takes : goal.kind_is_taken-returns-else-counts_agree-2-clause-takes
 kind_is_taken-returns-else-counts_agree-2-clause-takes t c j =
-    let no = c.if-counts_agree-2.false in
-    along_nodes c.args.was.now c.args.now.now c.args.i j c.counts_agree-in-Window-Window.result c.in-Window-Window.is-0 c.in-Window-Window.is-1 (λ e. absurd (cc), λ h. (let both = of_window c.args.was.now c.args.now.now h in c.counts_agree-in-Window-Window.ensures.1 both.0))
+    along_nodes c.args.was.now c.args.now.now c.args.i j c.counts_agree-in-Window-Window.result c.in-Window-Window.is-0 c.in-Window-Window.is-1 (λ e. absurd (true≢false (sym e ∙ c.if-counts_agree-2.false)), λ h. (let both = of_window c.args.was.now c.args.now.now h in c.counts_agree-in-Window-Window.ensures.1 both.0))
 
 pub kind_is_taken-returns-in_default-clause-takes : goal.kind_is_taken-returns-in_default-clause-takes
 kind_is_taken-returns-in_default-clause-takes t c j =
