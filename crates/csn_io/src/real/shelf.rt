@@ -54,9 +54,15 @@ impl<'a, R: Files> Shelf for DirShelf<'a, R> {
 fn read_front<R: Files>(rt: &R, alloc: Global, name: &str, most: u32) -> io::Result<Vec<u8>>
     ensures { IfOk result (λ front. vec_len front ≤ most) }
 {
+    read_most(alloc, fs::open(rt, name)?, most)
+}
+
+/// The first `most` bytes that a reader gives, or all.
+fn read_most<R: Read + Drop>(alloc: Global, from: R, most: u32) -> io::Result<Vec<u8>>
+    ensures { IfOk result (λ front. vec_len front ≤ most) }
+{
     let mut front = Vec::new(alloc);
-    let file = fs::open(rt, name)?;
-    file.take(u64::from(most)).read_to_end(&mut front)?;
+    from.take(u64::from(most)).read_to_end(&mut front)?;
     // No clause of a reader's `take` says that it keeps to its limit.
     front.truncate(most as usize);
     Ok(front)
