@@ -12,3 +12,4 @@ pub mod Written
 pub mod ReadBack
 pub mod Decided
 pub mod Decoding
+pub mod Refusals
