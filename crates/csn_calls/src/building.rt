@@ -11,7 +11,7 @@ pub(crate) fn enter(builder: &mut DescBuilder, head: Head) -> Result<(), Fail> {
     if !builder.takes(&head) {
         return Err("no node is taken there".into());
     }
-    builder.enter(head).map_err(|_| "no node")?;
+    builder.enter(head)?;
     Ok(())
 }
 
@@ -37,7 +37,7 @@ pub(crate) fn literal(alloc: Global, symbols: &[Symbol]) -> Result<Head, Fail> {
         if run.len() >= MOST_SYMBOLS {
             return Err("too many symbols".into());
         }
-        run.add(*symbol).map_err(|_| "out of memory")?;
+        run.add(*symbol)?;
     }
     Ok(Head::Lits(run))
 }
@@ -57,7 +57,7 @@ pub(crate) fn labelled(
     name: &[u8],
     head: Head,
 ) -> Result<(), Fail> {
-    let label = Label::new(alloc, name).map_err(|_| "no label")?;
+    let label = Label::new(alloc, name)?;
     enter(builder, Head::Named(label))?;
     leaf(builder, head)?;
     leave(builder)
@@ -68,7 +68,7 @@ pub(crate) fn finished(builder: DescBuilder) -> Result<Desc, Fail> {
     if !builder.is_whole() {
         return Err("a part is missing".into());
     }
-    Ok(builder.finish().map_err(|_| "no description")?)
+    Ok(builder.finish()?)
 }
 
 /// The plan of a description.

@@ -28,9 +28,9 @@ fn labelled_leaf(alloc: Global, name: &[u8], digits: &[u8]) -> Result<Tree, Fail
         if *digit > 1 {
             return Err("no digit".into());
         }
-        bits.push(*digit).map_err(|_| "no room")?;
+        bits.push(*digit)?;
     }
-    let label = Label::new(alloc, name).map_err(|_| "no label")?;
+    let label = Label::new(alloc, name)?;
     let leaf = Tree {
         shape: Shape::Bits(bits),
     };
@@ -67,7 +67,7 @@ fn is_line(alloc: Global, written: Option<Bits>, line: &[u8]) -> Result<bool, Fa
     let Some(bits) = written else {
         return Ok(false);
     };
-    let written = bits.to_hex_line(alloc).map_err(|_| "out of memory")?;
+    let written = bits.to_hex_line(alloc)?;
     Ok(written.as_slice() == line)
 }
 
@@ -117,9 +117,9 @@ fn expect_wide<R: Abort>(rt: &R, misfit: &Misfit) {
         wanted: 4,
         found: 5,
     };
-    assert_eq!(rt; misfit.why, why);
     assert_eq!(rt; misfit.path.len(), 2);
-    assert_eq!(rt; (misfit.path.get(0), misfit.path.get(1)), (2, 0));
+    let path = [misfit.path.get(0), misfit.path.get(1)];
+    assert_eq!(rt; (misfit.why, path), (why, [2, 0]));
 }
 
 fn writes<L: Ledger, R: Abort>(
@@ -129,10 +129,11 @@ fn writes<L: Ledger, R: Abort>(
     steps: &mut Steps<L>,
 ) -> Result<(), Fail> {
     let tree = two_leaves(alloc, &[1, 0, 1], &[0, 1, 0, 1])?;
-    assert!(rt; is_written(alloc, plan, &tree, b"A5", steps)?);
+    let whole = is_written(alloc, plan, &tree, b"A5", steps)?;
     let text = b"[<A>=3'5 . <B>=4'5]";
-    assert!(rt; is_written_along(alloc, plan, text, b"A5", steps)?);
-    assert!(rt; none_along(alloc, plan, b"[<A>=3'5 . <B>=5'5]", steps));
+    let along = is_written_along(alloc, plan, text, b"A5", steps)?;
+    let none = none_along(alloc, plan, b"[<A>=3'5 . <B>=5'5]", steps);
+    assert_eq!(rt; (whole, along, none), (true, true, true));
     Ok(())
 }
 

@@ -5,40 +5,36 @@ use std::process::Abort;
 use std::test::Fail;
 
 #[test]
-fn sets_have_what_was_added(rt: HostRuntime) -> Result<(), Fail> {
+fn sets_have_what_was_added(rt: HostRuntime) {
     let octets = OctetSet::empty().with(0).with(5);
-    for octet in 0..8 {
-        assert_eq!(rt;
-            octets.has(octet),
-            octet == 0 || octet == 5,
-            "octet {octet}"
-        );
-    }
     let signs = SymbolSet::empty().with(Sign::One).with(Sign::End);
-    assert!(rt; !signs.has(Sign::Zero));
-    assert!(rt; signs.has(Sign::One));
-    assert!(rt; signs.has(Sign::End));
+    let has = [
+        signs.has(Sign::Zero),
+        signs.has(Sign::One),
+        signs.has(Sign::End),
+    ];
     let mut at = [SymbolSet::empty(); 8];
     at[3] = signs;
     let follow = Follow::new(at);
-    assert!(rt; follow.at(3).has(Sign::One));
-    assert!(rt; !follow.at(4).has(Sign::One));
-    Ok(())
+    let follows = [follow.at(3).has(Sign::One), follow.at(4).has(Sign::One)];
+    assert_eq!(rt;
+        (marks_of(octets), has, follows),
+        (0b0010_0001, [false, true, true], [true, false])
+    );
 }
 
 #[test]
-fn a_word_holds_its_bits(rt: HostRuntime) -> Result<(), Fail> {
+fn a_word_holds_its_bits(rt: HostRuntime) {
     let mut word = Word::new();
     word.push(1);
     word.push(0);
     word.push(1);
     let key = Key { word, whole: true };
-    assert_eq!(rt; key.word.len(), 3);
-    assert_eq!(rt; key.word.get(0), 1);
-    assert_eq!(rt; key.word.get(1), 0);
-    assert_eq!(rt; key.word.get(2), 1);
-    assert!(rt; key.word == Word::of_bits(5, 3));
-    Ok(())
+    let bits = [key.word.get(0), key.word.get(1), key.word.get(2)];
+    assert_eq!(rt;
+        (key.word.len(), bits, key.word == Word::of_bits(5, 3)),
+        (3, [1, 0, 1], true)
+    );
 }
 
 fn set_of(marks: u8) -> OctetSet {
@@ -101,7 +97,8 @@ fn lengths_turn(rt: HostRuntime) -> Result<(), Fail> {
     assert_eq!(rt; marks_of(OctetSet::all()), 0b1111_1111);
     for &(set, by, turned) in TURNS {
         assert!(rt; by <= 7);
-        assert_eq!(rt; marks_of(set_of(set).turned(by)), turned, "{set:b} by {by}");
+        let marks = marks_of(set_of(set).turned(by));
+        assert_eq!(rt; (set, by, marks), (set, by, turned));
     }
     Ok(())
 }
@@ -109,9 +106,9 @@ fn lengths_turn(rt: HostRuntime) -> Result<(), Fail> {
 #[test]
 fn lengths_add(rt: HostRuntime) -> Result<(), Fail> {
     for &(left, right, plus, union) in SUMS {
-        let (left, right) = (set_of(left), set_of(right));
-        assert_eq!(rt; marks_of(left.plus(right)), plus, "{plus:b}");
-        assert_eq!(rt; marks_of(left.union(right)), union, "{union:b}");
+        let sums = marks_of(set_of(left).plus(set_of(right)));
+        let both = marks_of(set_of(left).union(set_of(right)));
+        assert_eq!(rt; (left, right, sums, both), (left, right, plus, union));
     }
     // from 1 one bit and from 6 four bits lead to 2
     assert_eq!(rt;
@@ -124,10 +121,12 @@ fn lengths_add(rt: HostRuntime) -> Result<(), Fail> {
 #[test]
 fn lengths_are_repeated(rt: HostRuntime) -> Result<(), Fail> {
     for &(set, n, sums) in TIMES {
-        assert_eq!(rt; marks_of(set_of(set).times(n)), sums, "{set:b} {n} times");
+        let marks = marks_of(set_of(set).times(n));
+        assert_eq!(rt; (set, n, marks), (set, n, sums));
     }
     for &(set, sums) in REPEATED {
-        assert_eq!(rt; marks_of(set_of(set).repeated()), sums, "{set:b}");
+        let marks = marks_of(set_of(set).repeated());
+        assert_eq!(rt; (set, marks), (set, sums));
     }
     Ok(())
 }
@@ -221,8 +220,8 @@ fn lists<R: Abort>(rt: &R, keys: &KeySet, cases: &[(&[u8], bool)]) -> Result<(),
             return Err("no row".into());
         };
         let key = keys.get(at);
-        assert!(rt; key.word == word_of(bits)?, "{at}");
-        assert_eq!(rt; key.whole, *whole, "{at}");
+        let is_same = key.word == word_of(bits)?;
+        assert_eq!(rt; (at, is_same, key.whole), (at, true, *whole));
     }
     Ok(())
 }

@@ -136,9 +136,11 @@ fn have_keys<R: Abort>(
     for &(node, octet, count, first, whole) in cases {
         assert!(rt; node < desc.len() && octet <= 7);
         let (len, key) = first_key(alloc, look, node, octet)?;
-        assert_eq!(rt; len, count, "{node} at {octet}");
-        assert!(rt; key.word == word_of(first)?, "{node} at {octet}");
-        assert_eq!(rt; key.whole, whole, "{node} at {octet}");
+        let is_same = key.word == word_of(first)?;
+        assert_eq!(rt;
+            (node, octet, len, is_same, key.whole),
+            (node, octet, count, true, whole)
+        );
     }
     Ok(())
 }

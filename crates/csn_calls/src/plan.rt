@@ -186,10 +186,11 @@ fn look_ahead_answers_by_held_bits(rt: HostRuntime) -> Result<(), Fail> {
 // The nodes of the plan of the choice.
 fn gives_nodes<L: Ledger, R: Abort>(rt: &R, plan: &Plan, steps: &mut Steps<L>) {
     assert_eq!(rt; plan.len(), 10);
-    assert_eq!(rt; plan.reading(), Reading::Received);
-    assert!(rt; !plan.counts(3));
-    let node = plan.node(9, steps);
-    assert!(rt; matches!(node, Node::Lits(_)));
+    let is_literal = matches!(plan.node(9, steps), Node::Lits(_));
+    assert_eq!(rt;
+        (plan.reading(), plan.counts(3), is_literal),
+        (Reading::Received, false, true)
+    );
 }
 
 fn nodes<L: Ledger, R: Abort>(rt: &R, alloc: Global, blank: Blank) -> Result<(), Fail>
