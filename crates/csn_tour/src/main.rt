@@ -65,10 +65,15 @@ fn verify(rt: &HostRuntime) -> Result<(), TourFault> {
     Ok(())
 }
 
+/// Certifies a description, and shows a block by its plan.
+fn show_plan(rt: &HostRuntime) -> Result<(), TourFault> {
+    let plan = plan(rt.alloc(), OLD)?;
+    show_block(rt, &plan)
+}
+
 /// Goes through it all.
 fn tour(rt: &HostRuntime) -> Result<(), TourFault> {
-    let plan = plan(rt.alloc(), OLD)?;
-    show_block(rt, &plan)?;
+    show_plan(rt)?;
     compare(rt)?;
     verify(rt)
 }
