@@ -4,7 +4,7 @@ use crate::run_in_memory;
 use crate::tests::{expect, file, words_of};
 use csn_catalogue::{Entry, entries, root_of, text};
 use csn_cert::read_certificate;
-use csn_desc::Reading;
+use csn_desc::{Desc, Reading};
 use csn_good::{Checked, check_certificate};
 use csn_grammar::read_rules;
 use csn_resolve::resolve;
@@ -56,14 +56,19 @@ fn written(alloc: Global, entry: Entry, reading: &str) -> Result<Vec<u8>, Fail> 
     Ok(ran.text)
 }
 
+/// The description of the rule of an entry.
+fn described(alloc: Global, entry: Entry, reading: Reading) -> Result<Desc, Fail> {
+    let rules = read_rules(alloc, text())?;
+    Ok(resolve(alloc, &rules, root_of(entry), reading)?)
+}
+
 /// Whether a certificate is good for the description of the rule of an entry.
 fn is_good(alloc: Global, entry: Entry, reading: Reading, bytes: &[u8]) -> Result<bool, Fail> {
     if bytes.len() > 16_777_216 {
         return Ok(false);
     }
-    let rules = read_rules(alloc, text()).map_err(|_| "no rules")?;
-    let desc = resolve(alloc, &rules, root_of(entry), reading).map_err(|_| "no description")?;
-    let c = read_certificate(alloc, bytes).map_err(|_| "no certificate")?;
+    let desc = described(alloc, entry, reading)?;
+    let c = read_certificate(alloc, bytes)?;
     Ok(check_certificate(alloc, &desc, &c)? == Checked::Proved)
 }
 

@@ -119,8 +119,11 @@ impl Call {
 
 /// A run ended as the whole one did, and wrote as much.
 fn expect_whole(rt: &impl Abort, ran: &Ran, whole: &Ran, words: &[&str]) {
-    assert_eq!(rt; ran.ended.status(), whole.ended.status(), "{words:?}");
-    assert_eq!(rt; ran.text.as_slice(), whole.text.as_slice(), "{words:?}");
+    assert_eq!(rt;
+        (ran.ended.status(), ran.text.as_slice()),
+        (whole.ended.status(), whole.text.as_slice()),
+        "{words:?}"
+    );
 }
 
 /// A run of which the call with this number failed wrote a front of the whole text.

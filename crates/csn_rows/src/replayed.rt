@@ -4,6 +4,7 @@ ghost use Rattle.std.specs.Prelude.{◌≤◌};
 ghost use Rattle.csn_replay.specs.declared.seen.Kind.TheVariants.{Length};
 
 use super::*;
+use crate::failing::{Call, ran_in_pieces};
 use crate::tests::{expect, words_of};
 use csn_bits::NoMemory;
 use csn_catalogue::Entry;
@@ -164,18 +165,11 @@ fn no_other_command_shows_blocks_to_watchers(rt: HostRuntime) -> Result<(), Fail
 #[test]
 fn a_sink_that_fails_cuts_a_report(rt: HostRuntime) -> Result<(), Fail> {
     let alloc = rt.alloc();
-    let words = words_of(alloc, &["replay", "received"])?;
-    let mut watchers: Vec<Box<dyn Watcher>> = Vec::new(alloc);
-    watchers.push(Box::new(alloc, BitsWatcher::new(u64::MAX))?)?;
-    let mut failing_puts = Vec::new(alloc);
-    failing_puts.push(3)?;
-    let mut shelf = MemShelf::new(BTreeMap::new(alloc), Vec::new(alloc));
-    let input = Vec::from_slice(alloc, b"si9 00\n")?;
-    let mut source = MemSource::new(input, 7, Vec::new(alloc));
-    let mut sink = MemSink::new(alloc, 4, failing_puts);
-    let ended = run(alloc, &words, &mut shelf, &mut source, &mut sink, watchers);
-    assert_eq!(rt; ended.status(), 6);
-    assert_eq!(rt; sink.taken(), b"bad 5\nbits".as_slice());
+    let words = ["replay", "received"];
+    let failing = Call::Put.failing(alloc, 3)?;
+    let watchers = of_bits(alloc, u64::MAX)?;
+    let ran = ran_in_pieces(alloc, &words, b"si9 00\n", 4, failing, watchers)?;
+    expect(&rt, &ran, b"bad 5\nbits", 6, "a put fails");
     Ok(())
 }
 

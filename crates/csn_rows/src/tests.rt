@@ -100,8 +100,10 @@ fn expect_fault(
 }
 
 pub(crate) fn expect(rt: &impl Abort, ran: &Ran, text: &[u8], status: u8, what: &str) {
-    assert_eq!(rt; ran.text.as_slice(), text, "{what}");
-    assert_eq!(rt; ran.ended.status(), status, "{what}");
+    assert_eq!(rt;
+        (what, ran.ended.status(), ran.text.as_slice()),
+        (what, status, text)
+    );
 }
 
 /// A description, an input, what is written, and the status.

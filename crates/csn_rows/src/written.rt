@@ -72,7 +72,7 @@ fn expect_back<'a>(
 #[test]
 fn samples_are_written_back(rt: HostRuntime) -> Result<(), Fail> {
     for entry in entries() {
-        let name = str::from_utf8(root_of(entry)).map_err(|_| "no text")?;
+        let name = str::from_utf8(root_of(entry))?;
         let octets = sample_of(entry).octets;
         for reading in ["received", "sent"] {
             expect_back(&rt, rt.alloc(), name, reading, octets)?;
