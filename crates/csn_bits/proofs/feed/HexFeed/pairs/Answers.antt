@@ -1,5 +1,6 @@
-use Rattle.std.proofs.Common.{◌≡◌, ℕ, ◌+◌, ◌-◌, ◌*◌, ◌/◌, ◌≤◌, List, ◌∷◌, ◌++◌, length, take, get_or, Some, arith, rules, length-append, ap, sym, ◌∙◌}
+use Rattle.std.proofs.Common.{◌≡◌, ℕ, ◌+◌, ◌-◌, ◌*◌, ◌/◌, ◌≤◌, List, ◌∷◌, ◌++◌, length, take, get_or, Some, arith, length-append, ap, sym, ◌∙◌}
 use Rattle.std.proofs.lemmas.Grind.{common_steps}
+use Rattle.std.proofs.lemmas.List.{length-take}
 use Rattle.csn_bits.specs.Feed.{all_but_last}
 use Rattle.csn_bits.specs.Line.{last_of, octets_of_digits}
 use Rattle.csn_bits.proofs.Decoding.{pairs_taken}
@@ -32,10 +33,16 @@ returns c =
         | in-Some w ↦ rw (w.room-is, w.from-is, half, put, behind w.in-Some.octet) (given_more_pairs line digits _ _ _ fed.keeps c.in-Digits-None.is-0 c.in-Digits-None.is-1 all waits w.in-Some.octet (sym w.in-Some.ensures.value) (omega (arith, n)) (omega (arith, fed.seen, n, bounded)))
         | in-None w ↦ rw (w.room-is, w.from-is, half, put, behind first) (given_first_pairs line digits _ _ _ fed.keeps c.in-Digits-None.is-0 c.in-Digits-None.is-1 all waits (sym w.in-None.ensures.value) (omega (arith, n)) (omega (arith, fed.seen, n, bounded)))
       ];
-      seen = grind (arith, common_steps);
-      some = grind (arith, common_steps);
-      within = grind (arith, common_steps);
+      seen = omega arith;
+      some = omega (arith, c.if-count-eq0.false);
+      within = within;
       from = grind (arith, common_steps);
-      none = search rules;
+      none = tt;
       room = grind (arith, common_steps);
     }
+
+pub slice_bounds-decode_pairs-end-2 : goal.slice_bounds-decode_pairs-end-2
+slice_bounds-decode_pairs-end-2 c = omega (arith, c.requires)
+
+pub decode_pairs-count-requires : goal.decode_pairs-count-requires
+decode_pairs-count-requires c = omega (arith, c.requires, c.min.ensures, length-take c.min.result c.args.bytes.now)
