@@ -1,4 +1,5 @@
 use Rattle.std.proofs.Common.{◌≡◌, ℕ, ◌+◌, ◌-◌, ◌*◌, ◌≤◌, List, length, take, drop, ap, subst, ◌∙◌, arith}
+use Rattle.std.proofs.lemmas.List.{length-take}
 use Rattle.csn_bits.specs.Octets.{IsBits, bits_of_octets}
 use Rattle.csn_bits.specs.Numbers.{number_of}
 use Rattle.csn_bits.proofs.NumberFacts.{low_bits-masked, masked_small}
@@ -33,3 +34,35 @@ invariant_of-result c =
           ∙ bits_behind (bits_of_octets octets) (8 * many) c.number-first.result are long first (at + width) left ends;
       small = masked_small c.number-first.result left (omega (arith, c.div_ceil-many.ensures));
     }
+
+pub overflow_add-sample : goal.overflow_add-sample
+overflow_add-sample c = omega (arith, c.requires.near)
+
+pub overflow_mul-many : goal.overflow_mul-many
+overflow_mul-many c = omega (arith, c.div_ceil-many.ensures, c.requires.near)
+
+pub overflow_mul-left : goal.overflow_mul-left
+overflow_mul-left c = omega (arith, c.div_ceil-many.ensures, c.requires.near)
+
+pub overflow_sub-left : goal.overflow_sub-left
+overflow_sub-left c = omega (arith, c.div_ceil-many.ensures)
+
+pub overflow_sub-left-2 : goal.overflow_sub-left-2
+overflow_sub-left-2 c = omega (arith, c.div_ceil-many.ensures)
+
+pub from_octets-requires : goal.from_octets-requires
+from_octets-requires c = omega (arith, c.div_ceil-many.ensures, c.requires.within)
+
+pub number-first-requires : goal.number-first-requires
+number-first-requires c =
+    let octets : List ℕ = c.args.sample.octets.now in
+    omega (arith, c.div_ceil-many.ensures, c.requires.near, ap length c.in_ok-from_octets.ensures.ok, length-take (8 * c.div_ceil-many.result) (bits_of_octets octets))
+
+pub overflow_add-result : goal.overflow_add-result
+overflow_add-result c = omega (arith, c.div_ceil-many.ensures, c.requires.near)
+
+pub overflow_shr-result : goal.overflow_shr-result
+overflow_shr-result c = omega (arith, c.div_ceil-many.ensures, c.requires.near, c.requires.narrow)
+
+pub overflow_shl-result : goal.overflow_shl-result
+overflow_shl-result c = omega (arith, c.div_ceil-many.ensures)
