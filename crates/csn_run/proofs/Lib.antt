@@ -14,6 +14,7 @@ pub mod ProgressLemmas
 pub mod Prompt
 pub mod ReadingLemmas
 pub mod ResultLemmas
+pub mod RuleRows
 pub mod ShowLemmas
 pub mod StandingLemmas
 pub mod Within

@@ -1,5 +1,5 @@
 -- Lists of as many members as a row of the command table has words.
-use Rattle.std.proofs.Common.{◌≡◌, ◌<◌, ◌≤◌, List, [], ◌∷◌, length, get_or, arith}
+use Rattle.std.proofs.Common.{◌≡◌, ◌<◌, ◌≤◌, List, [], ◌∷◌, length, get_or, arith, Option, Some, None, IfSome, IsSome, is_some, true≢false, sym, subst, ap, ◌∙◌}
 
 -- a list of four members is these four
 pub four_members : {A : Type 0} (xs : List A) (a b c d : A) → 4 ≤ length xs → length xs < 5 → a ≡ get_or xs 0 a → b ≡ get_or xs 1 b → c ≡ get_or xs 2 c → d ≡ get_or xs 3 d → xs ≡ a ∷ b ∷ c ∷ d ∷ []
@@ -40,3 +40,11 @@ five_members (v ∷ w ∷ x ∷ []) a b c d e low high p q r s t = absurd (omega
 five_members (v ∷ w ∷ x ∷ y ∷ []) a b c d e low high p q r s t = absurd (omega arith)
 five_members (v ∷ w ∷ x ∷ y ∷ z ∷ []) a b c d e low high p q r s t = cc
 five_members (v ∷ w ∷ x ∷ y ∷ z ∷ u ∷ rest) a b c d e low high p q r s t = absurd (omega arith)
+
+-- where there is none, nothing is asked of it
+pub if_none : {A : Type 0} (o : Option A) (P : A → Type 0) → o ≡ None → IfSome o P
+if_none o P is = subst (λ s. IfSome s P) (sym is) tt
+
+-- and it is not there
+pub some_of_none : {A : Type 0} (o : Option A) → o ≡ None → IsSome o → ⊥
+some_of_none o is some = true≢false (sym some ∙ ap is_some is)

@@ -3,7 +3,7 @@ ghost use Rattle.std.specs.Fmt.{decimal};
 ghost use Rattle.csn_catalogue.specs.declared.entry.Entry.{Entry};
 ghost use Rattle.csn_desc.specs.declared.reading.Reading.{Reading};
 ghost use Rattle.csn_soak.specs.declared.soaking.TheConstants.{MOST_BLOCKS};
-ghost use Rattle.csn_run.specs.Command.{AreRuleWords, IsArgument, IsCommand, IsCompat, IsVerify, IsMigrate, IsRowOf, IsSoak, NamesReading, NamesRule, word_of};
+ghost use Rattle.csn_run.specs.Command.{AreRuleWords, IsArgument, IsCommand, IsCompat, IsVerify, IsMigrate, IsOverRule, IsRowOf, IsSoak, NamesReading, NamesRule, word_of};
 
 use csn_catalogue::{Entry, entry_of};
 use csn_desc::Reading;
@@ -224,6 +224,31 @@ fn is_migrate<W: AsStr>(words: &[W]) -> bool
     }
 }
 
+/// The command over a rule that the words ask for, where they are such a row of the command table.
+fn rule_command<W: AsStr>(words: &[W]) -> Option<Command<'_>>
+    ensures row { IsSome result → IsCommand (map W.text words.now) }
+    ensures none { (file name : List ℕ) (reading : Reading) → IsOverRule (map W.text words.now) file name reading → IsSome result }
+    ensures names { IfSome result (λ command. IsRowOf (map W.text words.now) command) }
+{
+    if let Some(rule) = rule_words("check", words) {
+        return Some(Command::Report(RuleReport::Check, rule));
+    }
+    if let Some(rule) = rule_words("show", words) {
+        return Some(Command::Answer(RuleCommand::Show(TreeForm::Text), rule));
+    }
+    if let Some(rule) = rule_words("write", words) {
+        return Some(Command::Answer(RuleCommand::Write(TreeForm::Text), rule));
+    }
+    if let Some(rule) = rule_words("json", words) {
+        return Some(Command::Answer(RuleCommand::Show(TreeForm::Json), rule));
+    }
+    if let Some(rule) = rule_words("certificate", words) {
+        return Some(Command::Report(RuleReport::Certificate, rule));
+    }
+    let rule = rule_words("unjson", words)?;
+    Some(Command::Answer(RuleCommand::Write(TreeForm::Json), rule))
+}
+
 /// The command that the words ask for, where they are a row of the command table.
 pub fn command_of<W: AsStr>(words: &[W]) -> Option<Command<'_>>
     ensures row { IsSome result ↔ IsCommand (map W.text words.now) }
@@ -247,21 +272,5 @@ pub fn command_of<W: AsStr>(words: &[W]) -> Option<Command<'_>>
     if let Some((rule, certificate)) = verify_words(words) {
         return Some(Command::Verify(rule, certificate));
     }
-    if let Some(rule) = rule_words("check", words) {
-        return Some(Command::Report(RuleReport::Check, rule));
-    }
-    if let Some(rule) = rule_words("show", words) {
-        return Some(Command::Answer(RuleCommand::Show(TreeForm::Text), rule));
-    }
-    if let Some(rule) = rule_words("write", words) {
-        return Some(Command::Answer(RuleCommand::Write(TreeForm::Text), rule));
-    }
-    if let Some(rule) = rule_words("json", words) {
-        return Some(Command::Answer(RuleCommand::Show(TreeForm::Json), rule));
-    }
-    if let Some(rule) = rule_words("certificate", words) {
-        return Some(Command::Report(RuleReport::Certificate, rule));
-    }
-    let rule = rule_words("unjson", words)?;
-    Some(Command::Answer(RuleCommand::Write(TreeForm::Json), rule))
+    rule_command(words)
 }

@@ -1,7 +1,8 @@
-use Rattle.std.proofs.Common.{rules, sym, subst, ◌≡◌, ◌∙◌, ap, map, IsTrue}
+use Rattle.std.proofs.Common.{rules, sym, subst, ◌≡◌, ◌∙◌, ap, map, IsTrue, is_some, refl, length}
 use Rattle.csn_run.specs.Command.{IsArgument}
-use Rattle.csn_run.proofs.Words.{four_members}
-use Rattle.csn_run.proofs.command.rule_words.Goals.{else-eq-via-then-eq+then-is_argument+else-is_argument-2, else-eq-via-then-eq+else-is_argument, else-eq-via-else-eq}
+use Rattle.std.proofs.lemmas.List.{length-map}
+use Rattle.csn_run.proofs.Words.{four_members, if_none}
+use Rattle.csn_run.proofs.command.rule_words.Goals.{in_default-via-then-words-lt4, in_default-via-else-words-lt4+else-words-lt5, else-eq-via-then-eq+then-is_argument+else-is_argument-2, else-eq-via-then-eq+else-is_argument, else-eq-via-else-eq}
 use Rattle.csn_run.proofs.command.rule_words.Goals as goal
 
 pub returns-then-is_argument-2-clause-names : goal.returns-then-is_argument-2-clause-names
@@ -30,3 +31,23 @@ returns-else-eq-clause-none g c = λ file name reading row.
           let yes : IsTrue c.eq.result = search rules in
           sym w.if-eq.false ∙ yes
     ]
+
+pub returns-then-is_argument-2-clause-none : goal.returns-then-is_argument-2-clause-none
+returns-then-is_argument-2-clause-none g c = λ file name reading row. refl
+
+pub returns-in_default-clause-none : goal.returns-in_default-clause-none
+returns-in_default-clause-none g c = λ file name reading row.
+    let four : length c.args.words.now ≡ 4 = sym (length-map c.args.words.now g.W.AsStr.text) ∙ ap length row.words_are in
+    elim c.in_default.branch [
+      | in_default-via-then-words-lt4 w ↦ absurd (search (rules, four))
+      | in_default-via-else-words-lt4+else-words-lt5 w ↦ absurd (search (rules, four))
+    ]
+
+pub returns-in_err-reading-clause-names : goal.returns-in_err-reading-clause-names
+returns-in_err-reading-clause-names g c = if_none c.from_residual.result _ c.from_residual.ensures
+
+pub returns-in_err-reading-clause-none : goal.returns-in_err-reading-clause-none
+returns-in_err-reading-clause-none g c = λ file name reading row.
+    let words = four_members c.args.words.now _ _ _ _ c.in-len4.len_at_least c.in-len4.len_below c.first-item.is c.file-item.is c.name-item.is c.reading-item.is in
+    let all = sym (ap (map g.W.AsStr.text) words) ∙ row.words_are in
+    ap is_some c.from_residual.ensures ∙ c.in_err-reading.ensures.none reading (cc (all, c.as_str.ensures))
