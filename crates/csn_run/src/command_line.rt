@@ -15,12 +15,10 @@ use std::alloc::{AllocError, Global};
 fn line_of<'a>(alloc: Global) -> Result<Command<'a>, AllocError>
     ensures { IfOk result (λ line. app_of line ≡ command_line) }
 {
-    let command = Arg::new(alloc, "command").required(true);
-    let arguments = Arg::new(alloc, "arguments").num_args(0..);
     Command::new(alloc, "csn_cli")
         .no_binary_name(true)
-        .arg(command)?
-        .arg(arguments)
+        .arg(Arg::new(alloc, "command").required(true))?
+        .arg(Arg::new(alloc, "arguments").num_args(0..))
 }
 
 /// The words of a command line as they are read: that of the command, and its arguments behind it. They are refused for

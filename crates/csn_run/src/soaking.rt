@@ -1,11 +1,11 @@
 //! What came of the blocks that the generator makes of an entry of the catalogue.
 
-ghost use Rattle.std.specs.Prelude.{◌≡◌, ◌≢◌, ◌≤◌, ◌++◌, ◌∷◌, [], List, ℕ, Err, IfOk, IfErr, Option};
+ghost use Rattle.std.specs.Prelude.{◌≡◌, ◌≢◌, ◌≤◌, ◌++◌, ◌∷◌, [], List, ℕ, Err, IfOk, IfErr, OnOk, Option};
 ghost use Rattle.csn_soak.specs.declared.soaking.TheConstants.{MOST_BLOCKS};
 ghost use Rattle.csn_replay.specs.Watched.{Watched};
 ghost use Rattle.csn_run.specs.declared.lines.TheConstants.{LINE_FEED};
 ghost use Rattle.csn_run.specs.Command.{IsSoak};
-ghost use Rattle.csn_run.specs.Compiled.{soaked_line};
+ghost use Rattle.csn_run.specs.Compiled.{line_of, soaked_line};
 ghost use Rattle.csn_run.specs.Job.{JobEnds};
 
 use crate::answers::push_numbers;
@@ -17,18 +17,22 @@ use csn_desc::Reading;
 use csn_soak::{Soaked, soak};
 use std::alloc::{AllocError, Global};
 
+/// Writes a word, and how many there are of what it names.
+fn push_counted(word: &[u8], count: u32, out: &mut Vec<u8>) -> Result<(), AllocError>
+    ensures { OnOk result (out.new.items ≡ out.old.items ++ line_of word.now (count ∷ [])) }
+{
+    out.extend_from_slice(word)?;
+    push_numbers(&[count], out)
+}
+
 /// Writes the line that tells what came of so many blocks, without a line feed.
 fn push_soaked(blocks: u32, soaked: &Soaked, out: &mut Vec<u8>) -> Result<Ended, AllocError>
     ensures ok { IfOk result (λ ended. (ended ≡ Ended.Done) × (out.new.items ≡ out.old.items ++ soaked_line blocks soaked.now)) }
 {
-    out.extend_from_slice(b"blocks")?;
-    push_numbers(&[blocks], out)?;
-    out.extend_from_slice(b" ok")?;
-    push_numbers(&[soaked.ok], out)?;
-    out.extend_from_slice(b" refused")?;
-    push_numbers(&[soaked.refused], out)?;
-    out.extend_from_slice(b" bits")?;
-    push_numbers(&[soaked.bits], out)?;
+    push_counted(b"blocks", blocks, out)?;
+    push_counted(b" ok", soaked.ok, out)?;
+    push_counted(b" refused", soaked.refused, out)?;
+    push_counted(b" bits", soaked.bits, out)?;
     Ok(Ended::Done)
 }
 

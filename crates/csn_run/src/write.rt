@@ -1,6 +1,6 @@
 //! Lines of `write` and `unjson`: a tree in, its block or its first misfit out.
 
-ghost use Rattle.std.specs.Prelude.{◌≡◌, ◌<◌, ◌≤◌, ◌++◌, ◌∷◌, [], List, ℕ, codes, length, IfOk, IfErr, IfSome, OnOk, OnErr};
+ghost use Rattle.std.specs.Prelude.{◌≡◌, ◌<◌, ◌≤◌, ◌⊎◌, ◌++◌, ◌∷◌, [], List, ℕ, codes, length, IfOk, IfErr, IfSome, OnOk, OnErr};
 ghost use Rattle.csn_bits.specs.Line.{written};
 ghost use Rattle.csn_encode.specs.declared.misfit.Misfit.{Misfit};
 ghost use Rattle.csn_desc.specs.TreeV.{TreeV};
@@ -182,6 +182,26 @@ fn tree_of_line(
     Ok(None)
 }
 
+/// Answers a tree by the block that has it, or by its first misfit.
+fn answer_tree(alloc: Global, plan: &Plan, tree: &Tree, out: &mut Vec<u8>) -> LineResult
+    ensures ok { IfOk result (λ answered. (answer : List ℕ) × (out.new.items ≡ out.old.items ++ answer)
+        × (((block : List ℕ) × IsBlockOf plan.now tree.now block × (answer ≡ codes "ok " ++ written block))
+        ⊎ ((misfit : Misfit) × IsFaultOf plan.now tree.now (EncodeFault.Misfit misfit) × (answer ≡ misfit_text misfit.path misfit.why)))
+        × (is_refused answered ≡ is_refusal answer)) }
+    ensures err { OnErr result ((tail : List ℕ) × (out.new.items ≡ out.old.items ++ tail)) }
+{
+    match block_of::<Brand>(alloc, plan, tree, Blank::new(1)) {
+        Ok(bits) => {
+            answer_block(alloc, &bits, out)?;
+            Ok(Answered::Given)
+        }
+        Err(fault) => {
+            answer_no_block(fault, out)?;
+            Ok(Answered::Refused)
+        }
+    }
+}
+
 /// Answers a line by the block of its tree, which is made of it, or by what is wrong.
 fn write_by_tree(
     alloc: Global,
@@ -199,16 +219,7 @@ fn write_by_tree(
     let Some(tree) = tree_of_line(alloc, form, line, out)? else {
         return Ok(Answered::Refused);
     };
-    match block_of::<Brand>(alloc, plan, &tree, Blank::new(1)) {
-        Ok(bits) => {
-            answer_block(alloc, &bits, out)?;
-            Ok(Answered::Given)
-        }
-        Err(fault) => {
-            answer_no_block(fault, out)?;
-            Ok(Answered::Refused)
-        }
-    }
+    answer_tree(alloc, plan, &tree, out)
 }
 
 /// Answers a line by the block of its tree, which it is in a form. What the quick way along the text leaves open, the tree

@@ -1,4 +1,4 @@
-use Rattle.csn_run.proofs.write.write_by_tree.Given as goal
+use Rattle.csn_run.proofs.write.answer_tree.Given as goal
 
 -- the steps are counted on a ledger of their own
 abbrev pub ghosts-block_of : goal.ghosts-block_of
