@@ -1,5 +1,7 @@
 -- Texts of answers, behind what was written before.
-use Rattle.std.proofs.Common.{◌≡◌, ℕ, ◌+◌, ◌<◌, List, [], ◌∷◌, ◌++◌, length, take, Some, slice_get, refl, sym, ◌∙◌, ap, append_assoc, arith}
+use Rattle.std.proofs.Common.{◌≡◌, ℕ, ◌+◌, ◌<◌, List, [], ◌∷◌, ◌++◌, length, take, Some, slice_get, refl, sym, ◌∙◌, ap, append_assoc, arith, Result, Ok, Err, OnOk, OnErr, true≢false}
+use Rattle.std.specs.Prelude.{IsErr, if◌then◌else◌}
+use Rattle.std.specs.Result.{is_ok}
 use Rattle.std.proofs.lemmas.List.{flat_map_more}
 use Rattle.std.proofs.Math.Seq.{take-append_seam}
 use Rattle.std.specs.Fmt.{decimal}
@@ -9,6 +11,28 @@ use Rattle.csn_run.specs.OutLine.{steps_text, path_text}
 -- what stands behind a text that stands behind another stands behind that too
 pub grown : (old between new front back : List ℕ) → between ≡ old ++ front → new ≡ between ++ back → (tail : List ℕ) × (new ≡ old ++ tail)
 grown old between new front back first second = (front ++ back, second ∙ ap (λ l. l ++ back) first ∙ append_assoc old front back)
+
+-- a way and a reason behind a word
+pub misfit_written :
+    (old worded gone spaced new word path why : List ℕ) → worded ≡ old ++ word → gone ≡ worded ++ path → spaced ≡ gone ++ 32 ∷ [] → new ≡ spaced ++ why
+    → new ≡ old ++ (word ++ (path ++ 32 ∷ why))
+misfit_written old worded gone spaced new word path why first way space reason =
+    reason ∙ ap (λ l. l ++ why) space ∙ append_assoc gone (32 ∷ []) why ∙ ap (λ l. l ++ 32 ∷ why) way ∙ append_assoc worded path (32 ∷ why)
+    ∙ ap (λ l. l ++ (path ++ 32 ∷ why)) first ∙ append_assoc old word (path ++ 32 ∷ why)
+
+-- nothing is asked of an answer that is an error
+pub on_ok_none : {T E : Type 0} (r : Result T E) (P : Type 0) → IsErr r → OnOk r P
+on_ok_none (Ok x) P is = absurd (true≢false (sym is))
+on_ok_none (Err e) P is = tt
+
+-- what holds where more was put behind a text, and what holds where there was no memory for it
+pub put_behind : {T E : Type 0} (r : Result T E) (P : Type 0) (new more same : List ℕ) → new ≡ (if is_ok r then more else same) → (new ≡ more → P) → OnOk r P
+put_behind (Ok x) P new more same is holds = holds is
+put_behind (Err e) P new more same is holds = tt
+
+pub not_put : {T E : Type 0} (r : Result T E) (P : Type 0) (new more same : List ℕ) → new ≡ (if is_ok r then more else same) → (new ≡ same → P) → OnErr r P
+not_put (Ok x) P new more same is holds = tt
+not_put (Err e) P new more same is holds = holds is
 
 -- one step more of a way
 pub step_written :

@@ -1,8 +1,9 @@
-use Rattle.std.proofs.Common.{[], ◌∷◌, ◌++◌, codes, refl, subst, inl, inr, arith}
-use Rattle.std.proofs.lemmas.Result.{IfOk-weaker}
+use Rattle.std.proofs.Common.{[], ◌∷◌, ◌++◌, ◌∙◌, append-nil, codes, refl, sym, subst, inl, inr, arith}
+use Rattle.std.proofs.lemmas.Result.{IfOk-weaker, IfOk-from_err}
 use Rattle.csn_bits.specs.Fault.{IsLineFault}
 use Rattle.csn_bits.specs.Octets.{octets_of}
 use Rattle.csn_run.specs.OutLine.{AnswersJoined, fault_text, joins_block, no_octets, no_block}
+use Rattle.csn_run.proofs.ProgressLemmas.{OnErr-from}
 use Rattle.csn_run.proofs.ShowLemmas.{fault_refuses}
 use Rattle.csn_run.proofs.segments.segments_line.Goals as goal
 
@@ -39,3 +40,18 @@ returns-then-len-ne0-clause-ok c = (
   (λ before joins. (before, joins, λ text rules reading is. no_octets c.in-Ok.bits c.in-Ok.ensures.ok (rw c.len.ensures.count at c.if-len-ne0.true) refl refl)),
   refl,
 )
+
+pub returns-in_err-answer_fault-in-Err-clause-ok : goal.returns-in_err-answer_fault-in-Err-clause-ok
+returns-in_err-answer_fault-in-Err-clause-ok c = IfOk-from_err c.from_residual.result _ c.from_residual.ensures.0
+
+pub returns-in_err-answer_fault-in-Err-clause-err : goal.returns-in_err-answer_fault-in-Err-clause-err
+returns-in_err-answer_fault-in-Err-clause-err c = OnErr-from c.from_residual.result c.in_err-answer_fault-in-Err.ensures.err
+
+pub returns-in_err-extend_from_slice-clause-ok : goal.returns-in_err-extend_from_slice-clause-ok
+returns-in_err-extend_from_slice-clause-ok c = IfOk-from_err c.from_residual-in_err-extend_from_slice.result _ c.from_residual-in_err-extend_from_slice.ensures.0
+
+pub returns-in_err-extend_from_slice-clause-err : goal.returns-in_err-extend_from_slice-clause-err
+returns-in_err-extend_from_slice-clause-err c = OnErr-from c.from_residual-in_err-extend_from_slice.result ([], c.in_err-extend_from_slice.ensures.items ∙ sym (append-nil _))
+
+pub returns-clause-err : goal.returns-clause-err
+returns-clause-err c = c.answer_joined.ensures.err

@@ -5,7 +5,7 @@ use Rattle.csn_run.specs.LineState.{nothing_kept}
 use Rattle.csn_run.specs.OutLine.{renewing, Works}
 use Rattle.csn_run.specs.Result.{migrating}
 use Rattle.csn_run.proofs.CommandLemmas.{answer_reads, reads_too, two_read, one_file, two_files, verify_files, one_comes, comes_to_one, comes_to_none, no_files}
-use Rattle.csn_run.proofs.OutsideLemmas.{fetches_one, fetches_same}
+use Rattle.csn_run.proofs.OutsideLemmas.{fetches_one, fetches_same, keeps_still}
 use Rattle.csn_run.proofs.Following.{Watches, alone_follows, watches_close}
 use Rattle.csn_run.proofs.JobLemmas.{asked_migrate, lines_end}
 use Rattle.csn_run.proofs.top.perform.Goals as goal
@@ -133,3 +133,201 @@ returns-in-Verify-clause-missing g c = λ words file row comes lacks.
 
 pub returns-in-Verify-clause-ends : goal.returns-in-Verify-clause-ends
 returns-in-Verify-clause-ends g c = λ words row. c.verify_file.ensures.ends words (rw c.in-Verify.is at row) _ _ _
+
+pub returns-in-Report-clause-write : goal.returns-in-Report-clause-write
+returns-in-Report-clause-write g c = λ e. absurd (c.report.ensures.not_write e)
+
+pub returns-in-Report-clause-touches : goal.returns-in-Report-clause-touches
+returns-in-Report-clause-touches g c = λ words row. inl refl
+
+pub returns-in-Report-clause-before_lines : goal.returns-in-Report-clause-before_lines
+returns-in-Report-clause-before_lines g c = λ ended. refl
+
+pub returns-in-Report-clause-input : goal.returns-in-Report-clause-input
+returns-in-Report-clause-input g c = keeps_still
+
+pub returns-in-Report-clause-out : goal.returns-in-Report-clause-out
+returns-in-Report-clause-out g c = keeps_still
+
+pub returns-in-Report-clause-shelf : goal.returns-in-Report-clause-shelf
+returns-in-Report-clause-shelf g c = c.report.ensures.shelf
+
+pub returns-in-Answer-clause-write : goal.returns-in-Answer-clause-write
+returns-in-Answer-clause-write g c = c.answer_by_rule.ensures.write
+
+pub returns-in-Answer-clause-input : goal.returns-in-Answer-clause-input
+returns-in-Answer-clause-input g c = c.answer_by_rule.ensures.input
+
+pub returns-in-Answer-clause-out : goal.returns-in-Answer-clause-out
+returns-in-Answer-clause-out g c = c.answer_by_rule.ensures.out
+
+pub returns-in-Answer-clause-before_lines : goal.returns-in-Answer-clause-before_lines
+returns-in-Answer-clause-before_lines g c = c.answer_by_rule.ensures.before_lines
+
+pub returns-in-Answer-clause-shelf : goal.returns-in-Answer-clause-shelf
+returns-in-Answer-clause-shelf g c = c.answer_by_rule.ensures.shelf
+
+pub returns-in-Migrate-clause-write : goal.returns-in-Migrate-clause-write
+returns-in-Migrate-clause-write g c = c.answer_lines.ensures.write
+
+pub returns-in-Migrate-clause-input : goal.returns-in-Migrate-clause-input
+returns-in-Migrate-clause-input g c = c.answer_lines.ensures.input
+
+pub returns-in-Migrate-clause-out : goal.returns-in-Migrate-clause-out
+returns-in-Migrate-clause-out g c = c.answer_lines.ensures.out
+
+pub returns-in-Migrate-clause-shelf : goal.returns-in-Migrate-clause-shelf
+returns-in-Migrate-clause-shelf g c = keeps_still
+
+pub returns-in-Migrate-clause-read : goal.returns-in-Migrate-clause-read
+returns-in-Migrate-clause-read g c = λ e words row. inl (c.answer_lines.ensures.read e)
+
+pub returns-in-Migrate-clause-no_file : goal.returns-in-Migrate-clause-no_file
+returns-in-Migrate-clause-no_file g c = λ words row none. refl
+
+pub returns-in-Segments-clause-write : goal.returns-in-Segments-clause-write
+returns-in-Segments-clause-write g c = c.answer_segments.ensures.write
+
+pub returns-in-Segments-clause-input : goal.returns-in-Segments-clause-input
+returns-in-Segments-clause-input g c = c.answer_segments.ensures.input
+
+pub returns-in-Segments-clause-out : goal.returns-in-Segments-clause-out
+returns-in-Segments-clause-out g c = c.answer_segments.ensures.out
+
+pub returns-in-Segments-clause-before_lines : goal.returns-in-Segments-clause-before_lines
+returns-in-Segments-clause-before_lines g c = c.answer_segments.ensures.before_lines
+
+pub returns-in-Segments-clause-shelf : goal.returns-in-Segments-clause-shelf
+returns-in-Segments-clause-shelf g c = keeps_still
+
+pub returns-in-Segments-clause-read : goal.returns-in-Segments-clause-read
+returns-in-Segments-clause-read g c = λ e words row. inl (c.answer_segments.ensures.read e)
+
+pub returns-in-Segments-clause-no_file : goal.returns-in-Segments-clause-no_file
+returns-in-Segments-clause-no_file g c = λ words row none. refl
+
+pub returns-in-Replay-clause-write : goal.returns-in-Replay-clause-write
+returns-in-Replay-clause-write g c = c.answer_replay.ensures.write
+
+pub returns-in-Replay-clause-input : goal.returns-in-Replay-clause-input
+returns-in-Replay-clause-input g c = c.answer_replay.ensures.input
+
+pub returns-in-Replay-clause-out : goal.returns-in-Replay-clause-out
+returns-in-Replay-clause-out g c = c.answer_replay.ensures.out
+
+pub returns-in-Replay-clause-before_lines : goal.returns-in-Replay-clause-before_lines
+returns-in-Replay-clause-before_lines g c = c.answer_replay.ensures.before_lines
+
+pub returns-in-Replay-clause-shelf : goal.returns-in-Replay-clause-shelf
+returns-in-Replay-clause-shelf g c = keeps_still
+
+pub returns-in-Replay-clause-read : goal.returns-in-Replay-clause-read
+returns-in-Replay-clause-read g c = λ e words row. inl (c.answer_replay.ensures.read e)
+
+pub returns-in-Replay-clause-no_file : goal.returns-in-Replay-clause-no_file
+returns-in-Replay-clause-no_file g c = λ words row none. refl
+
+pub returns-in-Soak-clause-write : goal.returns-in-Soak-clause-write
+returns-in-Soak-clause-write g c = λ e. absurd (c.soak_entry.ensures.not_write e)
+
+pub returns-in-Soak-clause-touches : goal.returns-in-Soak-clause-touches
+returns-in-Soak-clause-touches g c = λ words row. inl refl
+
+pub returns-in-Soak-clause-before_lines : goal.returns-in-Soak-clause-before_lines
+returns-in-Soak-clause-before_lines g c = λ ended. refl
+
+pub returns-in-Soak-clause-input : goal.returns-in-Soak-clause-input
+returns-in-Soak-clause-input g c = keeps_still
+
+pub returns-in-Soak-clause-out : goal.returns-in-Soak-clause-out
+returns-in-Soak-clause-out g c = keeps_still
+
+pub returns-in-Soak-clause-shelf : goal.returns-in-Soak-clause-shelf
+returns-in-Soak-clause-shelf g c = keeps_still
+
+pub returns-in-Soak-clause-no_file : goal.returns-in-Soak-clause-no_file
+returns-in-Soak-clause-no_file g c = λ words row none. refl
+
+pub returns-in-Soak-clause-read : goal.returns-in-Soak-clause-read
+returns-in-Soak-clause-read g c = λ e. absurd (c.soak_entry.ensures.not_read e)
+
+pub returns-in-Compat-clause-write : goal.returns-in-Compat-clause-write
+returns-in-Compat-clause-write g c = λ e. absurd (c.compare_files.ensures.not_write e)
+
+pub returns-in-Compat-clause-touches : goal.returns-in-Compat-clause-touches
+returns-in-Compat-clause-touches g c = λ words row. inl refl
+
+pub returns-in-Compat-clause-before_lines : goal.returns-in-Compat-clause-before_lines
+returns-in-Compat-clause-before_lines g c = λ ended. refl
+
+pub returns-in-Compat-clause-input : goal.returns-in-Compat-clause-input
+returns-in-Compat-clause-input g c = keeps_still
+
+pub returns-in-Compat-clause-out : goal.returns-in-Compat-clause-out
+returns-in-Compat-clause-out g c = keeps_still
+
+pub returns-in-Compat-clause-shelf : goal.returns-in-Compat-clause-shelf
+returns-in-Compat-clause-shelf g c = c.compare_files.ensures.shelf
+
+pub returns-in-Verify-clause-write : goal.returns-in-Verify-clause-write
+returns-in-Verify-clause-write g c = λ e. absurd (c.verify_file.ensures.not_write e)
+
+pub returns-in-Verify-clause-touches : goal.returns-in-Verify-clause-touches
+returns-in-Verify-clause-touches g c = λ words row. inl refl
+
+pub returns-in-Verify-clause-before_lines : goal.returns-in-Verify-clause-before_lines
+returns-in-Verify-clause-before_lines g c = λ ended. refl
+
+pub returns-in-Verify-clause-input : goal.returns-in-Verify-clause-input
+returns-in-Verify-clause-input g c = keeps_still
+
+pub returns-in-Verify-clause-out : goal.returns-in-Verify-clause-out
+returns-in-Verify-clause-out g c = keeps_still
+
+pub returns-in-Verify-clause-shelf : goal.returns-in-Verify-clause-shelf
+returns-in-Verify-clause-shelf g c = c.verify_file.ensures.shelf
+
+pub answer_by_rule-requires-clause-line : goal.answer_by_rule-requires-clause-line
+answer_by_rule-requires-clause-line g c = c.requires.line
+
+pub answer_by_rule-requires-clause-pending : goal.answer_by_rule-requires-clause-pending
+answer_by_rule-requires-clause-pending g c = c.requires.pending
+
+pub answer_by_rule-requires-clause-refused : goal.answer_by_rule-requires-clause-refused
+answer_by_rule-requires-clause-refused g c = c.requires.refused
+
+pub answer_lines-requires-clause-line : goal.answer_lines-requires-clause-line
+answer_lines-requires-clause-line g c = c.requires.line
+
+pub answer_lines-requires-clause-pending : goal.answer_lines-requires-clause-pending
+answer_lines-requires-clause-pending g c = c.requires.pending
+
+pub answer_lines-requires-clause-refused : goal.answer_lines-requires-clause-refused
+answer_lines-requires-clause-refused g c = c.requires.refused
+
+pub answer_segments-requires-clause-line : goal.answer_segments-requires-clause-line
+answer_segments-requires-clause-line g c = c.requires.line
+
+pub answer_segments-requires-clause-pending : goal.answer_segments-requires-clause-pending
+answer_segments-requires-clause-pending g c = c.requires.pending
+
+pub answer_segments-requires-clause-refused : goal.answer_segments-requires-clause-refused
+answer_segments-requires-clause-refused g c = c.requires.refused
+
+pub answer_replay-requires-clause-line : goal.answer_replay-requires-clause-line
+answer_replay-requires-clause-line g c = c.requires.line
+
+pub answer_replay-requires-clause-pending : goal.answer_replay-requires-clause-pending
+answer_replay-requires-clause-pending g c = c.requires.pending
+
+pub answer_replay-requires-clause-refused : goal.answer_replay-requires-clause-refused
+answer_replay-requires-clause-refused g c = c.requires.refused
+
+pub soak_entry-requires-clause-pending : goal.soak_entry-requires-clause-pending
+soak_entry-requires-clause-pending g c = c.requires.pending
+
+pub report-requires : goal.report-requires
+report-requires g c = record { pending = c.requires.pending }
+
+pub compare_files-requires : goal.compare_files-requires
+compare_files-requires g c = record { pending = c.requires.pending }

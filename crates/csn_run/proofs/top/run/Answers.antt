@@ -7,7 +7,7 @@ use Rattle.csn_run.specs.declared.ended.Ended.TheVariants.{ReadFault, WriteFault
 use Rattle.csn_run.proofs.CommandLemmas.{no_row, row_named, comes_named, row_read, command_read}
 use Rattle.csn_run.proofs.OldBlocks.{stays_of}
 use Rattle.csn_run.proofs.Arguments.{are_arguments}
-use Rattle.csn_run.proofs.OutsideLemmas.{keeps_along, keeps_both}
+use Rattle.csn_run.proofs.OutsideLemmas.{keeps_along, keeps_both, keeps_still}
 use Rattle.csn_run.proofs.ResultLemmas.{complete_of, result_of, begun_of, read_of, nothing_left_of, bounded_of, untouched, finished_no_write, finished_no_memory, handed_all, nothing_taken, unread_ends, unwritten_ends, not_usage, ok_of, no_fault_bad, no_fault_uncertified, read_stopped, write_stopped, ends_apart}
 use Rattle.csn_run.proofs.OneTree.{one_tree_of}
 use Rattle.csn_run.proofs.Prompt.{prompt_of}
@@ -187,3 +187,135 @@ returns-clause-input_read g c = λ read reads.
 
 pub returns-clause-no_file : goal.returns-clause-no_file
 returns-clause-no_file g c = λ none. c.perform-outcome.ensures.no_file _ (row_read c.in-Some.command c.deref.ensures.value c.in-Ok.ensures.ok c.in-Some.ensures.names) none
+
+pub returns-then-is_none-clause-usage_shelf : goal.returns-then-is_none-clause-usage_shelf
+returns-then-is_none-clause-usage_shelf g c = λ e. refl
+
+pub returns-then-is_none-clause-usage_input : goal.returns-then-is_none-clause-usage_input
+returns-then-is_none-clause-usage_input g c = λ e. refl
+
+pub returns-then-is_none-clause-usage_out : goal.returns-then-is_none-clause-usage_out
+returns-then-is_none-clause-usage_out g c = λ e. refl
+
+pub returns-then-is_none-clause-before_lines : goal.returns-then-is_none-clause-before_lines
+returns-then-is_none-clause-before_lines g c = λ ended. refl
+
+pub returns-then-is_none-clause-no_lines : goal.returns-then-is_none-clause-no_lines
+returns-then-is_none-clause-no_lines g c = λ never. refl
+
+pub returns-then-is_none-clause-no_job : goal.returns-then-is_none-clause-no_job
+returns-then-is_none-clause-no_job g c = λ files written ended f before. refl
+
+pub returns-then-is_none-clause-no_file : goal.returns-then-is_none-clause-no_file
+returns-then-is_none-clause-no_file g c = λ none. refl
+
+pub returns-then-is_none-clause-shelf : goal.returns-then-is_none-clause-shelf
+returns-then-is_none-clause-shelf g c = keeps_still
+
+pub returns-then-is_none-clause-input : goal.returns-then-is_none-clause-input
+returns-then-is_none-clause-input g c = keeps_still
+
+pub returns-then-is_none-clause-out : goal.returns-then-is_none-clause-out
+returns-then-is_none-clause-out g c = keeps_still
+
+pub returns-then-is_none-clause-read_fault : goal.returns-then-is_none-clause-read_fault
+returns-then-is_none-clause-read_fault g c = λ e. absurd (cc (e))
+
+pub returns-then-is_none-clause-write_fault : goal.returns-then-is_none-clause-write_fault
+returns-then-is_none-clause-write_fault g c = λ e. absurd (cc (e))
+
+pub returns-then-is_none-clause-reading : goal.returns-then-is_none-clause-reading
+returns-then-is_none-clause-reading g c = λ e. absurd (cc (e))
+
+pub returns-then-is_none-clause-blocks_stay : goal.returns-then-is_none-clause-blocks_stay
+returns-then-is_none-clause-blocks_stay g c = λ e. absurd (cc (e))
+
+pub returns-then-is_none-clause-one_tree : goal.returns-then-is_none-clause-one_tree
+returns-then-is_none-clause-one_tree g c = λ ended. absurd (elim ended [ inl e ↦ cc (e) | inr e ↦ cc (e) ])
+
+pub returns-then-is_none-clause-input_read : goal.returns-then-is_none-clause-input_read
+returns-then-is_none-clause-input_read g c = λ ended. absurd (elim ended [ inl e ↦ cc (e) | inr e ↦ cc (e) ])
+
+pub returns-in_default-clause-usage_shelf : goal.returns-in_default-clause-usage_shelf
+returns-in_default-clause-usage_shelf g c = λ e. refl
+
+pub returns-in_default-clause-usage_input : goal.returns-in_default-clause-usage_input
+returns-in_default-clause-usage_input g c = λ e. refl
+
+pub returns-in_default-clause-usage_out : goal.returns-in_default-clause-usage_out
+returns-in_default-clause-usage_out g c = λ e. refl
+
+pub returns-in_default-clause-before_lines : goal.returns-in_default-clause-before_lines
+returns-in_default-clause-before_lines g c = λ ended. refl
+
+pub returns-in_default-clause-no_lines : goal.returns-in_default-clause-no_lines
+returns-in_default-clause-no_lines g c = λ never. refl
+
+pub returns-in_default-clause-no_job : goal.returns-in_default-clause-no_job
+returns-in_default-clause-no_job g c = λ files written ended f before. refl
+
+pub returns-in_default-clause-no_file : goal.returns-in_default-clause-no_file
+returns-in_default-clause-no_file g c = λ none. refl
+
+pub returns-in_default-clause-shelf : goal.returns-in_default-clause-shelf
+returns-in_default-clause-shelf g c = keeps_still
+
+pub returns-in_default-clause-input : goal.returns-in_default-clause-input
+returns-in_default-clause-input g c = keeps_still
+
+pub returns-in_default-clause-out : goal.returns-in_default-clause-out
+returns-in_default-clause-out g c = keeps_still
+
+pub returns-in_default-clause-read_fault : goal.returns-in_default-clause-read_fault
+returns-in_default-clause-read_fault g c = λ e. absurd (cc (e))
+
+pub returns-in_default-clause-write_fault : goal.returns-in_default-clause-write_fault
+returns-in_default-clause-write_fault g c = λ e. absurd (cc (e))
+
+pub returns-in_default-clause-reading : goal.returns-in_default-clause-reading
+returns-in_default-clause-reading g c = λ e. absurd (cc (e))
+
+pub returns-in_default-clause-blocks_stay : goal.returns-in_default-clause-blocks_stay
+returns-in_default-clause-blocks_stay g c = λ e. absurd (cc (e))
+
+pub returns-in_default-clause-one_tree : goal.returns-in_default-clause-one_tree
+returns-in_default-clause-one_tree g c = λ ended. absurd (elim ended [ inl e ↦ cc (e) | inr e ↦ cc (e) ])
+
+pub returns-in_default-clause-input_read : goal.returns-in_default-clause-input_read
+returns-in_default-clause-input_read g c = λ ended. absurd (elim ended [ inl e ↦ cc (e) | inr e ↦ cc (e) ])
+
+pub returns-then-is_none-clause-row : goal.returns-then-is_none-clause-row
+returns-then-is_none-clause-row g c = λ used. absurd (used refl)
+
+pub returns-then-is_none-clause-begins : goal.returns-then-is_none-clause-begins
+returns-then-is_none-clause-begins g c = λ used. absurd (used refl)
+
+pub returns-then-is_none-clause-prompt : goal.returns-then-is_none-clause-prompt
+returns-then-is_none-clause-prompt g c = λ used. absurd (used refl)
+
+pub returns-then-is_none-clause-flushed : goal.returns-then-is_none-clause-flushed
+returns-then-is_none-clause-flushed g c = λ used. absurd (used refl)
+
+pub returns-in_default-clause-flushed : goal.returns-in_default-clause-flushed
+returns-in_default-clause-flushed g c = λ used no_write no_memory. absurd (no_memory refl)
+
+pub perform-outcome-requires-clause-line : goal.perform-outcome-requires-clause-line
+perform-outcome-requires-clause-line g c = c.new-lines.ensures.line
+
+pub perform-outcome-requires-clause-pending : goal.perform-outcome-requires-clause-pending
+perform-outcome-requires-clause-pending g c = c.new-lines.ensures.pending
+
+pub perform-outcome-requires-clause-refused : goal.perform-outcome-requires-clause-refused
+perform-outcome-requires-clause-refused g c = c.new-lines.ensures.refused
+
+pub perform-outcome-requires-clause-row : goal.perform-outcome-requires-clause-row
+perform-outcome-requires-clause-row g c = (_, c.in-Some.ensures.names)
+
+pub returns-clause-flushed : goal.returns-clause-flushed
+returns-clause-flushed g c = λ used no_write no_memory. c.finish.ensures.flushed no_write no_memory
+
+pub returns-then-is_none-clause-result : goal.returns-then-is_none-clause-result
+returns-then-is_none-clause-result g c = λ finished. absurd finished
+
+pub returns-in_default-clause-result : goal.returns-in_default-clause-result
+returns-in_default-clause-result g c = λ finished. absurd finished
