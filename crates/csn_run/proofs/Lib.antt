@@ -1,5 +1,6 @@
 pub mod AnswerLemmas
 pub mod Arguments
+pub mod Apart
 pub mod Captures
 pub mod CaptureLemmas
 pub mod CommandLemmas

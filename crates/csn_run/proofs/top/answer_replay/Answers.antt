@@ -7,6 +7,7 @@ use Rattle.csn_run.specs.Result.{replaying}
 use Rattle.csn_run.proofs.Following.{Watches, watches_close}
 use Rattle.csn_run.proofs.OutsideLemmas.{keeps_still}
 use Rattle.csn_run.proofs.JobLemmas.{replay_compiles, asked_replay, replays_follow, reason_ends, lines_end}
+use Rattle.csn_run.proofs.Apart.{memory_alone}
 use Rattle.csn_run.proofs.top.answer_replay.Goals as goal
 
 pub returns-in-Err-clause-ends : goal.returns-in-Err-clause-ends
@@ -49,10 +50,10 @@ pub new-requires : goal.new-requires
 new-requires g c = ap length c.deref.ensures.value ∙ c.in-Ok.ensures.count
 
 pub returns-in_default-clause-read : goal.returns-in_default-clause-read
-returns-in_default-clause-read g c = λ e. absurd (cc (e))
+returns-in_default-clause-read g c = λ e. absurd (memory_alone e tt)
 
 pub returns-in_default-clause-write : goal.returns-in_default-clause-write
-returns-in_default-clause-write g c = λ e. absurd (cc (e))
+returns-in_default-clause-write g c = λ e. absurd (memory_alone e tt)
 
 pub returns-in_default-clause-touches : goal.returns-in_default-clause-touches
 returns-in_default-clause-touches g c = λ words files row. inl refl

@@ -3,14 +3,14 @@ use Rattle.std.proofs.lemmas.List.{length-map}
 use Rattle.std.specs.String.{string_bytes}
 use Rattle.csn_run.specs.Result.{begins_none, nothing_read}
 use Rattle.csn_io.proofs.Told.{rose_early, rose_late}
-use Rattle.csn_run.specs.declared.ended.Ended.TheVariants.{ReadFault, WriteFault, NoMemory}
 use Rattle.csn_run.proofs.CommandLemmas.{no_row, row_named, comes_named, row_read, command_read}
 use Rattle.csn_run.proofs.OldBlocks.{stays_of}
 use Rattle.csn_run.proofs.Arguments.{are_arguments}
 use Rattle.csn_run.proofs.OutsideLemmas.{keeps_along, keeps_both, keeps_still}
-use Rattle.csn_run.proofs.ResultLemmas.{complete_of, result_of, begun_of, read_of, nothing_left_of, bounded_of, untouched, finished_no_write, finished_no_memory, handed_all, nothing_taken, unread_ends, unwritten_ends, not_usage, ok_of, no_fault_bad, no_fault_uncertified, read_stopped, write_stopped, ends_apart}
+use Rattle.csn_run.proofs.ResultLemmas.{complete_of, result_of, begun_of, read_of, nothing_left_of, bounded_of, untouched, finished_no_write, finished_no_memory, handed_all, nothing_taken, unread_ends, unwritten_ends, not_usage, ok_of, no_fault_bad, no_fault_uncertified, read_stopped, write_stopped}
 use Rattle.csn_run.proofs.OneTree.{one_tree_of}
 use Rattle.csn_run.proofs.Prompt.{prompt_of}
+use Rattle.csn_run.proofs.Apart.{ends_written, ends_provided, usage_alone, want_alone}
 use Rattle.csn_run.proofs.top.run.Goals as goal
 
 pub returns-then-is_none-clause-usage : goal.returns-then-is_none-clause-usage
@@ -33,7 +33,7 @@ unreachable-requires g c =
     no_row _ c.command_of-2.result c.command_of-2.ensures.row (ap is_some c.in_default-command_of.is) (command_read c.deref.ensures.value c.in-Ok.ensures.ok (c.command_of.ensures.row.0 c.if-is_none.ensures))
 
 pub returns-in_default-clause-usage : goal.returns-in_default-clause-usage
-returns-in_default-clause-usage g c = (λ e. absurd (cc (e)), λ none. absurd (none (c.command_of.ensures.row.0 c.if-is_none.ensures)))
+returns-in_default-clause-usage g c = (λ e. absurd (want_alone e tt), λ none. absurd (none (c.command_of.ensures.row.0 c.if-is_none.ensures)))
 
 pub returns-in_default-clause-row : goal.returns-in_default-clause-row
 returns-in_default-clause-row g c = λ used. c.command_of.ensures.row.0 c.if-is_none.ensures
@@ -55,7 +55,7 @@ returns-in_default-clause-prompt g c = λ used files whole before f s k. ([], k 
 
 pub returns-clause-usage : goal.returns-clause-usage
 returns-clause-usage g c = (
-  λ e row. not_usage _ (c.perform-outcome.ensures.ends _ (row_read c.in-Some.command c.deref.ensures.value c.in-Ok.ensures.ok c.in-Some.ensures.names)) (sym (c.finish.ensures.end (ends_apart _ _ _ e (λ h. cc)) (ends_apart _ _ _ e (λ h. cc))) ∙ e),
+  λ e row. not_usage _ (c.perform-outcome.ensures.ends _ (row_read c.in-Some.command c.deref.ensures.value c.in-Ok.ensures.ok c.in-Some.ensures.names)) (sym (c.finish.ensures.end (ends_written _ _ e tt) (ends_provided _ _ e tt)) ∙ e),
   λ none. absurd (none (c.command_of.ensures.row.0 c.if-is_none.ensures)),
 )
 
@@ -63,13 +63,13 @@ pub returns-clause-row : goal.returns-clause-row
 returns-clause-row g c = λ used. c.command_of.ensures.row.0 c.if-is_none.ensures
 
 pub returns-clause-usage_shelf : goal.returns-clause-usage_shelf
-returns-clause-usage_shelf g c = λ e. absurd (not_usage _ (c.perform-outcome.ensures.ends _ (row_read c.in-Some.command c.deref.ensures.value c.in-Ok.ensures.ok c.in-Some.ensures.names)) (sym (c.finish.ensures.end (ends_apart _ _ _ e (λ h. cc)) (ends_apart _ _ _ e (λ h. cc))) ∙ e))
+returns-clause-usage_shelf g c = λ e. absurd (not_usage _ (c.perform-outcome.ensures.ends _ (row_read c.in-Some.command c.deref.ensures.value c.in-Ok.ensures.ok c.in-Some.ensures.names)) (sym (c.finish.ensures.end (ends_written _ _ e tt) (ends_provided _ _ e tt)) ∙ e))
 
 pub returns-clause-usage_input : goal.returns-clause-usage_input
-returns-clause-usage_input g c = λ e. absurd (not_usage _ (c.perform-outcome.ensures.ends _ (row_read c.in-Some.command c.deref.ensures.value c.in-Ok.ensures.ok c.in-Some.ensures.names)) (sym (c.finish.ensures.end (ends_apart _ _ _ e (λ h. cc)) (ends_apart _ _ _ e (λ h. cc))) ∙ e))
+returns-clause-usage_input g c = λ e. absurd (not_usage _ (c.perform-outcome.ensures.ends _ (row_read c.in-Some.command c.deref.ensures.value c.in-Ok.ensures.ok c.in-Some.ensures.names)) (sym (c.finish.ensures.end (ends_written _ _ e tt) (ends_provided _ _ e tt)) ∙ e))
 
 pub returns-clause-usage_out : goal.returns-clause-usage_out
-returns-clause-usage_out g c = λ e. absurd (not_usage _ (c.perform-outcome.ensures.ends _ (row_read c.in-Some.command c.deref.ensures.value c.in-Ok.ensures.ok c.in-Some.ensures.names)) (sym (c.finish.ensures.end (ends_apart _ _ _ e (λ h. cc)) (ends_apart _ _ _ e (λ h. cc))) ∙ e))
+returns-clause-usage_out g c = λ e. absurd (not_usage _ (c.perform-outcome.ensures.ends _ (row_read c.in-Some.command c.deref.ensures.value c.in-Ok.ensures.ok c.in-Some.ensures.names)) (sym (c.finish.ensures.end (ends_written _ _ e tt) (ends_provided _ _ e tt)) ∙ e))
 
 pub returns-then-is_none-clause-fetched : goal.returns-then-is_none-clause-fetched
 returns-then-is_none-clause-fetched g c = λ files names. absurd (no_row _ c.command_of.result c.command_of.ensures.row c.if-is_none.ensures (row_named names))
@@ -87,8 +87,8 @@ returns-clause-no_job g c = λ files written ended f before.
 pub returns-clause-before_lines : goal.returns-clause-before_lines
 returns-clause-before_lines g c = λ ended.
     elim ended [
-      | inl e ↦ c.perform-outcome.ensures.before_lines (inl (ok_of _ _ (sym (c.finish.ensures.end (ends_apart _ _ _ e (λ h. cc)) (ends_apart _ _ _ e (λ h. cc))) ∙ e) no_fault_bad))
-      | inr e ↦ c.perform-outcome.ensures.before_lines (inr (ok_of _ _ (sym (c.finish.ensures.end (ends_apart _ _ _ e (λ h. cc)) (ends_apart _ _ _ e (λ h. cc))) ∙ e) no_fault_uncertified))
+      | inl e ↦ c.perform-outcome.ensures.before_lines (inl (ok_of _ _ (sym (c.finish.ensures.end (ends_written _ _ e tt) (ends_provided _ _ e tt)) ∙ e) no_fault_bad))
+      | inr e ↦ c.perform-outcome.ensures.before_lines (inr (ok_of _ _ (sym (c.finish.ensures.end (ends_written _ _ e tt) (ends_provided _ _ e tt)) ∙ e) no_fault_uncertified))
     ]
 
 pub returns-clause-bounded : goal.returns-clause-bounded
@@ -99,14 +99,14 @@ pub returns-clause-one_tree : goal.returns-clause-one_tree
 returns-clause-one_tree g c = λ answered files f.
     let ends = rw f at (c.perform-outcome.ensures.ends _ (row_read c.in-Some.command c.deref.ensures.value c.in-Ok.ensures.ok c.in-Some.ensures.names)) in
     elim answered [
-      | inl e ↦ one_tree_of c.known.ensures _ files _ ends (inl (sym (c.finish.ensures.end (ends_apart _ _ _ e (λ h. cc)) (ends_apart _ _ _ e (λ h. cc))) ∙ e))
-      | inr e ↦ one_tree_of c.known.ensures _ files _ ends (inr (sym (c.finish.ensures.end (ends_apart _ _ _ e (λ h. cc)) (ends_apart _ _ _ e (λ h. cc))) ∙ e))
+      | inl e ↦ one_tree_of c.known.ensures _ files _ ends (inl (sym (c.finish.ensures.end (ends_written _ _ e tt) (ends_provided _ _ e tt)) ∙ e))
+      | inr e ↦ one_tree_of c.known.ensures _ files _ ends (inr (sym (c.finish.ensures.end (ends_written _ _ e tt) (ends_provided _ _ e tt)) ∙ e))
     ]
 
 pub returns-clause-blocks_stay : goal.returns-clause-blocks_stay
 returns-clause-blocks_stay g c = λ e files f.
     let ends = rw f at (c.perform-outcome.ensures.ends _ (row_read c.in-Some.command c.deref.ensures.value c.in-Ok.ensures.ok c.in-Some.ensures.names)) in
-    stays_of c.known.ensures _ files _ ends (sym (c.finish.ensures.end (ends_apart _ _ _ e (λ h. cc)) (ends_apart _ _ _ e (λ h. cc))) ∙ e)
+    stays_of c.known.ensures _ files _ ends (sym (c.finish.ensures.end (ends_written _ _ e tt) (ends_provided _ _ e tt)) ∙ e)
 
 pub returns-clause-missing : goal.returns-clause-missing
 returns-clause-missing g c = λ file comes lacks.
@@ -116,7 +116,7 @@ returns-clause-missing g c = λ file comes lacks.
 
 pub returns-clause-read_fault : goal.returns-clause-read_fault
 returns-clause-read_fault g c = λ e.
-    let is = sym (c.finish.ensures.end (ends_apart _ _ _ e (λ h. cc)) (ends_apart _ _ _ e (λ h. cc))) ∙ e in
+    let is = sym (c.finish.ensures.end (ends_written _ _ e tt) (ends_provided _ _ e tt)) ∙ e in
     c.perform-outcome.ensures.read (read_stopped _ (c.perform-outcome.ensures.ends _ (row_read c.in-Some.command c.deref.ensures.value c.in-Ok.ensures.ok c.in-Some.ensures.names)) is) _ (row_read c.in-Some.command c.deref.ensures.value c.in-Ok.ensures.ok c.in-Some.ensures.names)
 
 pub returns-clause-write_fault : goal.returns-clause-write_fault
@@ -130,9 +130,9 @@ pub returns-clause-complete : goal.returns-clause-complete
 returns-clause-complete g c = λ row no_source no_sink no_file.
     let ends = c.perform-outcome.ensures.ends _ (row_read c.in-Some.command c.deref.ensures.value c.in-Ok.ensures.ok c.in-Some.ensures.names) in
     complete_of c.finish.result
-    (λ e. not_usage _ ends (sym (c.finish.ensures.end (ends_apart _ _ _ e (λ h. cc)) (ends_apart _ _ _ e (λ h. cc))) ∙ e))
+    (λ e. not_usage _ ends (sym (c.finish.ensures.end (ends_written _ _ e tt) (ends_provided _ _ e tt)) ∙ e))
     (λ e.
-    let is = sym (c.finish.ensures.end (ends_apart _ _ _ e (λ h. cc)) (ends_apart _ _ _ e (λ h. cc))) ∙ e in
+    let is = sym (c.finish.ensures.end (ends_written _ _ e tt) (ends_provided _ _ e tt)) ∙ e in
     elim (c.perform-outcome.ensures.read (read_stopped _ ends is) _ (row_read c.in-Some.command c.deref.ensures.value c.in-Ok.ensures.ok c.in-Some.ensures.names)) [ inl rose ↦ no_source rose | inr f ↦ no_file f.0 f.1 f.2 ])
     (λ e. elim (c.finish.ensures.write e) [
       | inl wrote ↦ no_sink (rose_early _ _ _ (c.perform-outcome.ensures.write (write_stopped _ ends wrote)) c.finish.ensures.out.0)
@@ -167,8 +167,8 @@ pub returns-clause-reading : goal.returns-clause-reading
 returns-clause-reading g c = λ e files whole before f s k.
     let ends = rw (f, s, k) at (c.perform-outcome.ensures.ends _ (row_read c.in-Some.command c.deref.ensures.value c.in-Ok.ensures.ok c.in-Some.ensures.names)) in
     let took = c.finish.ensures.took in
-    let no_write = ends_apart c.finish.result ReadFault WriteFault e (λ h. cc) in
-    let no_memory = ends_apart c.finish.result ReadFault NoMemory e (λ h. cc) in
+    let no_write = ends_written _ _ e tt in
+    let no_memory = ends_provided _ _ e tt in
     let all = handed_all _ _ _ _ _ took.2 took.3 (took.4 no_write no_memory) in
     read_of _ files _ whole before _ _ _ _ _ ends all (sym e ∙ c.finish.ensures.end no_write no_memory)
 
@@ -181,8 +181,8 @@ pub returns-clause-input_read : goal.returns-clause-input_read
 returns-clause-input_read g c = λ read reads.
     let ends = c.perform-outcome.ensures.ends _ (row_read c.in-Some.command c.deref.ensures.value c.in-Ok.ensures.ok c.in-Some.ensures.names) in
     elim read [
-      | inl e ↦ nothing_left_of _ _ _ _ _ _ _ _ _ ends (inl (sym (c.finish.ensures.end (ends_apart _ _ _ e (λ h. cc)) (ends_apart _ _ _ e (λ h. cc))) ∙ e)) reads
-      | inr e ↦ nothing_left_of _ _ _ _ _ _ _ _ _ ends (inr (sym (c.finish.ensures.end (ends_apart _ _ _ e (λ h. cc)) (ends_apart _ _ _ e (λ h. cc))) ∙ e)) reads
+      | inl e ↦ nothing_left_of _ _ _ _ _ _ _ _ _ ends (inl (sym (c.finish.ensures.end (ends_written _ _ e tt) (ends_provided _ _ e tt)) ∙ e)) reads
+      | inr e ↦ nothing_left_of _ _ _ _ _ _ _ _ _ ends (inr (sym (c.finish.ensures.end (ends_written _ _ e tt) (ends_provided _ _ e tt)) ∙ e)) reads
     ]
 
 pub returns-clause-no_file : goal.returns-clause-no_file
@@ -219,22 +219,22 @@ pub returns-then-is_none-clause-out : goal.returns-then-is_none-clause-out
 returns-then-is_none-clause-out g c = keeps_still
 
 pub returns-then-is_none-clause-read_fault : goal.returns-then-is_none-clause-read_fault
-returns-then-is_none-clause-read_fault g c = λ e. absurd (cc (e))
+returns-then-is_none-clause-read_fault g c = λ e. absurd (usage_alone e tt)
 
 pub returns-then-is_none-clause-write_fault : goal.returns-then-is_none-clause-write_fault
-returns-then-is_none-clause-write_fault g c = λ e. absurd (cc (e))
+returns-then-is_none-clause-write_fault g c = λ e. absurd (usage_alone e tt)
 
 pub returns-then-is_none-clause-reading : goal.returns-then-is_none-clause-reading
-returns-then-is_none-clause-reading g c = λ e. absurd (cc (e))
+returns-then-is_none-clause-reading g c = λ e. absurd (usage_alone e tt)
 
 pub returns-then-is_none-clause-blocks_stay : goal.returns-then-is_none-clause-blocks_stay
-returns-then-is_none-clause-blocks_stay g c = λ e. absurd (cc (e))
+returns-then-is_none-clause-blocks_stay g c = λ e. absurd (usage_alone e tt)
 
 pub returns-then-is_none-clause-one_tree : goal.returns-then-is_none-clause-one_tree
-returns-then-is_none-clause-one_tree g c = λ ended. absurd (elim ended [ inl e ↦ cc (e) | inr e ↦ cc (e) ])
+returns-then-is_none-clause-one_tree g c = λ ended. absurd (elim ended [ inl e ↦ usage_alone e tt | inr e ↦ usage_alone e tt ])
 
 pub returns-then-is_none-clause-input_read : goal.returns-then-is_none-clause-input_read
-returns-then-is_none-clause-input_read g c = λ ended. absurd (elim ended [ inl e ↦ cc (e) | inr e ↦ cc (e) ])
+returns-then-is_none-clause-input_read g c = λ ended. absurd (elim ended [ inl e ↦ usage_alone e tt | inr e ↦ usage_alone e tt ])
 
 pub returns-in_default-clause-usage_shelf : goal.returns-in_default-clause-usage_shelf
 returns-in_default-clause-usage_shelf g c = λ e. refl
@@ -267,22 +267,22 @@ pub returns-in_default-clause-out : goal.returns-in_default-clause-out
 returns-in_default-clause-out g c = keeps_still
 
 pub returns-in_default-clause-read_fault : goal.returns-in_default-clause-read_fault
-returns-in_default-clause-read_fault g c = λ e. absurd (cc (e))
+returns-in_default-clause-read_fault g c = λ e. absurd (want_alone e tt)
 
 pub returns-in_default-clause-write_fault : goal.returns-in_default-clause-write_fault
-returns-in_default-clause-write_fault g c = λ e. absurd (cc (e))
+returns-in_default-clause-write_fault g c = λ e. absurd (want_alone e tt)
 
 pub returns-in_default-clause-reading : goal.returns-in_default-clause-reading
-returns-in_default-clause-reading g c = λ e. absurd (cc (e))
+returns-in_default-clause-reading g c = λ e. absurd (want_alone e tt)
 
 pub returns-in_default-clause-blocks_stay : goal.returns-in_default-clause-blocks_stay
-returns-in_default-clause-blocks_stay g c = λ e. absurd (cc (e))
+returns-in_default-clause-blocks_stay g c = λ e. absurd (want_alone e tt)
 
 pub returns-in_default-clause-one_tree : goal.returns-in_default-clause-one_tree
-returns-in_default-clause-one_tree g c = λ ended. absurd (elim ended [ inl e ↦ cc (e) | inr e ↦ cc (e) ])
+returns-in_default-clause-one_tree g c = λ ended. absurd (elim ended [ inl e ↦ want_alone e tt | inr e ↦ want_alone e tt ])
 
 pub returns-in_default-clause-input_read : goal.returns-in_default-clause-input_read
-returns-in_default-clause-input_read g c = λ ended. absurd (elim ended [ inl e ↦ cc (e) | inr e ↦ cc (e) ])
+returns-in_default-clause-input_read g c = λ ended. absurd (elim ended [ inl e ↦ want_alone e tt | inr e ↦ want_alone e tt ])
 
 pub returns-then-is_none-clause-row : goal.returns-then-is_none-clause-row
 returns-then-is_none-clause-row g c = λ used. absurd (used refl)
