@@ -420,10 +420,6 @@ finished_no_memory ended h e = subst whole.IsFinished e h
 pub handed_all : (taken taken' : Option (List ℕ)) (waits front rest : List ℕ) → waits ≡ front ++ rest → Appended taken taken' front → rest ≡ [] → Appended taken taken' waits
 handed_all taken taken' waits front rest split handed none = subst (λ (t : List ℕ). Appended taken taken' t) (sym (split ∙ ap (λ l. front ++ l) none ∙ append-nil front)) handed
 
--- two ends are not one
-pub ends_apart : (ended x y : Ended) → ended ≡ x → (x ≡ y → ⊥) → ended ≡ y → ⊥
-ends_apart ended x y e differ f = differ (sym e ∙ f)
-
 -- a job that ends as no fault does
 pub ok_of : (end : Result Ended Fault) (x : Ended) → end_with end ≡ x → ((fault : Fault) → end_by fault ≡ x → ⊥) → end ≡ Ok x
 ok_of (Ok ended) x is no_fault = ap Ok is

@@ -111,10 +111,12 @@ fn rule_words<'a, W: AsStr>(command: &str, words: &'a [W]) -> Option<RuleWords<'
         return None;
     };
     let reading = reading_of(reading.as_str())?;
-    if first.as_str() == command && is_argument(file.as_str()) && is_argument(name.as_str()) {
+    let file = file.as_str();
+    let name = name.as_str();
+    if first.as_str() == command && is_argument(file) && is_argument(name) {
         Some(RuleWords {
-            file: file.as_str(),
-            name: name.as_str(),
+            file,
+            name,
             reading,
         })
     } else {
@@ -180,11 +182,14 @@ fn pair_words<'a, W: AsStr>(words: &'a [W]) -> Option<PairWords<'a>>
         return None;
     };
     let reading = reading_of(reading.as_str())?;
-    if first.as_str() == "compat" && are_arguments(before.as_str(), after.as_str(), name.as_str()) {
+    let before = before.as_str();
+    let after = after.as_str();
+    let name = name.as_str();
+    if first.as_str() == "compat" && are_arguments(before, after, name) {
         Some(PairWords {
-            before: before.as_str(),
-            after: after.as_str(),
-            name: name.as_str(),
+            before,
+            after,
+            name,
             reading,
         })
     } else {
@@ -201,15 +206,16 @@ fn verify_words<'a, W: AsStr>(words: &'a [W]) -> Option<(RuleWords<'a>, &'a str)
         return None;
     };
     let reading = reading_of(reading.as_str())?;
-    if first.as_str() == "verify"
-        && are_arguments(file.as_str(), name.as_str(), certificate.as_str())
-    {
+    let file = file.as_str();
+    let name = name.as_str();
+    let certificate = certificate.as_str();
+    if first.as_str() == "verify" && are_arguments(file, name, certificate) {
         let rule = RuleWords {
-            file: file.as_str(),
-            name: name.as_str(),
+            file,
+            name,
             reading,
         };
-        Some((rule, certificate.as_str()))
+        Some((rule, certificate))
     } else {
         None
     }

@@ -11,10 +11,10 @@ returns-then-are_arguments-clause-names g c =
     let first : g.W.AsStr.text c.first-item.result ≡ codes "compat" = search rules in
     let fit = c.are_arguments.ensures.0 c.if-are_arguments.true in
     record {
-      words_are = ap (map g.W.AsStr.text) words ∙ cc (first, c.as_str-then-are_arguments.ensures, c.as_str-then-are_arguments-2.ensures, c.as_str-then-are_arguments-3.ensures, c.as_str.ensures, c.in_ok-reading.ensures.named);
-      before_fits = subst IsArgument (c.as_str-then-eq.ensures ∙ sym c.as_str-then-are_arguments.ensures) fit.0;
-      after_fits = subst IsArgument (c.as_str-then-eq-2.ensures ∙ sym c.as_str-then-are_arguments-2.ensures) fit.1;
-      name_fits = subst IsArgument (c.as_str-then-eq-3.ensures ∙ sym c.as_str-then-are_arguments-3.ensures) fit.2;
+      words_are = ap (map g.W.AsStr.text) words ∙ cc (first, c.as_str-before.ensures, c.as_str-after.ensures, c.as_str-name.ensures, c.as_str.ensures, c.in_ok-reading.ensures.named);
+      before_fits = fit.0;
+      after_fits = fit.1;
+      name_fits = fit.2;
     }
 
 pub returns-then-are_arguments-clause-none : goal.returns-then-are_arguments-clause-none
@@ -43,9 +43,9 @@ returns-else-eq-clause-none g c = λ before after name reading row.
     let all = sym (ap (map g.W.AsStr.text) words) ∙ row.words_are in
     elim c.else-eq.branch [
       | else-eq-via-then-eq+else-are_arguments w ↦
-          let before_is : before ≡ w.as_str-then-eq.result.now = cc (all, w.as_str-then-eq.ensures) in
-          let after_is : after ≡ w.as_str-then-eq-2.result.now = cc (all, w.as_str-then-eq-2.ensures) in
-          let name_is : name ≡ w.as_str-then-eq-3.result.now = cc (all, w.as_str-then-eq-3.ensures) in
+          let before_is : before ≡ c.as_str-before.result.now = cc (all, c.as_str-before.ensures) in
+          let after_is : after ≡ c.as_str-after.result.now = cc (all, c.as_str-after.ensures) in
+          let name_is : name ≡ c.as_str-name.result.now = cc (all, c.as_str-name.ensures) in
           sym w.if-are_arguments.false ∙ w.are_arguments.ensures.1 (subst IsArgument before_is row.before_fits, subst IsArgument after_is row.after_fits, subst IsArgument name_is row.name_fits)
       | else-eq-via-else-eq w ↦
           let first : g.W.AsStr.text c.first-item.result ≡ codes "compat" = cc (all) in

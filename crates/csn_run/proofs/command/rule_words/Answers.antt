@@ -10,9 +10,9 @@ returns-then-is_argument-2-clause-names g c =
     let words = four_members c.args.words.now _ _ _ _ c.in-len4.len_at_least c.in-len4.len_below c.first-item.is c.file-item.is c.name-item.is c.reading-item.is in
     let first : g.W.AsStr.text c.first-item.result ≡ c.args.command.now = search rules in
     record {
-      words_are = ap (map g.W.AsStr.text) words ∙ cc (first, c.as_str-then-is_argument-2.ensures, c.as_str-then-is_argument-2-2.ensures, c.as_str.ensures, c.in_ok-reading.ensures.named);
-      file_fits = subst IsArgument (c.as_str-then-eq.ensures ∙ sym c.as_str-then-is_argument-2.ensures) (c.is_argument.ensures.0 c.if-is_argument.true);
-      name_fits = subst IsArgument (c.as_str-then-is_argument.ensures ∙ sym c.as_str-then-is_argument-2-2.ensures) (c.is_argument-then-is_argument.ensures.0 c.if-is_argument-2.true);
+      words_are = ap (map g.W.AsStr.text) words ∙ cc (first, c.as_str-file.ensures, c.as_str-name.ensures, c.as_str.ensures, c.in_ok-reading.ensures.named);
+      file_fits = c.is_argument.ensures.0 c.if-is_argument.true;
+      name_fits = c.is_argument-then-is_argument.ensures.0 c.if-is_argument-2.true;
     }
 
 pub returns-else-eq-clause-none : goal.returns-else-eq-clause-none
@@ -21,10 +21,10 @@ returns-else-eq-clause-none g c = λ file name reading row.
     let all = sym (ap (map g.W.AsStr.text) words) ∙ row.words_are in
     elim c.else-eq.branch [
       | else-eq-via-then-eq+then-is_argument+else-is_argument-2 w ↦
-          let same : name ≡ w.as_str-then-is_argument.result.now = cc (all, w.as_str-then-is_argument.ensures) in
+          let same : name ≡ c.as_str-name.result.now = cc (all, c.as_str-name.ensures) in
           sym w.if-is_argument-2.false ∙ w.is_argument-then-is_argument.ensures.1 (subst IsArgument same row.name_fits)
       | else-eq-via-then-eq+else-is_argument w ↦
-          let same : file ≡ w.as_str-then-eq.result.now = cc (all, w.as_str-then-eq.ensures) in
+          let same : file ≡ c.as_str-file.result.now = cc (all, c.as_str-file.ensures) in
           sym w.if-is_argument.false ∙ w.is_argument.ensures.1 (subst IsArgument same row.file_fits)
       | else-eq-via-else-eq w ↦
           let first : g.W.AsStr.text c.first-item.result ≡ c.args.command.now = cc (all) in

@@ -11,10 +11,10 @@ returns-then-are_arguments-clause-names g c =
     let words = five_members c.args.words.now _ _ _ _ _ c.in-len5.len_at_least c.in-len5.len_below c.first-item.is c.file-item.is c.name-item.is c.reading-item.is c.certificate-item.is in
     let first : g.W.AsStr.text c.first-item.result ≡ codes "verify" = search rules in
     record {
-      words_are = ap (map g.W.AsStr.text) words ∙ cc (first, c.as_str-then-are_arguments.ensures, c.as_str-then-are_arguments-2.ensures, c.as_str-then-are_arguments-3.ensures, c.as_str.ensures, c.in_ok-reading.ensures.named);
-      file_fits = subst IsArgument (c.as_str-then-eq.ensures ∙ sym c.as_str-then-are_arguments.ensures) fit.0;
-      name_fits = subst IsArgument (c.as_str-then-eq-2.ensures ∙ sym c.as_str-then-are_arguments-2.ensures) fit.1;
-      certificate_fits = subst IsArgument (c.as_str-then-eq-3.ensures ∙ sym c.as_str-then-are_arguments-3.ensures) fit.2;
+      words_are = ap (map g.W.AsStr.text) words ∙ cc (first, c.as_str-file.ensures, c.as_str-name.ensures, c.as_str-certificate.ensures, c.as_str.ensures, c.in_ok-reading.ensures.named);
+      file_fits = fit.0;
+      name_fits = fit.1;
+      certificate_fits = fit.2;
     }
 
 pub returns-then-are_arguments-clause-none : goal.returns-then-are_arguments-clause-none
@@ -43,9 +43,9 @@ returns-else-eq-clause-none g c = λ file name reading certificate row.
     let all = sym (ap (map g.W.AsStr.text) words) ∙ row.words_are in
     elim c.else-eq.branch [
       | else-eq-via-then-eq+else-are_arguments w ↦
-          let file_is : file ≡ w.as_str-then-eq.result.now = cc (all, w.as_str-then-eq.ensures) in
-          let name_is : name ≡ w.as_str-then-eq-2.result.now = cc (all, w.as_str-then-eq-2.ensures) in
-          let certificate_is : certificate ≡ w.as_str-then-eq-3.result.now = cc (all, w.as_str-then-eq-3.ensures) in
+          let file_is : file ≡ c.as_str-file.result.now = cc (all, c.as_str-file.ensures) in
+          let name_is : name ≡ c.as_str-name.result.now = cc (all, c.as_str-name.ensures) in
+          let certificate_is : certificate ≡ c.as_str-certificate.result.now = cc (all, c.as_str-certificate.ensures) in
           sym w.if-are_arguments.false ∙ w.are_arguments.ensures.1 (subst IsArgument file_is row.file_fits, subst IsArgument name_is row.name_fits, subst IsArgument certificate_is row.certificate_fits)
       | else-eq-via-else-eq w ↦
           let first : g.W.AsStr.text c.first-item.result ≡ codes "verify" = cc (all) in

@@ -1,6 +1,7 @@
 use Rattle.std.proofs.Common.{◌≡◌, Err, inl, inr, ap}
 use Rattle.csn_run.specs.declared.fault.Fault.TheVariants.{Read}
 use Rattle.csn_run.proofs.PairLemmas.{comes_after, comes_before, fault_ends, lacks_one, same_fault, texts_end}
+use Rattle.csn_run.proofs.Apart.{the_fault}
 use Rattle.csn_run.proofs.comparing.compare_files.Goals as goal
 
 pub returns-in-Ok-clause-ends : goal.returns-in-Ok-clause-ends
@@ -12,7 +13,7 @@ returns-in-Err-clause-ends g c = λ words row watchers left taken.
 
 pub returns-in-Err-clause-read : goal.returns-in-Err-clause-read
 returns-in-Err-clause-read g c = λ e words row.
-    let same : c.in-Err.fault ≡ Read = cc in
+    let same : c.in-Err.fault ≡ Read = the_fault e in
     elim (c.in-Err.ensures.read (ap Err same)) [
       | inl cannot ↦ (c.args.pair.before.now, comes_before words c.args.pair row _, cannot)
       | inr behind ↦ (c.args.pair.after.now, comes_after words c.args.pair row _ behind.0 behind.1, behind.2)

@@ -3,6 +3,7 @@ use Rattle.csn_run.specs.declared.fault.Fault.TheVariants.{Read}
 use Rattle.csn_run.proofs.JobLemmas.{refused_read}
 use Rattle.csn_run.proofs.PairLemmas.{same_fault}
 use Rattle.csn_run.proofs.VerifyLemmas.{certificate_ends, comes_behind, comes_description, fault_ends, lacks_certificate, refused_ends, refused_lacks, same_why}
+use Rattle.csn_run.proofs.Apart.{the_fault, ok_not_err}
 use Rattle.csn_run.proofs.verifying.verify_file.Goals as goal
 
 pub returns-in-Err-clause-ends : goal.returns-in-Err-clause-ends
@@ -30,15 +31,15 @@ returns-clause-ends g c = λ words row watchers left taken.
 
 pub returns-clause-read : goal.returns-clause-read
 returns-clause-read g c = λ e words row.
-    let same : c.in-Err-whole_file.fault ≡ Read = cc in
-    let still = c.in-Ok.ensures.shelf.2 (λ h. cc) in
+    let same : c.in-Err-whole_file.fault ≡ Read = the_fault e in
+    let still = c.in-Ok.ensures.shelf.2 (λ h. ok_not_err h) in
     (c.args.certificate.now, comes_behind words c.args.rule c.args.certificate.now row _ c.in-Ok.desc c.in-Ok.ensures.desc, rw (c.in-Ok.ensures.files, still) at (c.in-Err-whole_file.ensures.read (ap Err same)))
 
 pub returns-clause-missing : goal.returns-clause-missing
 returns-clause-missing g c = λ words file row comes lacks. (
   same_fault c.in-Err-whole_file.fault ((rw c.in-Ok.ensures.files at c.in-Err-whole_file.ensures.missing) (lacks_certificate words c.args.rule c.args.certificate.now row _ file comes lacks (λ none. elim (c.in-Ok.ensures.missing none) [
-    | inl e ↦ cc
-    | inr e ↦ cc
+    | inl e ↦ ok_not_err e
+    | inr e ↦ ok_not_err e
   ]))),
   c.requires.pending,
 )
