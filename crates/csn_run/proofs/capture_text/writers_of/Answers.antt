@@ -1,4 +1,5 @@
 use Rattle.std.proofs.Common.{arith, refl, sym, ◌∙◌}
+use Rattle.std.proofs.lemmas.List.{take_all}
 use Rattle.csn_run.proofs.CaptureLemmas.{descs_push, fresh_nil, fresh_push, texts_nil, texts_push}
 use Rattle.csn_run.proofs.EntryPlans.{pushed}
 use Rattle.csn_run.proofs.capture_text.writers_of.Goals as goal
@@ -14,3 +15,12 @@ loop-plan-preserved c =
       texts_push c.loop-plan.writers.items c.line_text.result c.loop-plan.invariant.1 c.line_text.ensures.form,
       fresh_push c.loop-plan.writers.items c.line_text.result c.loop-plan.invariant.2 c.line_text.ensures.reads,
     )
+
+pub returns-clause-descs : goal.returns-clause-descs
+returns-clause-descs c = c.loop-plan.invariant.0 ∙ take_all c.loop-plan.plan-index c.args.plans.now (omega (arith, c.loop-plan-test.false))
+
+pub returns-clause-texts : goal.returns-clause-texts
+returns-clause-texts c = c.loop-plan.invariant.1
+
+pub returns-clause-fresh : goal.returns-clause-fresh
+returns-clause-fresh c = c.loop-plan.invariant.2

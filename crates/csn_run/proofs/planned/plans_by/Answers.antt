@@ -1,7 +1,10 @@
-use Rattle.std.proofs.Common.{arith, sym, ◌∙◌}
+use Rattle.std.proofs.Common.{arith, length, ap, sym, subst, ◌∙◌}
 use Rattle.csn_certify.specs.declared.certifying.CertifyFault.TheVariants.{NoMemory}
+use Rattle.std.proofs.lemmas.List.{take_all}
+use Rattle.csn_catalogue.specs.Entries.{all_entries}
 use Rattle.csn_catalogue.specs.Text.{catalogue_text}
 use Rattle.csn_run.specs.declared.compile.NoPlan.TheVariants.{Plan}
+use Rattle.csn_run.specs.Compiled.{AreCompiled}
 use Rattle.csn_run.proofs.EntryPlans.{none_before, one_plan_more, kept}
 use Rattle.csn_run.proofs.planned.plans_by.Goals as goal
 
@@ -16,3 +19,11 @@ returns-then-is_err-clause-none c =
 pub loop-entry-preserved : goal.loop-entry-preserved
 loop-entry-preserved c =
     one_plan_more c.args.reading c.args.rules.now _ c.loop-entry.entry-index _ _ c.entries-entry-items.ensures (omega (arith, c.loop-entry-test.true)) c.root_of.ensures c.loop-entry.plans.items _ c.in-Ok.plan (kept c.keep_plan.result _ c.keep_plan.ensures (sym c.is_err.ensures.value ∙ c.if-is_err.false)) c.loop-entry.invariant (c.in-Ok.ensures.plan catalogue_text c.requires.rules)
+
+pub loop-entry-init : goal.loop-entry-init
+loop-entry-init c = rw c.new-plans.ensures.items tt
+
+pub returns-clause-plans : goal.returns-clause-plans
+returns-clause-plans c =
+    let all = take_all c.loop-entry.entry-index all_entries (omega (arith, c.loop-entry-test.false, ap length c.entries-entry-items.ensures)) in
+    subst (λ l. AreCompiled c.args.rules.now c.args.reading l c.loop-entry.plans.items) all c.loop-entry.invariant

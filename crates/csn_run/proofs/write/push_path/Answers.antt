@@ -1,8 +1,9 @@
-use Rattle.std.proofs.Common.{◌++◌, [], ◌∷◌, ap, ◌∙◌, arith}
+use Rattle.std.proofs.Common.{◌++◌, [], ◌∷◌, append-nil, ap, sym, ◌∙◌, arith}
 use Rattle.std.proofs.lemmas.List.{take_all}
 use Rattle.std.proofs.lemmas.Result.{err_from_is_err_and}
 use Rattle.csn_run.specs.OutLine.{steps_text}
-use Rattle.csn_run.proofs.AnswerLemmas.{grown, step_written, path_of_steps}
+use Rattle.csn_run.proofs.AnswerLemmas.{grown, on_ok_none, step_written, path_of_steps}
+use Rattle.csn_run.proofs.ProgressLemmas.{OnErr-from}
 use Rattle.csn_run.proofs.write.push_path.Goals as goal
 
 pub loop-at-preserved : goal.loop-at-preserved
@@ -19,3 +20,21 @@ returns-clause-ok c =
     let at_end = c.len-at-end.ensures.count in
     let all = take_all c.loop-at.at c.args.path.now (omega (arith, at_end, c.loop-at-test.false)) in
     c.loop-at.invariant ∙ ap (λ l. c.args.out.now.items ++ l) (ap steps_text all ∙ path_of_steps c.args.path.now (omega (arith, count, c.if-len-eq0.false)))
+
+pub returns-in_err-push-clause-ok : goal.returns-in_err-push-clause-ok
+returns-in_err-push-clause-ok c = on_ok_none c.from_residual.result _ c.from_residual.ensures.0
+
+pub returns-in_err-push-clause-err : goal.returns-in_err-push-clause-err
+returns-in_err-push-clause-err c = OnErr-from c.from_residual.result ([], c.in_err-push.ensures.items ∙ sym (append-nil _))
+
+pub loop-at-init : goal.loop-at-init
+loop-at-init c = sym (append-nil _)
+
+pub returns-in_err-push-2-clause-ok : goal.returns-in_err-push-2-clause-ok
+returns-in_err-push-2-clause-ok c = on_ok_none c.from_residual-in_err-push-2.result _ c.from_residual-in_err-push-2.ensures.0
+
+pub returns-in_err-push-2-clause-err : goal.returns-in_err-push-2-clause-err
+returns-in_err-push-2-clause-err c = OnErr-from c.from_residual-in_err-push-2.result (_, c.in_err-push-2.ensures.items ∙ c.loop-at.invariant)
+
+pub returns-in_err-push_number-clause-ok : goal.returns-in_err-push_number-clause-ok
+returns-in_err-push_number-clause-ok c = on_ok_none c.from_residual-in_err-push_number.result _ c.from_residual-in_err-push_number.ensures.0
