@@ -56,7 +56,14 @@ want_alone is none = subst IsNoWant (sym is) none
 pub ok_not_err : {T E : Type 0} {x : T} {y : E} → ◌≡◌ {A = Result T E} (Ok x) (Err y) → ⊥
 ok_not_err is = true≢false (ap is_ok is)
 
--- a fault that is not want of memory
+-- faults that are not these
+abbrev pub MetNoRead : {T : Type 0} → Result T Fault → Type 0
+MetNoRead (Ok x) = Unit {0}
+MetNoRead (Err Read) = ⊥
+MetNoRead (Err Write) = Unit {0}
+MetNoRead (Err Memory) = Unit {0}
+MetNoRead (Err TooLong) = Unit {0}
+
 abbrev pub MetNoWant : {T : Type 0} → Result T Fault → Type 0
 MetNoWant (Ok x) = Unit {0}
 MetNoWant (Err Read) = Unit {0}
@@ -64,8 +71,21 @@ MetNoWant (Err Write) = Unit {0}
 MetNoWant (Err Memory) = ⊥
 MetNoWant (Err TooLong) = Unit {0}
 
+abbrev pub IsNotLong : {T : Type 0} → Result T Fault → Type 0
+IsNotLong (Ok x) = Unit {0}
+IsNotLong (Err Read) = Unit {0}
+IsNotLong (Err Write) = Unit {0}
+IsNotLong (Err Memory) = Unit {0}
+IsNotLong (Err TooLong) = ⊥
+
+pub read_alone : {T : Type 0} {end : Result T Fault} → Err Read ≡ end → MetNoRead end → ⊥
+read_alone is none = subst MetNoRead (sym is) none
+
 pub memory_alone : {T : Type 0} {end : Result T Fault} → Err Memory ≡ end → MetNoWant end → ⊥
 memory_alone is none = subst MetNoWant (sym is) none
+
+pub long_alone : {T : Type 0} {end : Result T Fault} → Err TooLong ≡ end → IsNotLong end → ⊥
+long_alone is none = subst IsNotLong (sym is) none
 
 -- one fault was met
 abbrev fault_or : {T : Type 0} → Fault → Result T Fault → Fault
