@@ -1,4 +1,5 @@
--- Octets, their positions and marks, places in lists, and words.
+-- Numbers below others, octets, their positions and marks, places in lists, and words.
+pub mod Below
 pub mod OctetMarks
 pub mod Octets
 pub mod Puts

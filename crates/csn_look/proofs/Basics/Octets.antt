@@ -5,7 +5,7 @@ use Rattle.std.specs.Int.{bit_at}
 use Rattle.std.specs.Ordering.{nat_cmp}
 use Rattle.std.specs.Cmp.{nat_cmp_total, unsigned_tied}
 use Rattle.std.specs.FinSet as set
-use Rattle.std.proofs.lemmas.Bool.{agree_below_at, or_cases}
+use Rattle.std.proofs.lemmas.Bool.{agree_below_at, or_cases, or_left, or_right}
 use Rattle.std.proofs.lemmas.Bool.Decides.{eqb_tells}
 use Rattle.std.proofs.lemmas.Nat.Bits.{bit_at-lt, bit_at_or}
 use Rattle.csn_look.specs.Marks.{marked, marks_of, marks_of-marked, contains-marked}
@@ -16,14 +16,6 @@ use Rattle.csn_look.specs.Sums.{Has, IsSum, SumOf, sum_none, sum_next, Leads}
 
 inserted : (s : set.FinSet nat_cmp) (k q : ℕ) → set.contains (set.insert s k) q ≡ (nat_eq q k || set.contains s q)
 inserted s k q = set.contains-insert nat_cmp_total s k q ∙ ap (λ b. b || set.contains s q) (unsigned_tied q k)
-
-or_right : (a b : Bool) → b ≡ true → (a || b) ≡ true
-or_right true b h = refl
-or_right false b h = h
-
-or_left : (a b : Bool) → a ≡ true → (a || b) ≡ true
-or_left true b h = refl
-or_left false b h = cc
 
 pub has_insert : (s : set.FinSet nat_cmp) (k q : ℕ) → Has (set.insert s k) q ↔ ((q ≡ k) ⊎ Has s q)
 has_insert s k q =

@@ -1,10 +1,10 @@
 -- Further keys, step by step.
 use Rattle.std.proofs.Common.{◌≡◌, ℕ, ◌<◌, Bool, false, ◌||◌, nat_eq, eq-eqb, List, ◌⊎◌, inl, inr, refl, sym, ap, ◌∙◌, arith}
-use Rattle.std.proofs.lemmas.Bool.{eqb-true}
+use Rattle.std.proofs.lemmas.Bool.{eqb-true, or_cases, or_left, or_right}
 use Rattle.std.proofs.lemmas.Bool.Decides.{nat_tests}
 use Rattle.csn_look.specs.KeyMarks.{IsWord, is_marked, place_of, key_mark, has_key}
 use Rattle.csn_look.specs.KeySteps.{Gains}
-use Rattle.csn_look.proofs.Tables.KeyMarkFacts.{or_cases, or_left, or_right, key_mark-same, key_mark-low}
+use Rattle.csn_look.proofs.Tables.KeyMarkFacts.{key_mark-same, key_mark-low}
 
 -- nothing
 pub gains_none : (old : List ℕ) (P : List ℕ → Bool → Type 0) → ((word : List ℕ) (mark : Bool) → IsWord word → P word mark → ⊥) → Gains old old P

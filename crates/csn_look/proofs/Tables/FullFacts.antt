@@ -12,6 +12,7 @@ use Rattle.csn_bits.proofs.NumberFacts.{number_of-lt}
 use Rattle.csn_look.specs.KeyMarks.{IsWord, is_marked, place_of, has_key, IsKeyOf, StartsKey}
 use Rattle.csn_look.specs.KeyTables.{IsKeyTable}
 use Rattle.csn_look.specs.Full.{is_key_at, is_sought, sought_against, AreAll, IsOther, AreNoKeys, IsFull, IsFullAt}
+use Rattle.csn_look.proofs.Basics.Below.{below_or}
 use Rattle.csn_look.proofs.Basics.Places.{place_of-append, Numbered, numbered}
 use Rattle.csn_look.proofs.Tables.KeyMarkFacts.{key_told, starts_told}
 use Rattle.csn_look.proofs.Tables.MarkFacts.{bit_of_either}
@@ -226,11 +227,8 @@ pub no_keys_first : (marks : List ℕ) (place : ℕ) → AreNoKeys marks place 0
 no_keys_first marks place n less = absurd (omega arith)
 
 pub no_keys_next : (marks : List ℕ) (place count at : ℕ) → AreNoKeys marks place count → at ≡ place * 2 ^ count → is_key_at marks at ≡ false → AreNoKeys marks place (count + 1)
-no_keys_next marks place count at none same e many_more less = by (either many_more count less)
+no_keys_next marks place count at none same e many_more less = by (below_or many_more count less)
   where
-    either : (m n : ℕ) → m < n + 1 → (m < n) ⊎ (m ≡ n)
-    either m n le = grind arith
-
     by : (many_more < count) ⊎ (many_more ≡ count) → is_key_at marks (place * 2 ^ many_more) ≡ false
     by (inl few) = none many_more few
     by (inr last) = ap (λ n. is_key_at marks (place * 2 ^ n)) last ∙ ap (λ n. is_key_at marks n) (sym same) ∙ e

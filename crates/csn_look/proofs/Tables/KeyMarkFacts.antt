@@ -1,24 +1,12 @@
 -- What the marks of a set of keys say, and what further keys do to them.
 use Rattle.std.proofs.Common.{eq-eqb, ◌≡◌, ℕ, ◌+◌, ◌/◌, ◌<◌, ◌≤◌, Bool, true, false, ◌||◌, nat_eq, List, [], ◌∷◌, ◌++◌, length, IsTrue, ◌↔◌, refl, sym, ap, ◌∙◌, subst, arith, inl, inr, ◌⊎◌, append_assoc, append-nil, length-append}
-use Rattle.std.proofs.lemmas.Bool.{eqb-true}
+use Rattle.std.proofs.lemmas.Bool.{eqb-true, or_cases, or_left, or_right}
 use Rattle.std.proofs.lemmas.Bool.Decides.{eqb_tells, nat_tests}
 use Rattle.csn_bits.specs.Octets.{IsBits}
 use Rattle.csn_desc.proofs.BitFacts.{IsBits-front}
 use Rattle.csn_look.specs.KeyMarks.{IsWord, is_marked, place_of, key_mark, has_key, Adds, BeginsWithKey, StartsKey, IsKeyOf}
 use Rattle.csn_look.specs.KeyTables.{IsKeyTable, IsFront, AddsKey}
 use Rattle.csn_look.proofs.Basics.Places.{place_of-half, place_of-small, place_of-same, place_of-one, LastBit, no_bits, last_bit, last_of, fronts, word_front}
-
-pub or_cases : (a b : Bool) → (a || b) ≡ true → (a ≡ true) ⊎ (b ≡ true)
-or_cases true b e = inl refl
-or_cases false b e = inr e
-
-pub or_left : (a b : Bool) → a ≡ true → (a || b) ≡ true
-or_left true b e = refl
-or_left false b e = absurd (cc)
-
-pub or_right : (a b : Bool) → b ≡ true → (a || b) ≡ true
-or_right true b e = refl
-or_right false b e = e
 
 -- the last of some bits is one
 last_small : (g : List ℕ) (x : ℕ) → IsBits (g ++ x ∷ []) → x ≤ 1

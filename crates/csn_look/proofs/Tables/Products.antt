@@ -1,6 +1,7 @@
 -- The steps by which the keys of a product are made.
 use Rattle.std.proofs.Common.{◌≡◌, ℕ, zero, suc, ◌+◌, ◌-◌, ◌*◌, ◌^◌, ◌<◌, ◌≤◌, Bool, true, false, if◌then◌else◌, ◌||◌, nat_eq, List, [], ◌∷◌, ◌++◌, length, take, IsTrue, ◌⊎◌, refl, sym, ap, ◌∙◌, subst, arith, inl, inr, append_assoc, length-append}
 use Rattle.std.proofs.Math.Nat.{pow-le-pow_right, mul-le-mul_left}
+use Rattle.std.proofs.lemmas.Bool.{cases_lt, or_cases, or_left, or_right}
 use Rattle.std.proofs.lemmas.Nat.{pow-add}
 use Rattle.std.proofs.lemmas.List.{take-append-le, take_all}
 use Rattle.csn_bits.specs.Octets.{IsBits}
@@ -12,8 +13,8 @@ use Rattle.csn_look.specs.KeyMarks.{IsWord, is_marked, place_of, key_mark, has_k
 use Rattle.csn_look.specs.KeyTables.{IsKeyTable}
 use Rattle.csn_look.specs.KeyProducts.{AfterKeys, after_cut, after_whole}
 use Rattle.csn_look.specs.KeySteps.{Gains, Copies, IsBehind, IsShortBehind, IsKeyBehind, IsAfter}
+use Rattle.csn_look.proofs.Basics.Below.{below_or}
 use Rattle.csn_look.proofs.Basics.Places.{place_of-append, place_of-same, place_of-small, numbered}
-use Rattle.csn_look.proofs.Tables.KeyMarkFacts.{or_cases, or_left, or_right}
 use Rattle.csn_look.proofs.Meaning.Extensions.{gains_none, gains_key, gains_then, gains_same}
 
 pub bits_back : (a b : List ℕ) → IsBits (a ++ b) → IsBits b
@@ -25,12 +26,6 @@ word_back a b word parts is = bits_back a b (let P : List ℕ → Type 0 = IsBit
 
 pub word_join : (a b : List ℕ) → IsWord a → IsBits b → length a + length b ≤ 12 → IsWord (a ++ b)
 word_join a b h k short = record { bits = IsBits-append a b h.bits k; short = omega (arith, length-append a b) }
-
-lt_or_le : (m n : ℕ) → (m < n) ⊎ (n ≤ m)
-lt_or_le m n = grind arith
-
-below_or : (m n : ℕ) → m < n + 1 → (m < n) ⊎ (m ≡ n)
-below_or m n h = grind arith
 
 placed : (a : List ℕ) (words number : ℕ) {size : ℕ} (b : List ℕ) → words ≡ 2 ^ size → length b ≡ size → number_of b ≡ number → place_of a * 2 ^ length b + number_of b ≡ place_of a * words + number
 placed a words number b power many writes = rw (many, writes, power) refl
@@ -102,9 +97,9 @@ module _ (marks : List ℕ) (plane : ℕ) (first : List ℕ) (size : ℕ) (whole
           → (is_marked old (key_mark (place_of word) mark) ≡ true) ⊎ Behind words word mark
       is_old_or n word mark is_word named h =
           let P : ℕ → Type 0 = λ m. (is_marked old m ≡ true) ⊎ Behind words word mark in
-          subst P named (elim (lt_or_le n to) [
+          subst P named (elim (cases_lt n to) [
             | inl below ↦ inl (sym (c.before n below) ∙ h)
-            | inr low ↦ elim (lt_or_le n (to + words)) [
+            | inr low ↦ elim (cases_lt n (to + words)) [
               | inr beyond ↦ inl (sym (c.behind n beyond) ∙ h)
               | inl inside ↦
                   let k = n - to in
@@ -121,9 +116,9 @@ module _ (marks : List ℕ) (plane : ℕ) (first : List ℕ) (size : ℕ) (whole
 
       kept_old : (n : ℕ) → is_marked old n ≡ true → is_marked new n ≡ true
       kept_old n o =
-          elim (lt_or_le n to) [
+          elim (cases_lt n to) [
             | inl below ↦ c.before n below ∙ o
-            | inr low ↦ elim (lt_or_le n (to + words)) [
+            | inr low ↦ elim (cases_lt n (to + words)) [
               | inr beyond ↦ c.behind n beyond ∙ o
               | inl inside ↦
                   let k = n - to in
@@ -307,7 +302,7 @@ module _ (first rest : List ℕ) (size : ℕ) where
   after_skip old mid words number upto power further not e =
       gains_same old mid (IsAfter first rest size number) (IsAfter first rest size upto) e
       (λ word mark is h. let b = h.below in record { front = h.front; is = h.is; many = h.many; below = omega arith; key = h.key; behind = h.behind })
-      (λ word mark is h. elim (lt_or_le (number_of h.front) number) [
+      (λ word mark is h. elim (cases_lt (number_of h.front) number) [
         | inl b ↦ record { front = h.front; is = h.is; many = h.many; below = b; key = h.key; behind = h.behind }
         | inr high ↦
             let k = number_of h.front in

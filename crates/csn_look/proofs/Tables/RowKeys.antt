@@ -18,6 +18,7 @@ use Rattle.csn_desc.specs.Spelled.{symbol_bit, spelled, IsSpare}
 use Rattle.csn_look.specs.Keys.{Cut, kept, cut, InKeys, NodeKeys, PartsKeys, TimesKeys, keys_lits, keys_spare, keys_field, keys_pad, keys_null, keys_rest, keys_many, keys_trunc, keys_window, keys_counted_field, keys_counted_times, keys_seq, keys_times, keys_choice, keys_named, parts_none, times_none, times_cut, times_whole}
 use Rattle.csn_look.specs.KeyMarks.{IsWord, has_key, KeysAre, Adds}
 use Rattle.csn_look.specs.KeyRows.{table_of, HasRow, RowAfter, IsSpareKey, AreAlike}
+use Rattle.csn_look.proofs.Basics.Below.{below_or}
 use Rattle.csn_look.proofs.Meaning.StartFacts.{symbol_bit-octet}
 use Rattle.csn_look.proofs.Tables.NodeKeys.{after_is_parts, after_is_times}
 use Rattle.csn_look.proofs.Tables.RowFacts.{keys_as, keys_added, row_alike}
@@ -295,7 +296,7 @@ module _ (d : DescV) (parts : List ℕ) (o : ℕ) where
           | inl s ↦ let b = s.below in record { place = s.place; part = s.part; below = omega arith; at = s.at; key = s.key }
           | inr key ↦ record { place = place; part = part; below = omega arith; at = there; key = (one word mark is).0 key }
         ]),
-        (λ s. elim (last s.place place s.below) [
+        (λ s. elim (below_or s.place place s.below) [
           | inl b ↦ inl (record { place = s.place; part = s.part; below = b; at = s.at; key = s.key })
           | inr e ↦
               let found : slice_get parts place ≡ Some s.part = ap (λ p. slice_get parts p) (sym e) ∙ s.at in
@@ -304,9 +305,6 @@ module _ (d : DescV) (parts : List ℕ) (o : ℕ) where
               inr ((one word mark is).1 (subst P same s.key))
         ]),
       ))
-    where
-      last : (m n : ℕ) → m < n + 1 → (m < n) ⊎ (m ≡ n)
-      last m n h = grind arith
 
   pub choice_all : (marks : List ℕ) (limit : ℕ) → length parts ≤ limit → KeysAre marks (ChoiceBelow limit) → KeysAre marks (NodeKeys d 12 (Choice parts) o)
   choice_all marks limit all are =
@@ -330,7 +328,7 @@ choice_alike d parts marks alike are o low =
 pub alike_next : (d : DescV) (tables : List (List ℕ)) (parts row : List ℕ) (at part : ℕ) → slice_get parts at ≡ Some part → HasRow tables row (InKeys d 12 part) → ((o : ℕ) → o ≤ 7 → get_or row o 0 ≡ get_or row 0 0)
     → AreAlikeBelow d parts at → AreAlikeBelow d parts (at + 1)
 alike_next d tables parts row at part there has same before = λ j i o word mark below is_part low is.
-    elim (last j at below) [
+    elim (below_or j at below) [
       | inl earlier ↦ before j i o word mark earlier is_part low is
       | inr here ↦
           let found : slice_get parts at ≡ Some i = ap (λ p. slice_get parts p) (sym here) ∙ is_part in
@@ -338,6 +336,3 @@ alike_next d tables parts row at part there has same before = λ j i o word mark
           let P : ℕ → Type 0 = λ p. InKeys d 12 p 0 word mark ↔ InKeys d 12 p o word mark in
           subst P one (row_alike tables row (InKeys d 12 part) has same o word mark low is)
     ]
-  where
-    last : (m n : ℕ) → m < n + 1 → (m < n) ⊎ (m ≡ n)
-    last m n h = grind arith

@@ -3,12 +3,13 @@ use Rattle.std.proofs.Common.{◌≡◌, ℕ, zero, suc, ◌+◌, ◌-◌, ◌*�
 use Rattle.std.specs.Prelude.{bit_or, bit_and, ◌==◌}
 use Rattle.std.specs.Int.{bit_at}
 use Prim.Native.Nat.{max}
-use Rattle.std.proofs.lemmas.Bool.{agree_below_at, eqb-true}
+use Rattle.std.proofs.lemmas.Bool.{agree_below_at, cases_lt, eqb-true}
 use Rattle.std.proofs.lemmas.Nat.{pow_pos}
 use Rattle.std.proofs.lemmas.Nat.Bits.{and_pow, bit_at_or, bit_at-lt, bit_at-pow_same}
 use Rattle.csn_bits.specs.Numbers.{number_of}
 use Rattle.csn_look.specs.KeyMarks.{is_marked, place_of}
 use Rattle.csn_look.specs.KeySteps.{Gains, HasSizes, IsBehind}
+use Rattle.csn_look.proofs.Basics.Below.{below_or}
 
 -- ---- sizes one after another
 
@@ -31,13 +32,10 @@ set_by a b c e f g h = (omega (arith, e, h), omega (arith, e, h))
 still_set : (a b c : ℕ) → c ≡ max a b → a ≡ 1 → b < 2 → c ≡ 1
 still_set a b c e f g = omega (arith, e, f)
 
-either : (m n : ℕ) → m < n + 1 → (m < n) ⊎ (m ≡ n)
-either m n h = grind arith
-
 -- one size more, which is set
 pub sizes_set : (marks : List ℕ) (plane sizes size words : ℕ) → words ≡ 2 ^ size → AreSizes marks plane sizes size → AreSizes marks plane (bit_or sizes words) (size + 1)
 sizes_set marks plane sizes size words power before = record {
-  few = λ other less unset k small. elim (either other size less) [
+  few = λ other less unset k small. elim (below_or other size less) [
     | inl low ↦ before.few other low (set_by (bit_at sizes other) (bit_at words other) (bit_at (bit_or sizes words) other) (bit_at_or sizes words other) (bit_at-lt sizes other) (bit_at-lt words other) unset).0 k small
     | inr same ↦
         let none = (set_by (bit_at sizes other) (bit_at words other) (bit_at (bit_or sizes words) other) (bit_at_or sizes words other) (bit_at-lt sizes other) (bit_at-lt words other) unset).1 in
@@ -50,7 +48,7 @@ sizes_set marks plane sizes size words power before = record {
 -- and one that is not, since it has no marks
 pub sizes_unset : (marks : List ℕ) (plane sizes size words : ℕ) → words ≡ 2 ^ size → ((at : ℕ) → plane + words ≤ at → at < plane + 2 * words → is_marked marks at ≡ false) → AreSizes marks plane sizes size → AreSizes marks plane sizes (size + 1)
 sizes_unset marks plane sizes size words power none before = record {
-  few = λ other less unset k small. elim (either other size less) [
+  few = λ other less unset k small. elim (below_or other size less) [
     | inl low ↦ before.few other low unset k small
     | inr same ↦
         let here : 2 ^ other ≡ words = ap (λ s. 2 ^ s) same ∙ sym power in
@@ -60,11 +58,8 @@ sizes_unset marks plane sizes size words power none before = record {
 }
 
 pub sizes_last : (marks : List ℕ) (plane sizes upto : ℕ) → 6 ≤ upto → AreSizes marks plane sizes upto → HasSizes marks plane sizes
-sizes_last marks plane sizes upto all are size short unset = by (either size)
+sizes_last marks plane sizes upto all are size short unset = by (cases_lt size 6)
   where
-    either : (m : ℕ) → (m < 6) ⊎ (6 ≤ m)
-    either m = grind arith
-
     by : (size < 6) ⊎ (6 ≤ size) → (k : ℕ) → k < 2 ^ size → is_marked marks (plane + (2 ^ size + k)) ≡ false
     by (inl few) = are.few size (omega (arith, few, all)) unset
     by (inr many) = let set = are.many size many short in absurd (omega (arith, set, unset))

@@ -2,12 +2,11 @@
 use Rattle.std.proofs.Common.{◌≡◌, ℕ, ◌+◌, ◌-◌, ◌*◌, ◌/◌, ◌%◌, ◌^◌, ◌<◌, ◌≢◌, Bool, true, false, ◌||◌, nat_eq, eq-eqb, List, length, get_or, refl, sym, ap, ◌∙◌, arith, inl, inr}
 use Rattle.std.specs.Prelude.{bit_or, ◌==◌, slice_set}
 use Rattle.std.specs.Int.{bit_at}
-use Rattle.std.proofs.lemmas.Bool.{cases_lt}
+use Rattle.std.proofs.lemmas.Bool.{cases_lt, or_left, or_right}
 use Rattle.std.proofs.lemmas.Bool.Decides.{nat_tests}
 use Rattle.std.proofs.lemmas.Nat.{shl_whole}
 use Rattle.csn_look.specs.KeyMarks.{is_marked}
 use Rattle.csn_look.specs.KeySteps.{is_begun, MarksBetween}
-use Rattle.csn_look.proofs.Tables.KeyMarkFacts.{or_left, or_right}
 use Rattle.csn_look.proofs.Tables.MarkFacts.{bit_of_either, word_joined, word_other}
 use Rattle.csn_look.proofs.Tables.MarksHalved.{either_of, two_halved}
 

@@ -1,13 +1,13 @@
 -- The marks of the words that begin keys, from the longest words to the shortest.
 use Rattle.std.proofs.Common.{◌≡◌, ℕ, zero, suc, ◌+◌, ◌-◌, ◌*◌, ◌^◌, ◌<◌, ◌≤◌, Bool, true, false, ◌||◌, List, [], ◌∷◌, ◌++◌, length, IsTrue, refl, sym, ap, ◌∙◌, subst, arith, inl, inr, append_assoc, length-append}
 use Rattle.std.proofs.Math.Nat.{pow-le-pow_right}
-use Rattle.std.proofs.lemmas.Bool.{cases_lt}
+use Rattle.std.proofs.lemmas.Bool.{cases_lt, or_cases, or_left, or_right}
 use Rattle.csn_bits.specs.Octets.{IsBits}
 use Rattle.csn_look.specs.KeyMarks.{IsWord, is_marked, place_of, key_mark, has_key, StartsKey}
 use Rattle.csn_look.specs.KeyTables.{IsKeyTable}
 use Rattle.csn_look.specs.KeySteps.{Extends, Gains, is_begun, MarksBetween, MarksStarts}
 use Rattle.csn_look.proofs.Basics.Places.{place_of-push, place_of-least, place_of-most, place_of-some, word_front}
-use Rattle.csn_look.proofs.Tables.KeyMarkFacts.{or_cases, or_left, or_right, key_mark-low}
+use Rattle.csn_look.proofs.Tables.KeyMarkFacts.{key_mark-low}
 
 -- ---- some words more
 
