@@ -37,6 +37,10 @@ same_fact = ((λ h. h), (λ h. h))
 pub truth : {b : Bool} {P : Type 0} → b ≡ true → P → IsTrue b ↔ P
 truth e h = ((λ t. h), (λ p. e))
 
+-- what does not hold where a look says no
+pub told_not : {b : Bool} {P : Type 0} → (IsTrue b ↔ P) → b ≡ false → ¬ P
+told_not f denied p = let holds = f.1 p in cc
+
 pub falsity : {b : Bool} {P : Type 0} → b ≡ false → (P → ⊥) → IsTrue b ↔ P
 falsity e h = ((λ t. absurd (clash e t)), (λ p. absurd (h p)))
   where

@@ -1,17 +1,13 @@
-use Rattle.std.proofs.Common.{◌≡◌, ℕ, ◌+◌, ◌||◌, Bool, false, List, IsTrue, ◌↔◌, sym, ◌∙◌, subst}
+use Rattle.std.proofs.Common.{◌≡◌, ℕ, ◌+◌, ◌||◌, Bool, List, IsTrue, ◌↔◌, sym, ◌∙◌, subst}
 use Rattle.csn_look.specs.KeyMarks.{IsWord, is_marked, place_of, IsKeyOf, StartsKey}
 use Rattle.csn_look.specs.KeyTables.{IsKeyTable}
-use Rattle.csn_look.proofs.Sets.Telling.{is_so}
+use Rattle.csn_look.proofs.Sets.Telling.{is_so, told_not}
 use Rattle.csn_look.proofs.Tables.KeyMarkFacts.{key_told, starts_told}
 use Rattle.csn_look.proofs.key_table.KeyTable.stands.Goals as goal
 
 -- what the two looks tell of a word
 told : (marks word : List ℕ) (at : ℕ) (key starts : Bool) → IsKeyTable marks → IsWord word → at ≡ place_of word → key ≡ (is_marked marks at || is_marked marks (8192 + at)) → starts ≡ is_marked marks (16384 + at) → (IsTrue key ↔ IsKeyOf marks word) × (IsTrue starts ↔ StartsKey marks word)
 told marks word at key starts table is here key_is starts_is = (is_so key_is (key_told marks word at (sym here)), is_so starts_is (starts_told marks word at table is (sym here)))
-
--- and what does not hold where a look says no
-told_not : {b : Bool} {P : Type 0} → (IsTrue b ↔ P) → b ≡ false → ¬ P
-told_not f denied p = let holds = f.1 p in cc
 
 pub returns-then-is_key : goal.returns-then-is_key
 returns-then-is_key c = (key_told c.args.self.now c.args.word.now c.place-place.result (sym c.place-place.ensures.value)).0 (sym c.is_key.ensures ∙ c.if-is_key.true)

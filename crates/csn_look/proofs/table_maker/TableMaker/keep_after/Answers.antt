@@ -35,12 +35,6 @@ returns-in-Some-clause-kept c = c.in-Some.ensures.table
 pub returns-in-Some-clause-more : goal.returns-in-Some-clause-more
 returns-in-Some-clause-more c = more_none c.args.self.now
 
-pub returns-in_err-table-clause-more : goal.returns-in_err-table-clause-more
-returns-in_err-table-clause-more c = more_none c.args.self.now
-
-pub returns-in_err-add_after-clause-more : goal.returns-in_err-add_after-clause-more
-returns-in_err-add_after-clause-more c = more_none c.args.self.now
-
 pub returns-in_err-at-clause-more : goal.returns-in_err-at-clause-more
 returns-in_err-at-clause-more c = c.keep.ensures.more
 

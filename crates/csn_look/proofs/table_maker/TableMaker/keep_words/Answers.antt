@@ -34,12 +34,3 @@ returns-clause-kept c =
 
 pub returns-in-Some-clause-more : goal.returns-in-Some-clause-more
 returns-in-Some-clause-more c = more_none c.args.self.now
-
-pub returns-in_err-table-clause-more : goal.returns-in_err-table-clause-more
-returns-in_err-table-clause-more c = more_none c.args.self.now
-
-pub returns-in_err-add_words-clause-more : goal.returns-in_err-add_words-clause-more
-returns-in_err-add_words-clause-more c = more_none c.args.self.now
-
-pub returns-clause-more : goal.returns-clause-more
-returns-clause-more c = c.keep_leaf.ensures.more
