@@ -2,8 +2,7 @@
 
 ghost use Rattle.std.specs.Prelude.{◌≡◌};
 ghost use Rattle.csn_grammar.specs.reader.Gives.{Gives};
-ghost use Rattle.csn_grammar.specs.reader.Building.{both_of, sends_of};
-ghost use Rattle.csn_grammar.specs.reader.BodySteps.{goes, with_joint, after_item, after_window, after_side};
+ghost use Rattle.csn_grammar.specs.reader.BodySteps.{goes, with_joint, after_window, after_side};
 
 use crate::expr::Expr;
 use crate::reader::body::{Joint, Level, Mode, Next, Within};
@@ -36,38 +35,6 @@ fn after_window(alloc: Global, within: Within, window: Expr, piece: Piece<'_>) -
     }
 }
 
-// Behind a side and another with `&` between.
-fn after_both(
-    alloc: Global,
-    within: Within,
-    left: Expr,
-    side: Expr,
-    piece: Piece<'_>,
-) -> Result<Next, Stop>
-    ensures { Gives result (after_window within.frames within.level (both_of left side) piece.entry.token.kind piece.entry.token.start piece.entry.token.end piece.entry.text.now) }
-{
-    match both_of(alloc, left, side) {
-        Ok(window) => after_window(alloc, within, window, piece),
-        Err(NoMemory) => gives_up(within, Stop::NoMemory),
-    }
-}
-
-// Behind two sides with `=` between.
-fn after_sends(
-    alloc: Global,
-    within: Within,
-    left: Expr,
-    side: Expr,
-    piece: Piece<'_>,
-) -> Result<Next, Stop>
-    ensures { Gives result (after_item within.frames within.level (sends_of left side) piece.entry.token.kind piece.entry.token.start piece.entry.token.end piece.entry.text.now) }
-{
-    match sends_of(alloc, left, side) {
-        Ok(item) => after_item(alloc, within, item, piece),
-        Err(NoMemory) => gives_up(within, Stop::NoMemory),
-    }
-}
-
 /// Takes the token behind a side that has no exponent any more.
 #[tactic(auto, unfolding(crate::specs::reader::BodySteps::after_side, crate::specs::reader::BodySteps::after_joint))]
 pub fn after_side(alloc: Global, within: Within, side: Expr, piece: Piece<'_>) -> Result<Next, Stop>
@@ -94,7 +61,13 @@ pub fn after_side(alloc: Global, within: Within, side: Expr, piece: Piece<'_>) -
             TokenKind::Ampersand => begin_other(rest, Joint::Window(side)),
             _ => after_window(alloc, rest, side, piece),
         },
-        Joint::Window(left) => after_both(alloc, rest, left, side, piece),
-        Joint::Sends(left) => after_sends(alloc, rest, left, side, piece),
+        Joint::Window(left) => match both_of(alloc, left, side) {
+            Ok(window) => after_window(alloc, rest, window, piece),
+            Err(NoMemory) => gives_up(rest, Stop::NoMemory),
+        },
+        Joint::Sends(left) => match sends_of(alloc, left, side) {
+            Ok(item) => after_item(alloc, rest, item, piece),
+            Err(NoMemory) => gives_up(rest, Stop::NoMemory),
+        },
     }
 }
