@@ -51,15 +51,9 @@ fn next_branch(alloc: Global, within: Within, body: Expr, error: bool) -> Result
 fn choice_of(level: Level, last: Expr) -> Result<Expr, Stop>
     ensures { Gives result (Some (choice_with level.branches level.error last)) }
 {
-    let Level {
-        branches,
-        error,
-        items,
-        joint,
-    } = level;
-    drop(items);
-    drop(joint);
-    Ok(choice_with(branches, error, last)?)
+    drop(level.items);
+    drop(level.joint);
+    Ok(choice_with(level.branches, level.error, last)?)
 }
 
 // Ends the alternatives.

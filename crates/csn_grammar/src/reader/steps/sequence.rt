@@ -53,21 +53,15 @@ fn take_items(alloc: Global, within: Within) -> (Exprs, Within)
     ensures level { result.1.level ≡ without_items within.level }
 {
     let Within { frames, level } = within;
-    let Level {
-        branches,
-        error,
-        items,
-        joint,
-    } = level;
-    drop(joint);
+    drop(level.joint);
     let rest = Level {
-        branches,
-        error,
+        branches: level.branches,
+        error: level.error,
         items: Exprs::new(alloc),
         joint: Joint::Alone,
     };
     (
-        items,
+        level.items,
         Within {
             frames,
             level: rest,
