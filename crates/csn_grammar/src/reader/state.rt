@@ -1,8 +1,7 @@
 //! Where the reader stands in a text.
 
-ghost use Rattle.std.specs.Prelude.{◌≡◌, [], ◌∷◌, ◌++◌};
+ghost use Rattle.std.specs.Prelude.{◌≡◌, [], ◌∷◌, ◌++◌, Some};
 ghost use Rattle.csn_grammar.specs.reader.Gives.{Gives};
-ghost use Rattle.csn_grammar.specs.reader.BodySteps.{body_step};
 ghost use Rattle.csn_grammar.specs.reader.RuleSteps.{reading, after_body, between_step, less_step, name_step, named_step, reader_step};
 
 use crate::expr::Span;
@@ -123,28 +122,17 @@ fn end_rule(mut rules: RulesRead, rule: Rule) -> Result<Reader, Stop>
     })
 }
 
-fn in_body(
-    alloc: Global,
-    rules: RulesRead,
-    start: u32,
-    name: Label,
-    body: Body,
-    piece: Piece<'_>,
-) -> Result<Reader, Stop>
-    ensures { Gives result
-        (after_body rules start name piece.entry.token.end
-        (body_step body.frames body.level body.mode piece.entry.token.kind piece.entry.token.start piece.entry.token.end piece.entry.text.now)) }
+// Goes on as the token in the body of a rule leads, which ends before the place `end`.
+fn in_body(rules: RulesRead, start: u32, name: Label, next: Next, end: u32) -> Result<Reader, Stop>
+    ensures { Gives result (after_body rules start name end (Some next)) }
 {
-    match body_step(alloc, body, piece)? {
+    match next {
         Next::Goes(body) => Ok(Reader {
             rules,
             state: State::Body { start, name, body },
         }),
         Next::Ends(body) => {
-            let span = Span {
-                start,
-                end: piece.token.end,
-            };
+            let span = Span { start, end };
             end_rule(rules, Rule { name, span, body })
         }
     }
@@ -161,6 +149,9 @@ pub fn reader_step(alloc: Global, reader: Reader, piece: Piece<'_>) -> Result<Re
         State::Less(start) => less_step(alloc, rules, start, piece),
         State::Name { start, words } => name_step(rules, start, words, piece),
         State::Named { start, name } => { named_step(alloc, rules, start, name, piece.token.kind) }
-        State::Body { start, name, body } => in_body(alloc, rules, start, name, body, piece),
+        State::Body { start, name, body } => {
+            let next = body_step(alloc, body, piece)?;
+            in_body(rules, start, name, next, piece.token.end)
+        }
     }
 }
