@@ -2,6 +2,8 @@
 -- there are; this is read only with the reader's proofs.
 use Rattle.std.specs.Prelude.{ℕ, Bool, List, [], ◌∷◌, ◌++◌, Option, Some, None}
 use Rattle.csn_grammar.specs.declared.exponent.Exponent.{Exponent}
+use Rattle.csn_grammar.specs.declared.reader.body.Joint.{Joint}
+use Rattle.csn_grammar.specs.declared.reader.body.Joint.TheVariants.{Alone, Window, Sends}
 use Rattle.csn_grammar.specs.ExprV.{ExprV, expr, group, seq, choice, power, cut, both, sends, exprs_of, BranchV, branches_of}
 use Rattle.csn_grammar.specs.Grammar.{components_of}
 
@@ -19,6 +21,12 @@ sends_of x y = expr (start_of x) (end_of y) (sends x y)
 
 abbrev pub power_of : ExprV → ℕ → Exponent → ExprV
 power_of x n e = expr (start_of x) n (power x e)
+
+-- a side with what stands before it in its item
+abbrev pub joined : Joint → ExprV → ExprV
+joined Alone x = x
+joined (Window l) x = both_of l x
+joined (Sends l) x = sends_of l x
 
 -- the sequence of some items and a last one
 abbrev pub seq_with : List ExprV → ExprV → ExprV

@@ -3,10 +3,11 @@
 ghost use Rattle.std.specs.Prelude.{◌≡◌, IfOk};
 ghost use Rattle.csn_grammar.specs.ExprV.{expr, group, labelled};
 ghost use Rattle.csn_grammar.specs.Grammar.{components_of};
-ghost use Rattle.csn_grammar.specs.reader.Building.{both_of, sends_of, power_of, seq_with, cut_with, choice_with};
+ghost use Rattle.csn_grammar.specs.reader.Building.{joined, power_of, seq_with, cut_with, choice_with};
 
 use crate::exponent::Exponent;
 use crate::expr::{Branch, Branches, Expr, Exprs, Form, Span};
+use crate::reader::body::Joint;
 use csn_bits::NoMemory;
 use csn_desc::Label;
 use std::alloc::Global;
@@ -36,24 +37,25 @@ fn boxed(alloc: Global, x: Expr, y: Expr) -> Result<(Box<Expr>, Box<Expr>), NoMe
     }
 }
 
-/// `x & y`
-pub fn both_of(alloc: Global, x: Expr, y: Expr) -> Result<Expr, NoMemory>
-    ensures { IfOk result (λ whole. whole ≡ both_of x y) }
+/// A side with what stands before it in the same item.
+pub fn joined(alloc: Global, joint: Joint, side: Expr) -> Result<Expr, NoMemory>
+    ensures { IfOk result (λ whole. whole ≡ joined joint side) }
 {
-    let span = across(x.span, y.span);
-    let (x, y) = boxed(alloc, x, y)?;
-    let form = Form::Both(x, y);
-    Ok(Expr { span, form })
-}
-
-/// `x = y`
-pub fn sends_of(alloc: Global, x: Expr, y: Expr) -> Result<Expr, NoMemory>
-    ensures { IfOk result (λ whole. whole ≡ sends_of x y) }
-{
-    let span = across(x.span, y.span);
-    let (x, y) = boxed(alloc, x, y)?;
-    let form = Form::Sends(x, y);
-    Ok(Expr { span, form })
+    match joint {
+        Joint::Alone => Ok(side),
+        Joint::Window(left) => {
+            let span = across(left.span, side.span);
+            let (left, side) = boxed(alloc, left, side)?;
+            let form = Form::Both(left, side);
+            Ok(Expr { span, form })
+        }
+        Joint::Sends(left) => {
+            let span = across(left.span, side.span);
+            let (left, side) = boxed(alloc, left, side)?;
+            let form = Form::Sends(left, side);
+            Ok(Expr { span, form })
+        }
+    }
 }
 
 /// A base with its exponent, which ends before the place `end`.

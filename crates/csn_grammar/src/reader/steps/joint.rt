@@ -6,7 +6,7 @@ ghost use Rattle.csn_grammar.specs.reader.BodySteps.{goes, with_joint, after_win
 
 use crate::expr::Expr;
 use crate::reader::body::{Joint, Level, Mode, Next, Within};
-use crate::reader::build::{both_of, sends_of};
+use crate::reader::build::joined;
 use crate::reader::piece::Piece;
 use crate::reader::steps::level::{gives_up, goes, with_joint};
 use crate::reader::steps::sequence::after_item;
@@ -61,11 +61,11 @@ pub fn after_side(alloc: Global, within: Within, side: Expr, piece: Piece<'_>) -
             TokenKind::Ampersand => begin_other(rest, Joint::Window(side)),
             _ => after_window(alloc, rest, side, piece),
         },
-        Joint::Window(left) => match both_of(alloc, left, side) {
+        Joint::Window(left) => match joined(alloc, Joint::Window(left), side) {
             Ok(window) => after_window(alloc, rest, window, piece),
             Err(NoMemory) => gives_up(rest, Stop::NoMemory),
         },
-        Joint::Sends(left) => match sends_of(alloc, left, side) {
+        Joint::Sends(left) => match joined(alloc, Joint::Sends(left), side) {
             Ok(item) => after_item(alloc, rest, item, piece),
             Err(NoMemory) => gives_up(rest, Stop::NoMemory),
         },
