@@ -3,6 +3,7 @@ use Rattle.std.proofs.Common.{◌≡◌, ℕ, zero, suc, ◌+◌, ◌<◌, ◌�
 use Rattle.std.specs.Prelude.{IsTrue, IsSomeAnd}
 use Rattle.std.specs.Ordering.{nat_cmp}
 use Rattle.std.specs.FinSet as set
+use Rattle.std.proofs.lemmas.Bool.{or_right}
 use Rattle.csn_desc.specs.declared.reading.Reading.{Reading}
 use Rattle.csn_desc.specs.declared.reading.Reading.TheVariants.{Received, Sent}
 use Rattle.csn_desc.specs.declared.symbol.Symbol.{Symbol}
@@ -17,6 +18,8 @@ use Rattle.csn_desc.proofs.BitFacts.{symbol_bit-le-one}
 use Rattle.csn_look.specs.declared.node_sets.NodeSets.{NodeSets}
 use Rattle.csn_look.specs.declared.symbol_set.Sign.{Sign}
 use Rattle.csn_look.specs.declared.symbol_set.Sign.TheVariants.{Zero, One, End}
+use Rattle.csn_look.specs.LookV.{LookV}
+use Rattle.csn_look.specs.ReachV.{ReachV}
 use Rattle.csn_look.specs.SignsV.{SignsV}
 use Rattle.csn_look.specs.Signs.{has_sign, bit_of_sign, no_signs}
 use Rattle.csn_look.specs.Told.{OctetsAre, SignsAre, FollowHas}
@@ -33,7 +36,7 @@ use Rattle.csn_look.proofs.Handing.ReachedParts.{reached_small, parts_below}
 use Rattle.csn_look.proofs.Sets.LookFacts.{follow_has}
 use Rattle.csn_look.proofs.Sets.Telling.{both, together, is_so}
 use Rattle.csn_claims.proofs.Pieces.{order, equal_numbers, first_less, second_less}
-use Rattle.csn_certify.specs.Search.{IsLeastFrom, IsClashing, IsFollowed, MayEndAt, IsNullAt}
+use Rattle.csn_certify.specs.Search.{IsSurveyed, IsLeastFrom, IsClashing, IsFollowed, MayEndAt, IsNullAt}
 use Rattle.csn_certify.specs.Conflicts.{IsNull}
 use Rattle.std.proofs.lemmas.Option.{slice_get_within}
 
@@ -122,10 +125,6 @@ module _ (d : DescV) where
     part_follow_bit b is (follow_choice h) = follow_bit b is h
     part_follow_bit b is (follow_named h) = follow_bit b is h
     part_follow_bit b is (follow_window none) = absurd (cc)
-
-or_right : (a b : Bool) → b ≡ true → (a || b) ≡ true
-or_right true b shown = refl
-or_right false b shown = shown
 
 -- ---- the signs that stand next
 
@@ -311,6 +310,12 @@ module _ (d : DescV) (parts : List ℕ) (from : ℕ) where
 -- a node's number is one of a table that has as many rows as there are nodes
 pub in_table : {i rows count : ℕ} → rows ≡ count → i < count → i < rows
 in_table same inside = omega (arith, inside, same)
+
+-- a part of a choice has tables of keys
+pub part_has_keys :
+    (d : DescV) {look : LookV} {reach : ReachV} (node : ℕ) (parts : List ℕ) (j p : ℕ) → IsSurveyed d look reach
+    → slice_get d.nodes node ≡ Some (Choice parts) → slice_get parts j ≡ Some p → p < length look.rows
+part_has_keys d node parts j p known at at_j = in_table known.keys.same (part_inside d node parts j p known.description at at_j)
 
 -- the least number is none, since the answer is none
 pub least_is_none : (from : ℕ) (P : ℕ → Type 0) (r : Option ℕ) → ((n : ℕ) → r ≡ Some n → ⊥) → IsLeastFrom from P r → IsLeastFrom from P None

@@ -1,6 +1,6 @@
 use Rattle.csn_certify.specs.Conflicts.{IsNull}
 use Rattle.csn_certify.specs.Overlaps.{Overlaps}
-use Rattle.csn_certify.proofs.SearchFacts.{part_inside, in_table, denied}
+use Rattle.csn_certify.proofs.SearchFacts.{part_inside, part_has_keys, denied}
 use Rattle.csn_certify.proofs.TablesMeet.{never}
 use Rattle.csn_certify.proofs.OverlapSearch.{keys_null, keys_more, null_overlaps, meets_tell}
 use Rattle.csn_certify.proofs.search.Search.meets_later.Goals as goal
@@ -10,8 +10,7 @@ is_null-requires c = part_inside c.args.self.now.desc.now c.args.choice.now.node
 
 pub key_table-table-requires-clause-node : goal.key_table-table-requires-clause-node
 key_table-table-requires-clause-node c =
-    in_table c.requires.known.keys.same
-    (part_inside c.args.self.now.desc.now c.args.choice.now.node c.args.choice.now.parts.now c.args.i c.get-part.result c.requires.known.description c.requires.choice c.get-part.ensures)
+    part_has_keys c.args.self.now.desc.now c.args.choice.now.node c.args.choice.now.parts.now c.args.i c.get-part.result c.requires.known c.requires.choice c.get-part.ensures
 
 pub returns-then-is_null-clause-later : goal.returns-then-is_null-clause-later
 returns-then-is_null-clause-later c =

@@ -5,7 +5,7 @@ use Rattle.csn_certify.specs.declared.conflict.Conflict.TheVariants.{Overlap}
 use Rattle.csn_certify.specs.Conflicts.{IsNull}
 use Rattle.csn_certify.specs.Search.{IsFirstUnder}
 use Rattle.csn_certify.specs.Overlaps.{MeetsAt, MeetUnder, IsFirstBegun}
-use Rattle.csn_certify.proofs.SearchFacts.{part_inside, in_table, denied, least_is_none}
+use Rattle.csn_certify.proofs.SearchFacts.{part_inside, part_has_keys, denied, least_is_none}
 use Rattle.csn_look.proofs.Tables.KeyWords.{key_word}
 use Rattle.csn_certify.proofs.OverlapSearch.{pair_null, pair_apart, pair_none, pair_begun, pair_some, listed_key}
 use Rattle.csn_certify.proofs.search.Search.overlap_with.Goals as goal
@@ -24,18 +24,15 @@ returns-then-is_null c =
 
 pub key_table-own-requires-clause-node : goal.key_table-own-requires-clause-node
 key_table-own-requires-clause-node c =
-    in_table c.requires.known.keys.same
-    (part_inside c.args.self.now.desc.now c.args.choice.now.node c.args.choice.now.parts.now c.args.i c.get-first.result c.requires.known.description c.requires.choice c.get-first.ensures)
+    part_has_keys c.args.self.now.desc.now c.args.choice.now.node c.args.choice.now.parts.now c.args.i c.get-first.result c.requires.known c.requires.choice c.get-first.ensures
 
 pub key_table-table-requires-clause-node : goal.key_table-table-requires-clause-node
 key_table-table-requires-clause-node c =
-    in_table c.requires.known.keys.same
-    (part_inside c.args.self.now.desc.now c.args.choice.now.node c.args.choice.now.parts.now c.args.j c.get-second.result c.requires.known.description c.requires.choice c.get-second.ensures)
+    part_has_keys c.args.self.now.desc.now c.args.choice.now.node c.args.choice.now.parts.now c.args.j c.get-second.result c.requires.known c.requires.choice c.get-second.ensures
 
 pub keys-requires-clause-node : goal.keys-requires-clause-node
 keys-requires-clause-node c =
-    in_table c.requires.known.keys.same
-    (part_inside c.args.self.now.desc.now c.args.choice.now.node c.args.choice.now.parts.now c.args.i c.get-first.result c.requires.known.description c.requires.choice c.get-first.ensures)
+    part_has_keys c.args.self.now.desc.now c.args.choice.now.node c.args.choice.now.parts.now c.args.i c.get-first.result c.requires.known c.requires.choice c.get-first.ensures
 
 pub returns-then-not-tables_meet : goal.returns-then-not-tables_meet
 returns-then-not-tables_meet c =
