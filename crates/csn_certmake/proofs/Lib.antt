@@ -6,6 +6,7 @@ mod Nodes
 mod Writing
 mod Later
 mod Growing
+mod Positions
 mod Telling
 mod Claiming
 mod Making

@@ -6,7 +6,7 @@ use Rattle.std.proofs.lemmas.Option.{slice_get_within, get_or_from_slice_get}
 use Rattle.csn_cert.specs.PatternV.{PatternV}
 use Rattle.csn_certmake.specs.Patterns.{joined, continued, before_all, times_of, patterns_in, HasSame, IsRow}
 
-behind : {X : Type 0} (y : X) (xs : List X) (x : X) → Contains xs x → Contains (y ∷ xs) x
+pub behind : {X : Type 0} (y : X) (xs : List X) (x : X) → Contains xs x → Contains (y ∷ xs) x
 behind y xs x has = (suc has.0, omega (arith, has.1), has.2)
 
 pub from_flat : {X Y : Type 0} (g : X → List Y) (xs : List X) (p : Y) → Contains (flat_map g xs) p → (x : X) × Contains xs x × Contains (g x) p

@@ -10,6 +10,8 @@ use Rattle.std.proofs.lemmas.Bool.Decides.{nat_tests}
 use Rattle.csn_cert.specs.PatternV.{PatternV}
 use Rattle.csn_cert.specs.PatternText.{pattern_text, ComesBefore}
 use Rattle.csn_cert.specs.CertificateV.{Rises, PositionV}
+use Rattle.csn_certmake.proofs.Members.{behind}
+use Rattle.csn_certmake.proofs.Positions.{octet_is, octet_differs}
 
 -- ---- by an order
 
@@ -21,9 +23,6 @@ all_at : {A : Type 0} (P : A → Type 0) (xs : List A) (p : A) (k : ℕ) → All
 all_at P [] p k all low is = absurd (omega (arith, low))
 all_at P (x ∷ xs) p zero all low is = subst P is all.0
 all_at P (x ∷ xs) p (suc k) all low is = all_at P xs p k all.1 (omega (arith, low)) is
-
-behind : {A : Type 0} (x : A) (xs : List A) (p : A) → Contains xs p → Contains (x ∷ xs) p
-behind x xs p has = (suc has.0, omega (arith, has.1), has.2)
 
 module _ {A : Type 0} (Before : A → A → Type 0) (further : (x y z : A) → Before x y → Before y z → Before x z) where
   all_further : (x y : A) (ys : List A) → Before x y → AllByRecursion (Before y) ys → AllByRecursion (Before x) ys
@@ -94,17 +93,11 @@ patterns_same = rising_same ComesBefore further_pattern no_pattern_before
 
 -- ---- positions
 
-other : (a b : ℕ) → a ≢ b → (a == b) ≡ false
-other a b differ = grind (arith, nat_tests, differ)
-
-one : (a b : ℕ) → a ≡ b → (a == b) ≡ true
-one a b is = grind (arith, nat_tests, is)
-
 found_here : (p : PositionV) (ps : List PositionV) (o : ℕ) → p.octet ≡ o → find (λ q. q.octet == o) (p ∷ ps) ≡ Some p
-found_here p ps o is = rw (one p.octet o is) refl
+found_here p ps o is = rw (octet_is p.octet o is) refl
 
 found_later : (p : PositionV) (ps : List PositionV) (o : ℕ) → p.octet ≢ o → find (λ q. q.octet == o) (p ∷ ps) ≡ find (λ q. q.octet == o) ps
-found_later p ps o differ = rw (other p.octet o differ) refl
+found_later p ps o differ = rw (octet_differs p.octet o differ) refl
 
 -- none is found in front of all
 none_before : (o : ℕ) (ps : List PositionV) → AllByRecursion (λ p. o < p.octet) ps → find (λ q. q.octet == o) ps ≡ None

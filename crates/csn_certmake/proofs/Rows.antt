@@ -1,6 +1,6 @@
 -- Rows of patterns that are made octet position by octet position.
-use Rattle.std.proofs.Common.{◌≡◌, ℕ, zero, suc, ◌+◌, ◌%◌, ◌<◌, ◌≤◌, ⊎_elim, Bool, true, false, ◌&&◌, List, [], ◌∷◌, ◌++◌, length, map, flat_map, refl, sym, ap, ◌∙◌, subst, arith, length-append, slice_index_or, get_or, slice_get, Some, take, append_assoc, append-nil}
-use Rattle.std.proofs.lemmas.Bool.{cases_lt}
+use Rattle.std.proofs.Common.{◌≡◌, ℕ, zero, suc, ◌+◌, ◌%◌, ◌<◌, ◌≤◌, ⊎_elim, Bool, true, List, [], ◌∷◌, ◌++◌, length, map, flat_map, refl, sym, ap, ◌∙◌, subst, arith, length-append, slice_index_or, get_or, slice_get, Some, take, append_assoc, append-nil}
+use Rattle.std.proofs.lemmas.Bool.{and_parts, cases_lt}
 use Rattle.std.proofs.lemmas.List.{get_or_append_left, get_or_push, map-append, take_more}
 use Rattle.std.proofs.lemmas.Grind.{flat_map-append}
 use Rattle.csn_cert.specs.PatternV.{PatternV}
@@ -50,17 +50,12 @@ has_same patterns others same = subst (λ (l : List PatternV). HasSame patterns 
 
 -- ---- lists that are tested to be the same
 
-both : (b c : Bool) → (b && c) ≡ true → (b ≡ true) × (c ≡ true)
-both true true is = (refl, refl)
-both true false is = absurd (cc)
-both false c is = absurd (cc)
-
 list_same : {A : Type 0} (E : A → A → Bool) → ((x y : A) → E x y ≡ true → x ≡ y) → (xs ys : List A) → pointwise E xs ys ≡ true → xs ≡ ys
 list_same E tells [] [] is = refl
 list_same E tells [] (y ∷ ys) is = absurd (cc)
 list_same E tells (x ∷ xs) [] is = absurd (cc)
 list_same E tells (x ∷ xs) (y ∷ ys) is =
-    let parts = both (E x y) (pointwise E xs ys) is in
+    let parts = and_parts (E x y) (pointwise E xs ys) is in
     ap (λ z. z ∷ xs) (tells x y parts.0) ∙ ap (λ l. y ∷ l) (list_same E tells xs ys parts.1)
 
 pub lists_same : {A X : Type 0} (E : A → A → Bool) (f : X → List A) → ((x y : A) → E x y ≡ true → x ≡ y) → (xs ys : List X) → pointwise (λ v w. pointwise E (f v) (f w)) xs ys ≡ true → map f xs ≡ map f ys
@@ -68,7 +63,7 @@ lists_same E f tells [] [] is = refl
 lists_same E f tells [] (y ∷ ys) is = absurd (cc)
 lists_same E f tells (x ∷ xs) [] is = absurd (cc)
 lists_same E f tells (x ∷ xs) (y ∷ ys) is =
-    let parts = both (pointwise E (f x) (f y)) (pointwise (λ v w. pointwise E (f v) (f w)) xs ys) is in
+    let parts = and_parts (pointwise E (f x) (f y)) (pointwise (λ v w. pointwise E (f v) (f w)) xs ys) is in
     ap (λ z. z ∷ map f xs) (list_same E tells (f x) (f y) parts.0) ∙ ap (λ l. f y ∷ l) (lists_same E f tells xs ys parts.1)
 
 -- ---- before other patterns

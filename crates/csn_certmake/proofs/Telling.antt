@@ -3,7 +3,6 @@ use Rattle.std.proofs.Common.{◌≡◌, ◌≢◌, ℕ, ◌+◌, ◌<◌, ◌�
 use Rattle.std.specs.Prelude.{Option, IsTrue, ◌==◌, ◌↔◌}
 use Rattle.std.specs.List.{AllByRecursion}
 use Rattle.std.proofs.lemmas.Bool.{cases_lt}
-use Rattle.std.proofs.lemmas.Bool.Decides.{nat_tests}
 use Rattle.std.proofs.lemmas.List.{get_or_append_left, get_or_push}
 use Rattle.std.proofs.lemmas.Option.{slice_get-get_or, get_or_from_slice_get}
 use Rattle.std.specs.Ordering.{nat_cmp}
@@ -22,20 +21,15 @@ use Rattle.csn_look.specs.Reached.{Reached, InFollow}
 use Rattle.csn_certmake.specs.Digits.{DigitsAre, SaysFollow}
 use Rattle.csn_certmake.specs.Rows.{IsKnown, TellsPosition, TellsClaim, TellsNode, AddsNode}
 use Rattle.csn_certmake.proofs.Growing.{last_push, at_last_push}
+use Rattle.csn_certmake.proofs.Positions.{octet_is, octet_differs}
 
 -- ---- where a claim is found
 
 is_at : ℕ → PositionV → Bool
 is_at octet p = p.octet == octet
 
-other : (a b : ℕ) → a ≢ b → (a == b) ≡ false
-other a b differ = grind (arith, nat_tests, differ)
-
-same : (a b : ℕ) → a ≡ b → (a == b) ≡ true
-same a b is = grind (arith, nat_tests, is)
-
 found_in_front : (ps : List PositionV) (p : PositionV) (octet : ℕ) → p.octet ≢ octet → find (λ q. q.octet == octet) (ps ++ p ∷ []) ≡ find (λ q. q.octet == octet) ps
-found_in_front [] p octet differ = rw (other p.octet octet differ) refl
+found_in_front [] p octet differ = rw (octet_differs p.octet octet differ) refl
 found_in_front (q ∷ ps) p octet differ = by_test (q.octet == octet) refl (found_in_front ps p octet differ)
   where
     by_test : (b : Bool) → (q.octet == octet) ≡ b → find (λ q. q.octet == octet) (ps ++ p ∷ []) ≡ find (λ q. q.octet == octet) ps → find (λ q. q.octet == octet) ((q ∷ ps) ++ p ∷ []) ≡ find (λ q. q.octet == octet) (q ∷ ps)
@@ -43,12 +37,12 @@ found_in_front (q ∷ ps) p octet differ = by_test (q.octet == octet) refl (foun
     by_test false is behind = rw is behind
 
 found_last : (ps : List PositionV) (p : PositionV) (octet : ℕ) → AllByRecursion (λ p. p.octet < octet) ps → p.octet ≡ octet → find (λ q. q.octet == octet) (ps ++ p ∷ []) ≡ Some p
-found_last [] p octet below is = rw (same p.octet octet is) refl
-found_last (q ∷ ps) p octet below is = (let low : q.octet < octet = below.0 in let differ : q.octet ≢ octet = omega (arith, low) in rw (other q.octet octet differ) (found_last ps p octet below.1 is))
+found_last [] p octet below is = rw (octet_is p.octet octet is) refl
+found_last (q ∷ ps) p octet below is = (let low : q.octet < octet = below.0 in let differ : q.octet ≢ octet = omega (arith, low) in rw (octet_differs q.octet octet differ) (found_last ps p octet below.1 is))
 
 found_none : (ps : List PositionV) (octet : ℕ) → AllByRecursion (λ p. p.octet < octet) ps → find (λ q. q.octet == octet) ps ≡ None
 found_none [] octet below = refl
-found_none (q ∷ ps) octet below = (let low : q.octet < octet = below.0 in let differ : q.octet ≢ octet = omega (arith, low) in rw (other q.octet octet differ) (found_none ps octet below.1))
+found_none (q ∷ ps) octet below = (let low : q.octet < octet = below.0 in let differ : q.octet ≢ octet = omega (arith, low) in rw (octet_differs q.octet octet differ) (found_none ps octet below.1))
 
 below_more : (ps : List PositionV) (octet : ℕ) → AllByRecursion (λ p. p.octet < octet) ps → AllByRecursion (λ p. p.octet < octet + 1) ps
 below_more [] octet below = tt
