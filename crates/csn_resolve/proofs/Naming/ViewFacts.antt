@@ -1,11 +1,12 @@
 -- Facts about what contracts see of the values that a walk passes on.
-use Rattle.std.proofs.Common.{◌≡◌, ℕ, zero, suc, ◌+◌, true, false, ◌||◌, List, [], ◌∷◌, ◌++◌, take, slice_get, Some, None, refl, sym, ◌∙◌, ap, rules, length, min, arith}
+use Rattle.std.proofs.Common.{◌≡◌, ℕ, zero, suc, ◌+◌, ◌<◌, Bool, true, false, ◌||◌, List, [], ◌∷◌, ◌++◌, take, slice_get, Some, None, refl, sym, ◌∙◌, ap, rules, length, min, arith}
 use Rattle.std.specs.Prelude.{if◌then◌else◌}
 use Rattle.std.specs.Borrow.{Bor}
 use Rattle.csn_desc.specs.declared.reading.Reading.{Reading}
 use Rattle.csn_grammar.specs.declared.expr.Span.{Span}
 use Rattle.csn_grammar.specs.declared.expr.Form.{Form}
 use Rattle.csn_grammar.specs.ExprV.{ExprV, expr}
+use Rattle.csn_grammar.specs.ExprCode.{expr_size, form_size}
 use Rattle.csn_grammar.specs.FormView.{form_view, expr_view}
 use Rattle.csn_grammar.specs.Names.{same_name}
 use Rattle.csn_grammar.specs.Environment.{label_of}
@@ -33,6 +34,36 @@ seen-Nothing r = search (rules, s.the_lemmas)
 -- an expression of which a level is known
 pub known : (x : ExprV) (span : Span) (form other : Form) → expr_view span form ≡ x → form ≡ other → x ≡ expr span.start span.end (form_view other)
 known x span form other p q = sym p ∙ ap (λ f. expr_view span f) q
+
+-- its size, and that a part is smaller
+pub known-size : (x : ExprV) (span : Span) (form other : Form) → expr_view span form ≡ x → form ≡ other → expr_size x ≡ form_size (form_view other)
+known-size x span form other p q = ap expr_size (known x span form other p q)
+
+pub part-smaller :
+    (x : ExprV) (span : Span) (form other : Form) (part at : ExprV) → expr_view span form ≡ x → form ≡ other → at ≡ part
+    → expr_size part < form_size (form_view other) → expr_size at < expr_size x
+part-smaller x span form other part at p q here less =
+    let whole = known-size x span form other p q in
+    let same : expr_size at ≡ expr_size part = ap expr_size here in
+    omega (arith, whole, same, less)
+
+-- what a test tells of it
+pub told-form :
+    (test : ExprV → Bool) (x : ExprV) (span : Span) (form other : Form) (told : Bool) → expr_view span form ≡ x → form ≡ other
+    → told ≡ test (expr span.start span.end (form_view other)) → told ≡ test x
+told-form test x span form other told p q answer = answer ∙ ap test (sym (known x span form other p q))
+
+-- what a test tells of a part, where it tells the same of the whole
+pub told-part :
+    (test : ExprV → Bool) (x : ExprV) (span : Span) (form other : Form) (part at : ExprV) (told : Bool)
+    → expr_view span form ≡ x → form ≡ other → at ≡ part → test (expr span.start span.end (form_view other)) ≡ test part
+    → told ≡ test at → told ≡ test x
+told-part test x span form other part at told p q here same answer =
+    told-form test x span form other told p q (answer ∙ (ap test here ∙ sym same))
+
+-- two tests that are one in the reading that is asked
+pub alike-in-reading : {r q : Reading} (f g : Reading → Bool) → r ≡ q → f q ≡ g q → f r ≡ g r
+alike-in-reading f g is same = ap f is ∙ (same ∙ sym (ap g is))
 
 pub among-here : (n m : List ℕ) (ms : List (List ℕ)) → same_name m n ≡ true → is_among n (m ∷ ms) ≡ true
 among-here n m ms p = ap (λ b. b || is_among n ms) p

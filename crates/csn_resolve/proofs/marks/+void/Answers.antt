@@ -1,103 +1,59 @@
-use Rattle.std.proofs.Common.{◌≡◌, ◌+◌, false, max, sym, ◌∙◌, ap, arith, rules}
+use Rattle.std.proofs.Common.{◌≡◌, ◌<◌, false, refl, sym, ◌∙◌, ap, arith, rules}
 use Rattle.std.proofs.lemmas.Bool.{both_ways}
-use Rattle.csn_desc.specs.declared.reading.Reading.{Reading}
+use Rattle.csn_grammar.specs.declared.expr.Form.TheVariants as form
 use Rattle.csn_grammar.specs.ExprV.{BranchV, sends}
-use Rattle.csn_grammar.specs.ExprCode.{expr_size, list_size, branch_list_size}
+use Rattle.csn_grammar.specs.ExprCode.{expr_size}
 use Rattle.csn_resolve.specs.Tests.{is_void, form_void}
 use Rattle.csn_resolve.specs.Marked.{marked}
 use Rattle.csn_resolve.proofs.Basics.Parts.{item_size, branch_size_of}
-use Rattle.csn_resolve.proofs.Naming.ViewFacts.{known}
+use Rattle.csn_resolve.proofs.Naming.ViewFacts.{known-size, part-smaller, told-form, told-part, alike-in-reading}
 use Rattle.csn_resolve.proofs.Emptiness.MarkFacts.{some-next, some-here, all-next, all-not}
 use Rattle.csn_resolve.proofs.marks.+void.Goals.{all_void-else-not-branch-via-then-not-branch+else-not-is_void, all_void-else-not-branch-via-else-not-branch}
 use Rattle.csn_resolve.proofs.marks.+void.Goals as goal
 
 pub is_void-is_void-requires : goal.is_void-is_void-requires
 is_void-is_void-requires t c =
-    let is = known c.args.x.now c.x.inside.span c.x.inside.form _ c.x.view_is c.in-Labelled.is in
-    let size : expr_size c.args.x.now ≡ expr_size c.in-Labelled.part.value + 1 = ap expr_size is in
-    let same : expr_size c.deref.result.now ≡ expr_size c.in-Labelled.part.value = ap expr_size c.deref.ensures in
-    (omega (arith, size, same, c.decreases), c.requires)
+    let less : expr_size c.deref.result.now < expr_size c.args.x.now = part-smaller c.args.x.now c.x.inside.span c.x.inside.form _ c.in-Labelled.part.value c.deref.result.now c.x.view_is c.in-Labelled.is c.deref.ensures (omega arith) in
+    (omega (arith, less, c.decreases), c.requires)
 
 pub is_void-returns-in-Labelled : goal.is_void-returns-in-Labelled
-is_void-returns-in-Labelled t c =
-    let is = known c.args.x.now c.x.inside.span c.x.inside.form _ c.x.view_is c.in-Labelled.is in
-    c.is_void.ensures ∙ (ap (is_void c.args.reading (marked c.args.names.now c.args.marks.now)) c.deref.ensures ∙ ap (is_void c.args.reading (marked c.args.names.now c.args.marks.now)) (sym is))
+is_void-returns-in-Labelled t c = told-part (is_void c.args.reading (marked c.args.names.now c.args.marks.now)) c.args.x.now c.x.inside.span c.x.inside.form _ c.in-Labelled.part.value c.deref.result.now c.is_void.result c.x.view_is c.in-Labelled.is c.deref.ensures refl c.is_void.ensures
 
 pub is_void-is_void-requires-in-Group : goal.is_void-is_void-requires-in-Group
-is_void-is_void-requires-in-Group t c =
-    let is = known c.args.x.now c.x.inside.span c.x.inside.form _ c.x.view_is c.in-Group.is in
-    let size : expr_size c.args.x.now ≡ expr_size c.in-Group.part.value + 1 = ap expr_size is in
-    let same : expr_size c.deref-in-Group.result.now ≡ expr_size c.in-Group.part.value = ap expr_size c.deref-in-Group.ensures in
-    (omega (arith, size, same, c.decreases), c.requires)
+is_void-is_void-requires-in-Group t c = (omega (arith, part-smaller c.args.x.now c.x.inside.span c.x.inside.form (form.Group c.in-Group.part) c.in-Group.part.value c.deref-in-Group.result.now c.x.view_is c.in-Group.is c.deref-in-Group.ensures (omega arith), c.decreases), c.requires)
 
 pub is_void-returns-in-Group : goal.is_void-returns-in-Group
-is_void-returns-in-Group t c =
-    let is = known c.args.x.now c.x.inside.span c.x.inside.form _ c.x.view_is c.in-Group.is in
-    c.is_void-in-Group.ensures ∙ (ap (is_void c.args.reading (marked c.args.names.now c.args.marks.now)) c.deref-in-Group.ensures ∙ ap (is_void c.args.reading (marked c.args.names.now c.args.marks.now)) (sym is))
+is_void-returns-in-Group t c = told-part (is_void c.args.reading (marked c.args.names.now c.args.marks.now)) c.args.x.now c.x.inside.span c.x.inside.form (form.Group c.in-Group.part) c.in-Group.part.value c.deref-in-Group.result.now c.is_void-in-Group.result c.x.view_is c.in-Group.is c.deref-in-Group.ensures refl c.is_void-in-Group.ensures
 
 pub is_void-some_void-requires : goal.is_void-some_void-requires
-is_void-some_void-requires t c =
-    let is = known c.args.x.now c.x.inside.span c.x.inside.form _ c.x.view_is c.in-Seq.is in
-    let size : expr_size c.args.x.now ≡ list_size c.in-Seq.items + 1 = ap expr_size is in
-    (omega (arith, size, c.decreases), c.requires)
+is_void-some_void-requires t c = (omega (arith, known-size c.args.x.now c.x.inside.span c.x.inside.form (form.Seq c.in-Seq.items) c.x.view_is c.in-Seq.is, c.decreases), c.requires)
 
 pub is_void-returns-in-Seq : goal.is_void-returns-in-Seq
-is_void-returns-in-Seq t c =
-    let is = known c.args.x.now c.x.inside.span c.x.inside.form _ c.x.view_is c.in-Seq.is in
-    c.some_void.ensures ∙ ap (is_void c.args.reading (marked c.args.names.now c.args.marks.now)) (sym is)
+is_void-returns-in-Seq t c = told-form (is_void c.args.reading (marked c.args.names.now c.args.marks.now)) c.args.x.now c.x.inside.span c.x.inside.form (form.Seq c.in-Seq.items) c.some_void.result c.x.view_is c.in-Seq.is c.some_void.ensures
 
 pub is_void-all_void-requires : goal.is_void-all_void-requires
-is_void-all_void-requires t c =
-    let is = known c.args.x.now c.x.inside.span c.x.inside.form _ c.x.view_is c.in-Choice.is in
-    let size : expr_size c.args.x.now ≡ branch_list_size c.in-Choice.branches + 1 = ap expr_size is in
-    (omega (arith, size, c.decreases), c.requires)
+is_void-all_void-requires t c = (omega (arith, known-size c.args.x.now c.x.inside.span c.x.inside.form (form.Choice c.in-Choice.branches) c.x.view_is c.in-Choice.is, c.decreases), c.requires)
 
 pub is_void-returns-in-Choice : goal.is_void-returns-in-Choice
-is_void-returns-in-Choice t c =
-    let is = known c.args.x.now c.x.inside.span c.x.inside.form _ c.x.view_is c.in-Choice.is in
-    c.all_void.ensures ∙ ap (is_void c.args.reading (marked c.args.names.now c.args.marks.now)) (sym is)
-
-pub is_void-is_void-requires-in-Received : goal.is_void-is_void-requires-in-Received
-is_void-is_void-requires-in-Received t c =
-    let is = known c.args.x.now c.x.inside.span c.x.inside.form _ c.x.view_is c.in-Sends.is in
-    let size : expr_size c.args.x.now ≡ max (expr_size c.in-Sends.left.value) (expr_size c.in-Sends.right.value) + 1 = ap expr_size is in
-    let same : expr_size c.deref-in-Received.result.now ≡ expr_size c.in-Sends.left.value = ap expr_size c.deref-in-Received.ensures in
-    (omega (arith, size, same, c.decreases), c.requires)
-
-pub is_void-returns-in-Received : goal.is_void-returns-in-Received
-is_void-returns-in-Received t c =
-    let is = known c.args.x.now c.x.inside.span c.x.inside.form _ c.x.view_is c.in-Sends.is in
-    let taken = ap (λ (z : Reading). is_void z (marked c.args.names.now c.args.marks.now) c.in-Sends.left.value) c.in-Received.is in
-    let here = ap (λ (z : Reading). form_void z (marked c.args.names.now c.args.marks.now) (sends c.in-Sends.left.value c.in-Sends.right.value)) c.in-Received.is in
-    c.is_void-in-Received.ensures ∙ (ap (is_void c.args.reading (marked c.args.names.now c.args.marks.now)) c.deref-in-Received.ensures ∙ (taken ∙ (sym here ∙ ap (is_void c.args.reading (marked c.args.names.now c.args.marks.now)) (sym is))))
-
-pub is_void-is_void-requires-in-Sent : goal.is_void-is_void-requires-in-Sent
-is_void-is_void-requires-in-Sent t c =
-    let is = known c.args.x.now c.x.inside.span c.x.inside.form _ c.x.view_is c.in-Sends.is in
-    let size : expr_size c.args.x.now ≡ max (expr_size c.in-Sends.left.value) (expr_size c.in-Sends.right.value) + 1 = ap expr_size is in
-    let same : expr_size c.deref-in-Sent.result.now ≡ expr_size c.in-Sends.right.value = ap expr_size c.deref-in-Sent.ensures in
-    (omega (arith, size, same, c.decreases), c.requires)
-
-pub is_void-returns-in-Sent : goal.is_void-returns-in-Sent
-is_void-returns-in-Sent t c =
-    let is = known c.args.x.now c.x.inside.span c.x.inside.form _ c.x.view_is c.in-Sends.is in
-    let taken = ap (λ (z : Reading). is_void z (marked c.args.names.now c.args.marks.now) c.in-Sends.right.value) c.in-Sent.is in
-    let here = ap (λ (z : Reading). form_void z (marked c.args.names.now c.args.marks.now) (sends c.in-Sends.left.value c.in-Sends.right.value)) c.in-Sent.is in
-    c.is_void-in-Sent.ensures ∙ (ap (is_void c.args.reading (marked c.args.names.now c.args.marks.now)) c.deref-in-Sent.ensures ∙ (taken ∙ (sym here ∙ ap (is_void c.args.reading (marked c.args.names.now c.args.marks.now)) (sym is))))
+is_void-returns-in-Choice t c = told-form (is_void c.args.reading (marked c.args.names.now c.args.marks.now)) c.args.x.now c.x.inside.span c.x.inside.form (form.Choice c.in-Choice.branches) c.all_void.result c.x.view_is c.in-Choice.is c.all_void.ensures
 
 pub is_void-is_void-requires-then-is_some : goal.is_void-is_void-requires-then-is_some
-is_void-is_void-requires-then-is_some t c =
-    let is = known c.args.x.now c.x.inside.span c.x.inside.form _ c.x.view_is c.in-Both.is in
-    let size : expr_size c.args.x.now ≡ max (expr_size c.in-Both.left.value) (expr_size c.in-Both.right.value) + 1 = ap expr_size is in
-    let same : expr_size c.deref-then-is_some.result.now ≡ expr_size c.in-Both.right.value = ap expr_size c.deref-then-is_some.ensures in
-    (omega (arith, size, same, c.decreases), c.requires)
+is_void-is_void-requires-then-is_some t c = (omega (arith, part-smaller c.args.x.now c.x.inside.span c.x.inside.form (form.Both c.in-Both.left c.in-Both.right) c.in-Both.right.value c.deref-then-is_some.result.now c.x.view_is c.in-Both.is c.deref-then-is_some.ensures (omega arith), c.decreases), c.requires)
 
 pub is_void-is_void-requires-then-is_some-2 : goal.is_void-is_void-requires-then-is_some-2
-is_void-is_void-requires-then-is_some-2 t c =
-    let is = known c.args.x.now c.x.inside.span c.x.inside.form _ c.x.view_is c.in-Both.is in
-    let size : expr_size c.args.x.now ≡ max (expr_size c.in-Both.left.value) (expr_size c.in-Both.right.value) + 1 = ap expr_size is in
-    let same : expr_size c.deref-then-is_some-2.result.now ≡ expr_size c.in-Both.left.value = ap expr_size c.deref-then-is_some-2.ensures in
-    (omega (arith, size, same, c.decreases), c.requires)
+is_void-is_void-requires-then-is_some-2 t c = (omega (arith, part-smaller c.args.x.now c.x.inside.span c.x.inside.form (form.Both c.in-Both.left c.in-Both.right) c.in-Both.left.value c.deref-then-is_some-2.result.now c.x.view_is c.in-Both.is c.deref-then-is_some-2.ensures (omega arith), c.decreases), c.requires)
+
+pub is_void-is_void-requires-in-Received : goal.is_void-is_void-requires-in-Received
+is_void-is_void-requires-in-Received t c = (omega (arith, part-smaller c.args.x.now c.x.inside.span c.x.inside.form (form.Sends c.in-Sends.left c.in-Sends.right) c.in-Sends.left.value c.deref-in-Received.result.now c.x.view_is c.in-Sends.is c.deref-in-Received.ensures (omega arith), c.decreases), c.requires)
+
+pub is_void-returns-in-Received : goal.is_void-returns-in-Received
+is_void-returns-in-Received t c = told-part (is_void c.args.reading (marked c.args.names.now c.args.marks.now)) c.args.x.now c.x.inside.span c.x.inside.form (form.Sends c.in-Sends.left c.in-Sends.right) c.in-Sends.left.value c.deref-in-Received.result.now c.is_void-in-Received.result c.x.view_is c.in-Sends.is c.deref-in-Received.ensures (alike-in-reading (λ z. form_void z (marked c.args.names.now c.args.marks.now) (sends c.in-Sends.left.value c.in-Sends.right.value)) (λ z. is_void z (marked c.args.names.now c.args.marks.now) c.in-Sends.left.value) c.in-Received.is refl) c.is_void-in-Received.ensures
+
+pub is_void-is_void-requires-in-Sent : goal.is_void-is_void-requires-in-Sent
+is_void-is_void-requires-in-Sent t c = (omega (arith, part-smaller c.args.x.now c.x.inside.span c.x.inside.form (form.Sends c.in-Sends.left c.in-Sends.right) c.in-Sends.right.value c.deref-in-Sent.result.now c.x.view_is c.in-Sends.is c.deref-in-Sent.ensures (omega arith), c.decreases), c.requires)
+
+pub is_void-returns-in-Sent : goal.is_void-returns-in-Sent
+is_void-returns-in-Sent t c = told-part (is_void c.args.reading (marked c.args.names.now c.args.marks.now)) c.args.x.now c.x.inside.span c.x.inside.form (form.Sends c.in-Sends.left c.in-Sends.right) c.in-Sends.right.value c.deref-in-Sent.result.now c.is_void-in-Sent.result c.x.view_is c.in-Sends.is c.deref-in-Sent.ensures (alike-in-reading (λ z. form_void z (marked c.args.names.now c.args.marks.now) (sends c.in-Sends.left.value c.in-Sends.right.value)) (λ z. is_void z (marked c.args.names.now c.args.marks.now) c.in-Sends.right.value) c.in-Sent.is refl) c.is_void-in-Sent.ensures
 
 pub some_void-is_void-requires : goal.some_void-is_void-requires
 some_void-is_void-requires t c =
