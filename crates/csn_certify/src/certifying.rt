@@ -1,10 +1,6 @@
 ghost use Rattle.std.specs.Prelude.{◌≡◌, IfOk, IfErr};
-ghost use Rattle.csn_look.specs.NodeSets.{IsLookOf};
-ghost use Rattle.csn_look.specs.LookKeys.{IsKeysOf};
-ghost use Rattle.csn_look.specs.ReachV.{IsReachOf};
-ghost use Rattle.csn_look.specs.FollowV.{IsFollowOf};
 ghost use Rattle.csn_certify.specs.Conflicts.{Certified};
-ghost use Rattle.csn_certify.specs.Certifying.{IsFaultOf};
+ghost use Rattle.csn_certify.specs.Certifying.{IsToldOf, IsFaultOf};
 ghost use Rattle.csn_certify.specs.PickTables.{ArePickTables};
 ghost use Rattle.csn_certify.specs.Layouts.{AreLayouts};
 ghost use Rattle.csn_certify.specs.Plans.{HasOneTree};
@@ -55,10 +51,7 @@ pub fn certify(alloc: Global, desc: Desc) -> Result<Plan, CertifyFault>
 /// What look-ahead tells of a description, where it has no conflict.
 fn survey(alloc: Global, desc: &Desc) -> Result<(Look, Reach), CertifyFault>
     ensures certified { IfOk result (λ told. Certified desc.now 12) }
-    ensures sets { IfOk result (λ told. IsLookOf desc.now told.0.sets) }
-    ensures keys { IfOk result (λ told. IsKeysOf desc.now told.0) }
-    ensures reached { IfOk result (λ told. IsReachOf desc.now told.1.reached) }
-    ensures follow { IfOk result (λ told. IsFollowOf desc.now told.1.follow) }
+    ensures told { IfOk result (λ told. IsToldOf desc.now told.0 told.1) }
     ensures conflict { IfErr result (IsFaultOf desc.now) }
 {
     let look = Look::new(alloc, desc)?;
@@ -74,10 +67,7 @@ fn refuse_conflict(
     look: &Look,
     reach: &Reach,
 ) -> Result<(), CertifyFault>
-    requires sets { IsLookOf desc.now look.now.sets }
-    requires keys { IsKeysOf desc.now look.now }
-    requires reached { IsReachOf desc.now reach.now.reached }
-    requires follow { IsFollowOf desc.now reach.now.follow }
+    requires told { IsToldOf desc.now look.now reach.now }
     ensures certified { IfOk result (λ done. Certified desc.now 12) }
     ensures conflict { IfErr result (IsFaultOf desc.now) }
 {
@@ -95,10 +85,7 @@ fn tables(
     reach: &Reach,
 ) -> Result<(PickTables, Vec<Option<Layout>>), NoMemory>
     requires certified { Certified desc.now 12 }
-    requires sets { IsLookOf desc.now look.now.sets }
-    requires keys { IsKeysOf desc.now look.now }
-    requires reached { IsReachOf desc.now reach.now.reached }
-    requires follow { IsFollowOf desc.now reach.now.follow }
+    requires told { IsToldOf desc.now look.now reach.now }
     ensures picks { IfOk result (λ made. ArePickTables desc.now made.0) }
     ensures layouts { IfOk result (λ made. AreLayouts desc.now made.1.items) }
 {
