@@ -1,8 +1,9 @@
 -- Rows of tables of keys: tables stay when others are kept, and a row is filled place by place.
 use Rattle.std.proofs.Common.{◌≡◌, ◌≢◌, ℕ, ◌+◌, ◌%◌, ◌<◌, ◌≤◌, ◌⊎◌, ◌↔◌, Bool, true, false, List, [], ◌++◌, length, get_or, set, sym, ap, ◌∙◌, subst, arith, inl, inr, append_assoc, append-nil, length-append, length-set, get_or-set_same, get_or-set_other}
-use Rattle.std.specs.Prelude.{IsTrue}
+use Rattle.std.specs.Prelude.{IsTrue, Result, IfOk}
 use Rattle.std.proofs.lemmas.List.{get_or_append_left}
 use Rattle.std.proofs.lemmas.Bool.{cases_order}
+use Rattle.std.proofs.lemmas.Result.{IfOk-weaker}
 use Rattle.csn_look.specs.KeyMarks.{IsWord, has_key, KeysAre, Adds}
 use Rattle.csn_look.specs.KeyRows.{table_of, HasTable, HasRow, IsMore, Makes, MakesTable, AreTables, IsSameRow, RowAfter}
 use Rattle.csn_look.specs.KeyProducts.{AfterKeys, after_cut, after_whole}
@@ -74,8 +75,8 @@ kept_table old new at marks P more inside same are =
     record { more = more; table = record { within = inside; keys = subst Q (sym same) are } }
 
 -- one table at each octet position
-pub same_tables : (old new : List (List ℕ)) (row marks : List ℕ) (P : ℕ → List ℕ → Bool → Type 0) → ((o : ℕ) → o ≤ 7 → KeysAre marks (P o)) → IsSameRow old new row marks → Makes old new row P
-same_tables old new row marks P are h = record {
+same_row : (old new : List (List ℕ)) (row marks : List ℕ) (P : ℕ → List ℕ → Bool → Type 0) → ((o : ℕ) → o ≤ 7 → KeysAre marks (P o)) → IsSameRow old new row marks → Makes old new row P
+same_row old new row marks P are h = record {
   more = h.more;
   has = record {
     eight = h.eight;
@@ -84,6 +85,12 @@ same_tables old new row marks P are h = record {
         record { within = h.within o low; keys = subst Q (sym (h.same o low)) (are o low) };
   };
 }
+
+pub same_tables :
+    {E : Type 0} (r : Result (List ℕ) E) (old new : List (List ℕ)) (marks : List ℕ) (P : ℕ → List ℕ → Bool → Type 0) → ((o : ℕ) → o ≤ 7 → KeysAre marks (P o))
+    → IfOk r (λ row. IsSameRow old new row marks) → IfOk r (λ row. Makes old new row P)
+same_tables r old new marks P are h =
+    IfOk-weaker r (λ row. IsSameRow old new row marks) (λ row. Makes old new row P) (λ row is. same_row old new row marks P are is) h
 
 pub makes_same : (old new : List (List ℕ)) (row : List ℕ) (at : ℕ) (P : ℕ → List ℕ → Bool → Type 0) → length row ≡ 8 → ((o : ℕ) → o ≤ 7 → get_or row o 0 ≡ at) → IsMore old new → ((o : ℕ) → o ≤ 7 → HasTable new at (P o)) → Makes old new row P
 makes_same old new row at P eight same more has = record {

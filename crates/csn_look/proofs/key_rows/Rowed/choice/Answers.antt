@@ -1,8 +1,6 @@
-use Rattle.std.proofs.Common.{List, ℕ, arith}
-use Rattle.std.proofs.lemmas.Result.{IfOk-weaker}
+use Rattle.std.proofs.Common.{arith}
 use Rattle.csn_desc.specs.declared.node.Node.TheVariants.{Choice}
 use Rattle.csn_look.specs.Keys.{NodeKeys, InKeys}
-use Rattle.csn_look.specs.KeyRows.{IsSameRow, Makes}
 use Rattle.csn_look.proofs.Tables.RowFacts.{row_next, kept_table, same_tables, row_stays, row_all}
 use Rattle.csn_look.proofs.Tables.RowKeys.{choice_alike}
 use Rattle.csn_look.proofs.key_rows.Rowed.choice.Goals as goal
@@ -10,13 +8,8 @@ use Rattle.csn_look.proofs.key_rows.Rowed.choice.Goals as goal
 pub returns-then-are_same : goal.returns-then-are_same
 returns-then-are_same c =
     let d = c.args.self.now.desc.now in
-    let old = c.args.tables.now in
-    let new = c.same_row.new.tables in
-    let marks = c.in_ok-table.table in
-    let keys = NodeKeys d 12 (Choice c.args.parts.now) in
-    IfOk-weaker c.same_row.result (λ (row : List ℕ). IsSameRow old new row marks) (λ (row : List ℕ). Makes old new row keys)
-    (λ row h. same_tables old new row marks keys (choice_alike d c.args.parts.now marks (c.are_same.ensures c.if-are_same.true) c.in_ok-table.ensures) h)
-    c.same_row.ensures
+    let alike = choice_alike d c.args.parts.now c.in_ok-table.table (c.are_same.ensures c.if-are_same.true) c.in_ok-table.ensures in
+    same_tables c.same_row.result c.args.tables.now c.same_row.new.tables c.in_ok-table.table (NodeKeys d 12 (Choice c.args.parts.now)) alike c.same_row.ensures
 
 pub loop-octet-preserved : goal.loop-octet-preserved
 loop-octet-preserved c =
