@@ -6,6 +6,11 @@ use Rattle.std.proofs.lemmas.Option.{slice_get_within, get_or_from_slice_get}
 use Rattle.csn_cert.specs.PatternV.{PatternV}
 use Rattle.csn_certmake.specs.Patterns.{joined, continued, before_all, times_of, patterns_in, HasSame, IsRow}
 
+pub item_at : {X : Type 0} (xs : List X) (k : ℕ) → k < length xs → (x : X) × (slice_get xs k ≡ Some x)
+item_at [] k less = absurd (omega (arith, less))
+item_at (x ∷ xs) zero less = (x, refl)
+item_at (x ∷ xs) (suc k) less = item_at xs k (omega (arith, less))
+
 pub behind : {X : Type 0} (y : X) (xs : List X) (x : X) → Contains xs x → Contains (y ∷ xs) x
 behind y xs x has = (suc has.0, omega (arith, has.1), has.2)
 

@@ -22,6 +22,7 @@ use Rattle.csn_good.specs.ClaimedSets.{is_nullable, ends_at, starts_with, follow
 use Rattle.csn_good.specs.Patterns.{PartsPatterns, TimesPatterns, NodePatterns, parts_none, parts_cut, parts_whole, times_none, times_cut, times_whole, patterns_lits, patterns_field, patterns_spare, patterns_pad, patterns_null, patterns_rest, patterns_many, patterns_trunc, patterns_window, patterns_counted_field, patterns_counted_times, patterns_seq, patterns_times, patterns_choice, patterns_named}
 use Rattle.csn_good.proofs.SetArms.{reached_small}
 use Rattle.csn_certmake.specs.Claimed.{ClaimsLookAhead, IsCertificateText}
+use Rattle.csn_certmake.proofs.Members.{item_at}
 use Rattle.csn_certmake.proofs.Rising.{patterns_same, places_same}
 use Rattle.csn_certmake.proofs.OneClaim.{same_answer, IsClaimAt, claim_is, claim_same, nodes_same}
 
@@ -67,13 +68,8 @@ module _ (c e : List NodeV) where
 
 -- ---- what a certificate has
 
-node_at : {A : Type 0} (xs : List A) (i : ℕ) → i < length xs → (x : A) × (slice_get xs i ≡ Some x)
-node_at [] i less = absurd (omega (arith, less))
-node_at (x ∷ xs) zero less = (x, refl)
-node_at (x ∷ xs) (suc i) less = node_at xs i (omega (arith, less))
-
 some_at : {A : Type 0} (xs : List A) (i : ℕ) → i < length xs → is_some (slice_get xs i) ≡ true
-some_at xs i less = (let found = node_at xs i less in ap is_some found.1)
+some_at xs i less = (let found = item_at xs i less in ap is_some found.1)
 
 nodes_are : (c : List NodeV) (i : ℕ) → AllByRecursion IsNode c → IfSome (slice_get c i) IsNode
 nodes_are [] i all = tt
@@ -120,7 +116,7 @@ module _ (d : DescV) (c e : List NodeV) (is : IsDescription d) (claims : ClaimsL
   all_patterns : (left i : ℕ) → length d.nodes ≤ i + left → i < length d.nodes → (o : ℕ) → o ≤ 7 → patterns_at c i o ≡ patterns_at e i o
   all_patterns zero i room inside o low = absurd (omega (arith, room, inside))
   all_patterns (suc left) i room inside o low =
-      let n = node_at d.nodes i inside in
+      let n = item_at d.nodes i inside in
       let parts : (place p : ℕ) → slice_get (parts_of n.0) place ≡ Some p → (o : ℕ) → o ≤ 7 → patterns_at c p o ≡ patterns_at e p o =
       parts_later d i n.0 (λ (p : ℕ). (o : ℕ) → o ≤ 7 → patterns_at c p o ≡ patterns_at e p o) is n.1 (λ p above within. all_patterns left p (omega (arith, room, above)) within) in
       own_patterns i o n.0 n.1 inside low (λ place p at found small. parts place p found at small) (λ place p at found small. sym (parts place p found at small))

@@ -1,5 +1,5 @@
 -- What is claimed of what look-ahead knows is so.
-use Rattle.std.proofs.Common.{◌≡◌, ℕ, zero, suc, ◌+◌, ◌*◌, ◌<◌, ◌≤◌, List, [], ◌∷◌, length, refl, sym, subst, arith, Option, Some, None, slice_get}
+use Rattle.std.proofs.Common.{◌≡◌, ℕ, zero, suc, ◌+◌, ◌*◌, ◌<◌, ◌≤◌, List, length, refl, sym, subst, arith, Option, Some, None, slice_get}
 use Rattle.std.specs.Prelude.{IsTrue, is_some, nat_le}
 use Rattle.std.proofs.lemmas.Bool.Decides.{nat_tests}
 use Rattle.std.proofs.lemmas.Option.{slice_get_within}
@@ -19,6 +19,7 @@ use Rattle.csn_good.proofs.Digits.{digit_within}
 use Rattle.csn_good.proofs.Denoting.{both_true}
 use Rattle.csn_good.proofs.SetArms.{reached_small}
 use Rattle.csn_certmake.specs.Claimed.{ClaimsLookAhead}
+use Rattle.csn_certmake.proofs.Members.{item_at}
 
 -- ---- what claims are of
 
@@ -74,11 +75,6 @@ pub record KnownAt (d : DescV) (i o : ℕ) : Type 0 where
   pub low : o ≤ 7
   pub reached : Reached d i o
 
-node_at : (nodes : List Node) (i : ℕ) → i < length nodes → (n : Node) × (slice_get nodes i ≡ Some n)
-node_at [] i less = absurd (omega arith)
-node_at (n ∷ nodes) zero less = (n, refl)
-node_at (n ∷ nodes) (suc i) less = node_at nodes i (omega arith)
-
 module _ (d : DescV) (c : List NodeV) (claims : ClaimsLookAhead d c) where
   inside : (i : ℕ) (m : NodeV) → slice_get c i ≡ Some m → i < length d.nodes
   inside i m at = let within = slice_get_within c i m at in omega (arith, claims.number)
@@ -88,7 +84,7 @@ module _ (d : DescV) (c : List NodeV) (claims : ClaimsLookAhead d c) where
       let own = claimed_node (slice_get c i) o holds in
       let less = inside i own.0 own.1 in
       let low = reached_small c claims.certificate i o holds in
-      let n = node_at d.nodes i less in
+      let n = item_at d.nodes i less in
       record { node = n.0; there = n.1; low = low; reached = (claims.reached i o less low).0 holds }
 
   pub nullable_known : (i : ℕ) → IsTrue ((claims_of c).nullable i) → Nullable d i
