@@ -1,8 +1,8 @@
 ghost use Rattle.std.specs.Prelude.{◌≡◌, ℕ, [], ◌∷◌, ◌+◌, ◌-◌, ◌^◌, ◌<◌, ◌≤◌, ◌++◌, List, length, slice_get, Some, IfOk};
 ghost use Rattle.csn_look.specs.KeyMarks.{IsWord, place_of, has_key};
-ghost use Rattle.csn_look.specs.KeyLists.{keys_if, keys_from};
+ghost use Rattle.csn_look.specs.KeyLists.{keys_if, own_keys, keys_from};
 
-use crate::key_marks::{MARK_WORDS, STARTS, key_mark};
+use crate::key_marks::{MARK_WORDS, STARTS};
 use crate::key_table::KeyTable;
 use crate::word::{Key, MOST_WORD, PLACES, Word};
 use csn_bits::NoMemory;
@@ -44,22 +44,25 @@ impl KeySet {
     }
 }
 
-/// Lists the word with this place, where it is a key with this mark.
-fn list_key(
-    marks: &KeyTable,
-    place: usize,
-    whole: bool,
-    keys: &mut Vec<Key>,
-) -> Result<(), NoMemory>
-    requires marks { length marks.now ≡ MARK_WORDS }
+/// Lists a key, where the set has it.
+fn list_key(marks: &KeyTable, key: Key, keys: &mut Vec<Key>) -> Result<(), NoMemory>
+    ensures { IfOk result (λ done. keys.new.items ≡ keys.old.items ++ keys_if (has_key marks.now key.word key.whole) (key ∷ [])) }
+{
+    if marks.holds(&key.word, key.whole) {
+        return Ok(keys.push(key)?);
+    }
+    Ok(())
+}
+
+/// Lists the word with this place, cut and whole, where it is a key so.
+fn list_word(marks: &KeyTable, place: usize, keys: &mut Vec<Key>) -> Result<(), NoMemory>
     requires some { 0 < place }
     requires small { place < PLACES }
-    ensures { (word : List ℕ) → IsWord word → place_of word ≡ place → IfOk result (λ done. keys.new.items ≡ keys.old.items ++ keys_if (has_key marks.now word whole) (record { word = word; whole = whole } ∷ [])) }
+    ensures { (word : List ℕ) → IsWord word → place_of word ≡ place → IfOk result (λ done. keys.new.items ≡ keys.old.items ++ own_keys marks.now word) }
 {
-    if marks.is_marked(key_mark(place, whole)) {
-        let word = Word::with_place(place);
-        return Ok(keys.push(Key { word, whole })?);
-    }
+    let word = Word::with_place(place);
+    list_key(marks, Key { word, whole: false }, keys)?;
+    list_key(marks, Key { word, whole: true }, keys)?;
     Ok(())
 }
 
@@ -76,8 +79,7 @@ pub(crate) fn list_keys(
     requires small { place < 2 ^ (size + 1) }
     ensures { (word : List ℕ) → IsWord word → place_of word ≡ place → length word ≡ size → IfOk result (λ done. keys.new.items ≡ keys.old.items ++ keys_from marks.now (MOST_WORD - size) word) }
 {
-    list_key(marks, place, false, keys)?;
-    list_key(marks, place, true, keys)?;
+    list_word(marks, place, keys)?;
     if size == MOST_WORD {
         return Ok(());
     }

@@ -243,34 +243,29 @@ few_keys marks (suc n) word =
 
 -- ---- the steps of the listing
 
--- a word that is no key, and one that is
-pub key_none : (marks word : List ℕ) (whole : Bool) (items : List Key) → has_key marks word whole ≡ false → items ≡ items ++ keys_if (has_key marks word whole) (record { word = word; whole = whole } ∷ [])
-key_none marks word whole items told = sym (append-nil items) ∙ ap (λ b. items ++ keys_if b (record { word = word; whole = whole } ∷ [])) (sym told)
-
-pub key_one :
-    (marks word seen : List ℕ) (whole : Bool) (old new : List Key) → has_key marks word whole ≡ true → seen ≡ word
-    → new ≡ old ++ record { word = seen; whole = whole } ∷ [] → new ≡ old ++ keys_if (has_key marks word whole) (record { word = word; whole = whole } ∷ [])
-key_one marks word seen whole old new told same pushed =
-    let make : List ℕ → Key = λ w. record { word = w; whole = whole } in
-    pushed ∙ ap (λ w. old ++ make w ∷ []) same ∙ ap (λ b. old ++ keys_if b (make word ∷ [])) (sym told)
+-- no key more
+pub key_none : (marks : List ℕ) (key : Key) (items : List Key) → has_key marks key.word key.whole ≡ false → items ≡ items ++ keys_if (has_key marks key.word key.whole) (key ∷ [])
+key_none marks key items told = sym (append-nil items) ∙ ap (λ b. items ++ keys_if b (key ∷ [])) (sym told)
 
 pub if_ok_then : {T E : Type 0} (r : Result T E) (A B : Type 0) → (A → B) → IfOk r (λ done. A) → IfOk r (λ done. B)
 if_ok_then (Ok v) A B f h = f h
 if_ok_then (Err e) A B f h = tt
 
-own_steps : (marks word : List ℕ) (old mid new : List Key) → mid ≡ old ++ keys_if (has_key marks word false) (record { word = word; whole = false } ∷ [])
-    → new ≡ mid ++ keys_if (has_key marks word true) (record { word = word; whole = true } ∷ []) → new ≡ old ++ own_keys marks word
-own_steps marks word old mid new one two =
-    two ∙ ap (λ l. l ++ keys_if (has_key marks word true) (record { word = word; whole = true } ∷ [])) one
-    ∙ append_assoc old (keys_if (has_key marks word false) (record { word = word; whole = false } ∷ [])) (keys_if (has_key marks word true) (record { word = word; whole = true } ∷ []))
+-- a word that is seen is listed cut, and then whole
+pub listed_own :
+    (marks word seen : List ℕ) (old mid new : List Key) → seen ≡ word
+    → mid ≡ old ++ keys_if (has_key marks seen false) (record { word = seen; whole = false } ∷ [])
+    → new ≡ mid ++ keys_if (has_key marks seen true) (record { word = seen; whole = true } ∷ []) → new ≡ old ++ own_keys marks word
+listed_own marks word seen old mid new same one two =
+    two ∙ ap (λ l. l ++ keys_if (has_key marks seen true) (record { word = seen; whole = true } ∷ [])) one
+    ∙ append_assoc old (keys_if (has_key marks seen false) (record { word = seen; whole = false } ∷ [])) (keys_if (has_key marks seen true) (record { word = seen; whole = true } ∷ []))
+    ∙ ap (λ w. old ++ own_keys marks w) same
 
 -- at the end of a word, or where no key goes on
-pub listed_end : (marks word : List ℕ) (size : ℕ) (old mid new : List Key) → size ≡ 12
-    → mid ≡ old ++ keys_if (has_key marks word false) (record { word = word; whole = false } ∷ [])
-    → new ≡ mid ++ keys_if (has_key marks word true) (record { word = word; whole = true } ∷ []) → new ≡ old ++ keys_from marks (12 - size) word
-listed_end marks word size old mid new all one two =
+pub listed_end : (marks word : List ℕ) (size : ℕ) (old new : List Key) → size ≡ 12 → new ≡ old ++ own_keys marks word → new ≡ old ++ keys_from marks (12 - size) word
+listed_end marks word size old new all own =
     let none : 12 - size ≡ 0 = omega arith in
-    own_steps marks word old mid new one two ∙ ap (λ n. old ++ keys_from marks n word) (sym none)
+    own ∙ ap (λ n. old ++ keys_from marks n word) (sym none)
 
 further_keys : (marks word : List ℕ) (size : ℕ) (b : Bool) → size < 12 → is_marked marks (16384 + place_of word) ≡ b
     → keys_from marks (12 - size) word ≡ own_keys marks word ++ keys_if b (keys_from marks (12 - (size + 1)) (word ++ 0 ∷ []) ++ keys_from marks (12 - (size + 1)) (word ++ 1 ∷ []))
@@ -279,24 +274,22 @@ further_keys marks word size b small test =
     ap (λ n. keys_from marks n word) more
     ∙ ap (λ t. own_keys marks word ++ keys_if t (keys_from marks (12 - (size + 1)) (word ++ 0 ∷ []) ++ keys_from marks (12 - (size + 1)) (word ++ 1 ∷ []))) test
 
-pub listed_none : (marks word : List ℕ) (size : ℕ) (old mid new : List Key) → size < 12 → is_marked marks (16384 + place_of word) ≡ false
-    → mid ≡ old ++ keys_if (has_key marks word false) (record { word = word; whole = false } ∷ [])
-    → new ≡ mid ++ keys_if (has_key marks word true) (record { word = word; whole = true } ∷ []) → new ≡ old ++ keys_from marks (12 - size) word
-listed_none marks word size old mid new small test one two =
-    own_steps marks word old mid new one two
+pub listed_none : (marks word : List ℕ) (size : ℕ) (old new : List Key) → size < 12 → is_marked marks (16384 + place_of word) ≡ false
+    → new ≡ old ++ own_keys marks word → new ≡ old ++ keys_from marks (12 - size) word
+listed_none marks word size old new small test own =
+    own
     ∙ ap (λ l. old ++ l) (sym (append-nil (own_keys marks word)))
     ∙ ap (λ l. old ++ l) (sym (further_keys marks word size false small test))
 
-pub listed_more : (marks word : List ℕ) (size : ℕ) (old mid both zeros new : List Key) → size < 12 → is_marked marks (16384 + place_of word) ≡ true
-    → mid ≡ old ++ keys_if (has_key marks word false) (record { word = word; whole = false } ∷ [])
-    → both ≡ mid ++ keys_if (has_key marks word true) (record { word = word; whole = true } ∷ [])
+pub listed_more : (marks word : List ℕ) (size : ℕ) (old both zeros new : List Key) → size < 12 → is_marked marks (16384 + place_of word) ≡ true
+    → both ≡ old ++ own_keys marks word
     → zeros ≡ both ++ keys_from marks (12 - (size + 1)) (word ++ 0 ∷ []) → new ≡ zeros ++ keys_from marks (12 - (size + 1)) (word ++ 1 ∷ [])
     → new ≡ old ++ keys_from marks (12 - size) word
-listed_more marks word size old mid both zeros new small test one two three four =
+listed_more marks word size old both zeros new small test listed three four =
     let a = keys_from marks (12 - (size + 1)) (word ++ 0 ∷ []) in
     let b = keys_from marks (12 - (size + 1)) (word ++ 1 ∷ []) in
     let own = own_keys marks word in
-    four ∙ ap (λ l. l ++ b) three ∙ ap (λ l. l ++ a ++ b) (own_steps marks word old mid both one two)
+    four ∙ ap (λ l. l ++ b) three ∙ ap (λ l. l ++ a ++ b) listed
     ∙ joined old own a b ∙ ap (λ l. old ++ l) (sym (further_keys marks word size true small test))
   where
     joined : (old own a b : List Key) → old ++ own ++ a ++ b ≡ old ++ (own ++ (a ++ b))
