@@ -2,6 +2,7 @@
 -- another.
 use Rattle.std.proofs.Common.{◌≡◌, ◌≢◌, ℕ, suc, ◌+◌, ◌-◌, ◌*◌, ◌/◌, ◌%◌, ◌^◌, ◌<◌, ◌≤◌, ◌⊎◌, inl, inr, List, ◌++◌, length, take, drop, refl, sym, ◌∙◌, ap, subst, arith, take-append-drop}
 use Rattle.std.specs.Prelude.{slice_index_or}
+use Rattle.std.proofs.lemmas.Bool.{cases_lt}
 use Rattle.std.proofs.lemmas.Nat.{pow-add}
 use Rattle.std.proofs.Math.Seq.{take-append_seam}
 use Rattle.std.proofs.Math.Nat.{div-eq_of_lt, div-eq_of_lt-le, div-lt_iff_lt-mul, le-div_iff_mul-le, mul-le-mul_right, mod-eq_of_lt, pow-le-pow_right}
@@ -26,11 +27,8 @@ some over =
     omega (arith, least)
 
 pub stands : (place over at : ℕ) → Stands place over at
-stands place over at = by_first (either at (place * 2 ^ over))
+stands place over at = by_first (cases_lt at (place * 2 ^ over))
   where
-    either : (m n : ℕ) → (m < n) ⊎ (n ≤ m)
-    either m n = grind arith
-
     next : (place + 1) * 2 ^ over ≡ place * 2 ^ over + 2 ^ over
     next = omega arith
 
@@ -49,7 +47,7 @@ stands place over at = by_first (either at (place * 2 ^ over))
         let above : place ≤ at / 2 ^ over = omega (arith, same) in
         let most = (le-div_iff_mul-le (some over)).0 above in
         absurd (omega (arith, less, most)))
-    by_first (inr from) = by_end from (either at (place * 2 ^ over + 2 ^ over))
+    by_first (inr from) = by_end from (cases_lt at (place * 2 ^ over + 2 ^ over))
 
 -- the places of words that go on by so many bits are those of entries
 pub level_within : (width more : ℕ) (word : List ℕ) → IsWord word → length word + more ≤ width → place_of word * 2 ^ more + 2 ^ more ≤ 2 ^ (width + 1)

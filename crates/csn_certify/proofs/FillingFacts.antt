@@ -1,6 +1,7 @@
 -- How the entries of a choice are filled word by word.
 use Rattle.std.proofs.Common.{◌≡◌, ℕ, zero, suc, ◌+◌, ◌-◌, ◌<◌, ◌≤◌, ◌⊎◌, inl, inr, List, [], ◌∷◌, ◌++◌, length, take, drop, take-append-drop, refl, sym, ◌∙◌, ap, subst, arith, append_assoc, append-nil, length-append}
 use Rattle.std.specs.Prelude.{IsTrue}
+use Rattle.std.proofs.lemmas.Bool.{cases_lt}
 use Rattle.std.proofs.lemmas.List.{append_cancel_left, length-take-le}
 use Rattle.csn_bits.specs.Octets.{IsBits}
 use Rattle.csn_bits.proofs.Packing.{IsBits-append, IsBits-take}
@@ -237,11 +238,8 @@ module _ (marks word : List ℕ) where
 
   -- where the word only begins a key, and not all words of one size behind it are keys, more bits are looked at
   pub deep_room : (n : ℕ) → IsWord word → IsDeep marks word n → ¬ BeginsWithKey marks word → StartsKey marks word → ((bits : ℕ) → ¬ IsFull marks word bits) → length word < n
-  deep_room n is deep none start part = by_order (either (length word) n)
+  deep_room n is deep none start part = by_order (cases_lt (length word) n)
     where
-      either : (a b : ℕ) → (a < b) ⊎ (b ≤ a)
-      either a b = grind arith
-
       by_order : (length word < n) ⊎ (n ≤ length word) → length word < n
       by_order (inl less) = less
       by_order (inr long) = let full = deep word is (begun_itself word) long none start in absurd (part full.0 full.1)

@@ -1,6 +1,7 @@
 -- The tables of all choices, one after another.
 use Rattle.std.proofs.Common.{◌≡◌, ℕ, ◌+◌, ◌*◌, ◌<◌, ◌≤◌, ◌⊎◌, inl, inr, Bool, List, ◌++◌, length, sym, ◌∙◌, ap, subst, arith, length-set, length-append, get_or-set_other, Option, Some, slice_get}
 use Rattle.std.specs.Prelude.{IsTrue, slice_set, slice_index}
+use Rattle.std.proofs.lemmas.Bool.{cases_lt}
 use Rattle.std.proofs.lemmas.Grind.{get_or-set_at}
 use Rattle.std.proofs.lemmas.Option.{slice_get_within, slice_get-get_or, get_or_from_slice_get}
 use Rattle.std.proofs.lemmas.List.{get_or_append_left}
@@ -107,14 +108,11 @@ module _ (d : DescV) where
   tables_past count more picks none have =
       record {
         size = have.size;
-        tables = λ i o parts less small at reached. elim (either (8 * i + o) count) [
+        tables = λ i o parts less small at reached. elim (cases_lt (8 * i + o) count) [
           | inl low ↦ have.tables i o parts low small at reached
           | inr high ↦ absurd (none i o parts high less small at reached)
         ];
       }
-    where
-      either : (m n : ℕ) → (m < n) ⊎ (n ≤ m)
-      either m n = grind arith
 
   -- the same tables and more of them
   has_more : (old new : PickTablesV) (more : List PickTableV) → new.tables ≡ old.tables ++ more → (i o : ℕ) (parts : List ℕ) → slice_index new.numbers (8 * i + o) ≡ slice_index old.numbers (8 * i + o) → HasTable d old i parts o → HasTable d new i parts o

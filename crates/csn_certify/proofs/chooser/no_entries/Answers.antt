@@ -1,16 +1,14 @@
 use Rattle.std.proofs.Common.{◌≡◌, ◌+◌, ◌*◌, ◌^◌, ◌%◌, ◌<◌, ◌≤◌, ◌⊎◌, inl, inr, ℕ, suc, length, ap, ◌∙◌, arith}
 use Rattle.std.proofs.Math.Nat.{pow-suc, pow-le-pow_right}
 use Rattle.std.proofs.Math.ListN.{replicate, get_or, get_or-eq_default}
+use Rattle.std.proofs.lemmas.Bool.{cases_lt}
 use Rattle.std.proofs.lemmas.List.{get_or-replicate, length-replicate}
 use Rattle.csn_look.specs.KeyMarks.{place_of}
 use Rattle.csn_certify.specs.declared.pick_table.Entry.TheVariants.{Refuse}
 use Rattle.csn_certify.proofs.chooser.no_entries.Goals as goal
 
-either : (m n : ℕ) → (m < n) ⊎ (n ≤ m)
-either m n = grind arith
-
 all_refuse : (n p : ℕ) → get_or (replicate n Refuse) p Refuse ≡ Refuse
-all_refuse n p = by_order (either p n)
+all_refuse n p = by_order (cases_lt p n)
   where
     by_order : (p < n) ⊎ (n ≤ p) → get_or (replicate n Refuse) p Refuse ≡ Refuse
     by_order (inl less) = get_or-replicate n p Refuse Refuse less
