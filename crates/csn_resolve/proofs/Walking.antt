@@ -4,6 +4,7 @@ pub mod Total
 pub mod Inversion
 pub mod GoingFacts
 pub mod WalkFacts
+pub mod WalkForms
 pub mod DepthFacts
 pub mod LeftFacts
 pub mod FirstFacts

@@ -1,4 +1,4 @@
-use Rattle.std.proofs.Common.{◌≡◌, ◌<◌, ◌+◌, max, ℕ, Bool, true, false, List, [], Ok, Some, None, take, drop, refl, sym, ◌∙◌, ap, subst, take_all, arith}
+use Rattle.std.proofs.Common.{◌≡◌, ◌<◌, ◌+◌, max, ℕ, Bool, true, false, List, [], ◌++◌, Ok, Some, None, take, drop, refl, sym, ◌∙◌, ap, subst, take_all, arith}
 use Rattle.std.proofs.lemmas.List.{drop_all}
 use Rattle.csn_grammar.specs.ExprV.{ExprV, BranchV, expr, power, both, exprs_of, branches_of}
 use Rattle.csn_grammar.specs.ExprCode.{expr_size, list_size, branch_list_size}
@@ -8,114 +8,73 @@ use Rattle.csn_resolve.specs.Gives.{start_of}
 use Rattle.csn_resolve.specs.Walk.{is_among, entering, node_at, turn_begun}
 use Rattle.csn_resolve.specs.Going.{way, stopped, LeafGoes}
 use Rattle.csn_resolve.specs.Views.{around_view, entered_view, seen_view, width_view, tail_view, end_view}
-use Rattle.csn_resolve.proofs.Basics.Parts.{item_size, branch_size_of, take_get, take_short, get_within}
+use Rattle.csn_resolve.proofs.Basics.Parts.{item_size, branch_size_of, take_short, get_within}
 use Rattle.csn_resolve.proofs.Walking.DepthFacts.{in_deepest, deeper, entered}
-use Rattle.csn_resolve.proofs.Naming.ViewFacts.{known, frame-more}
+use Rattle.csn_resolve.proofs.Naming.ViewFacts.{known}
 use Rattle.csn_resolve.proofs.Walking.GoingFacts.{exit-stops, stops-same, stops-in, stops-first, stops-later, stops-second, stops-third, goes-same, goes-after, goes-on, goes-third, way-on, way-third, refused-after}
-use Rattle.csn_resolve.proofs.Walking.Inversion.{lits-steps, null-steps, bit-steps, octet-steps, labelled-steps, group-steps, seq-steps, choice-steps, cut-steps, sends-steps, built-in-steps, name-steps, undefined-steps, recursive-steps, rule-steps, power-steps, both-steps, window-steps, window-behind-steps, no-window-steps, items-end-steps, items-next-steps, branches-end-steps, branches-next-steps, as-form, walk-in, branches-in, items-like, branches-as, count-at, tail-steps-at, power-stop, power-leaf, power-part}
-use Rattle.csn_resolve.proofs.Walking.WalkFacts.{behind-in, putting-in, items-at, branches-at, branch-left-as}
+use Rattle.csn_resolve.proofs.Walking.Inversion.{lits-steps, null-steps, bit-steps, octet-steps, labelled-steps, group-steps, seq-steps, choice-steps, cut-steps, sends-steps, built-in-steps, name-steps, undefined-steps, recursive-steps, rule-steps, power-steps, both-steps, window-behind-steps, no-window-steps, items-end-steps, branches-end-steps, as-form, walk-in, branches-in, items-like, branches-as, count-at, tail-steps-at, power-stop, power-leaf, power-part}
+use Rattle.csn_resolve.proofs.Walking.WalkFacts.{putting-in}
+use Rattle.csn_resolve.proofs.Walking.WalkForms.{leaf-goes, front-stops, inside-goes, window-at, item-next, branch-next}
 use Rattle.csn_resolve.proofs.walker.Walker.+walk.Goals as goal
 
 pub walk-returns-in-Lits : goal.walk-returns-in-Lits
-walk-returns-in-Lits t c =
-    λ steps h.
-    let is = known c.args.x.now c.x.inside.span c.x.inside.form _ c.x.view_is c.in-Lits.is in
-    goes-same c.args.begun.nodes steps (node_at (around_view c.args.self.now.reading c.args.around) c.x.inside.span.start) c.begin.result (lits-steps c.args.self.now.names.now c.args.self.now.reading (as-form c.args.self.now.names.now c.args.self.now.reading is h)) c.begin.ensures.steps
+walk-returns-in-Lits t c = leaf-goes c.args.self.now.names.now c.args.self.now.reading (around_view c.args.self.now.reading c.args.around) c.args.x.now c.args.begun.nodes c.begin.result (known c.args.x.now c.x.inside.span c.x.inside.form _ c.x.view_is c.in-Lits.is) (λ steps walk. lits-steps c.args.self.now.names.now c.args.self.now.reading walk) c.begin.ensures.steps
 
 pub walk-returns-in-Null : goal.walk-returns-in-Null
-walk-returns-in-Null t c =
-    λ steps h.
-    let is = known c.args.x.now c.x.inside.span c.x.inside.form _ c.x.view_is c.in-Null.is in
-    goes-same c.args.begun.nodes steps (node_at (around_view c.args.self.now.reading c.args.around) c.x.inside.span.start) c.begin-in-Null.result (null-steps c.args.self.now.names.now c.args.self.now.reading (as-form c.args.self.now.names.now c.args.self.now.reading is h)) c.begin-in-Null.ensures.steps
+walk-returns-in-Null t c = leaf-goes c.args.self.now.names.now c.args.self.now.reading (around_view c.args.self.now.reading c.args.around) c.args.x.now c.args.begun.nodes c.begin-in-Null.result (known c.args.x.now c.x.inside.span c.x.inside.form _ c.x.view_is c.in-Null.is) (λ steps walk. null-steps c.args.self.now.names.now c.args.self.now.reading walk) c.begin-in-Null.ensures.steps
 
 pub walk-returns-in-Bit : goal.walk-returns-in-Bit
-walk-returns-in-Bit t c =
-    λ steps h.
-    let is = known c.args.x.now c.x.inside.span c.x.inside.form _ c.x.view_is c.in-Bit.is in
-    goes-same c.args.begun.nodes steps (node_at (around_view c.args.self.now.reading c.args.around) c.x.inside.span.start) c.begin-in-Bit.result (bit-steps c.args.self.now.names.now c.args.self.now.reading (as-form c.args.self.now.names.now c.args.self.now.reading is h)) c.begin-in-Bit.ensures.steps
+walk-returns-in-Bit t c = leaf-goes c.args.self.now.names.now c.args.self.now.reading (around_view c.args.self.now.reading c.args.around) c.args.x.now c.args.begun.nodes c.begin-in-Bit.result (known c.args.x.now c.x.inside.span c.x.inside.form _ c.x.view_is c.in-Bit.is) (λ steps walk. bit-steps c.args.self.now.names.now c.args.self.now.reading walk) c.begin-in-Bit.ensures.steps
 
 pub walk-returns-in-Octet : goal.walk-returns-in-Octet
-walk-returns-in-Octet t c =
-    λ steps h.
-    let is = known c.args.x.now c.x.inside.span c.x.inside.form _ c.x.view_is c.in-Octet.is in
-    goes-same c.args.begun.nodes steps (node_at (around_view c.args.self.now.reading c.args.around) c.x.inside.span.start) c.begin-in-Octet.result (octet-steps c.args.self.now.names.now c.args.self.now.reading (as-form c.args.self.now.names.now c.args.self.now.reading is h)) c.begin-in-Octet.ensures.steps
+walk-returns-in-Octet t c = leaf-goes c.args.self.now.names.now c.args.self.now.reading (around_view c.args.self.now.reading c.args.around) c.args.x.now c.args.begun.nodes c.begin-in-Octet.result (known c.args.x.now c.x.inside.span c.x.inside.form _ c.x.view_is c.in-Octet.is) (λ steps walk. octet-steps c.args.self.now.names.now c.args.self.now.reading walk) c.begin-in-Octet.ensures.steps
 
 pub walk-returns-in_err-begun-in-Labelled : goal.walk-returns-in_err-begun-in-Labelled
-walk-returns-in_err-begun-in-Labelled t c =
-    λ steps h.
-    let is = known c.args.x.now c.x.inside.span c.x.inside.form _ c.x.view_is c.in-Labelled.is in
-    let parts = labelled-steps c.args.self.now.names.now c.args.self.now.reading (as-form c.args.self.now.names.now c.args.self.now.reading is h) in
-    exit-stops c.args.begun.nodes steps _ c.from_residual.result c.from_residual.ensures.1 (stops-in c.args.begun.nodes (node_at (around_view c.args.self.now.reading c.args.around) c.x.inside.span.start) parts.0 steps _ parts.2 c.in_err-begun-in-Labelled.ensures.steps)
+walk-returns-in_err-begun-in-Labelled t c = front-stops c.args.self.now.names.now c.args.self.now.reading (around_view c.args.self.now.reading c.args.around) c.args.x.now (node_at (around_view c.args.self.now.reading c.args.around) c.x.inside.span.start) c.args.begun.nodes _ c.from_residual.result (known c.args.x.now c.x.inside.span c.x.inside.form _ c.x.view_is c.in-Labelled.is) (λ steps walk. let parts = labelled-steps c.args.self.now.names.now c.args.self.now.reading walk in (parts.0, parts.2)) c.from_residual.ensures.1 c.in_err-begun-in-Labelled.ensures.steps
 
 pub walk-returns-in_err-begun-in-Seq : goal.walk-returns-in_err-begun-in-Seq
-walk-returns-in_err-begun-in-Seq t c =
-    λ steps h.
-    let is = known c.args.x.now c.x.inside.span c.x.inside.form _ c.x.view_is c.in-Seq.is in
-    let parts = seq-steps c.args.self.now.names.now c.args.self.now.reading (as-form c.args.self.now.names.now c.args.self.now.reading is h) in
-    exit-stops c.args.begun.nodes steps _ c.from_residual-in_err-begun-in-Seq.result c.from_residual-in_err-begun-in-Seq.ensures.1 (stops-in c.args.begun.nodes (node_at (around_view c.args.self.now.reading c.args.around) c.x.inside.span.start) parts.0 steps _ parts.2 c.in_err-begun-in-Seq.ensures.steps)
+walk-returns-in_err-begun-in-Seq t c = front-stops c.args.self.now.names.now c.args.self.now.reading (around_view c.args.self.now.reading c.args.around) c.args.x.now (node_at (around_view c.args.self.now.reading c.args.around) c.x.inside.span.start) c.args.begun.nodes _ c.from_residual-in_err-begun-in-Seq.result (known c.args.x.now c.x.inside.span c.x.inside.form _ c.x.view_is c.in-Seq.is) (λ steps walk. let parts = seq-steps c.args.self.now.names.now c.args.self.now.reading walk in (parts.0, parts.2)) c.from_residual-in_err-begun-in-Seq.ensures.1 c.in_err-begun-in-Seq.ensures.steps
 
 pub walk-returns-in_err-begun-in-Choice : goal.walk-returns-in_err-begun-in-Choice
-walk-returns-in_err-begun-in-Choice t c =
-    λ steps h.
-    let is = known c.args.x.now c.x.inside.span c.x.inside.form _ c.x.view_is c.in-Choice.is in
-    let parts = choice-steps c.args.self.now.names.now c.args.self.now.reading (as-form c.args.self.now.names.now c.args.self.now.reading is h) in
-    exit-stops c.args.begun.nodes steps _ c.from_residual-in_err-begun-in-Choice.result c.from_residual-in_err-begun-in-Choice.ensures.1 (stops-in c.args.begun.nodes (node_at (around_view c.args.self.now.reading c.args.around) c.x.inside.span.start) parts.0 steps _ parts.2 c.in_err-begun-in-Choice.ensures.steps)
+walk-returns-in_err-begun-in-Choice t c = front-stops c.args.self.now.names.now c.args.self.now.reading (around_view c.args.self.now.reading c.args.around) c.args.x.now (node_at (around_view c.args.self.now.reading c.args.around) c.x.inside.span.start) c.args.begun.nodes _ c.from_residual-in_err-begun-in-Choice.result (known c.args.x.now c.x.inside.span c.x.inside.form _ c.x.view_is c.in-Choice.is) (λ steps walk. let parts = choice-steps c.args.self.now.names.now c.args.self.now.reading walk in (parts.0, parts.2)) c.from_residual-in_err-begun-in-Choice.ensures.1 c.in_err-begun-in-Choice.ensures.steps
 
 pub walk-returns-in_err-begun-in-Cut : goal.walk-returns-in_err-begun-in-Cut
-walk-returns-in_err-begun-in-Cut t c =
-    λ steps h.
-    let is = known c.args.x.now c.x.inside.span c.x.inside.form _ c.x.view_is c.in-Cut.is in
-    let parts = cut-steps c.args.self.now.names.now c.args.self.now.reading (as-form c.args.self.now.names.now c.args.self.now.reading is h) in
-    exit-stops c.args.begun.nodes steps _ c.from_residual-in_err-begun-in-Cut.result c.from_residual-in_err-begun-in-Cut.ensures.1 (stops-in c.args.begun.nodes (node_at (around_view c.args.self.now.reading c.args.around) c.x.inside.span.start) parts.0 steps _ parts.2 c.in_err-begun-in-Cut.ensures.steps)
+walk-returns-in_err-begun-in-Cut t c = front-stops c.args.self.now.names.now c.args.self.now.reading (around_view c.args.self.now.reading c.args.around) c.args.x.now (node_at (around_view c.args.self.now.reading c.args.around) c.x.inside.span.start) c.args.begun.nodes _ c.from_residual-in_err-begun-in-Cut.result (known c.args.x.now c.x.inside.span c.x.inside.form _ c.x.view_is c.in-Cut.is) (λ steps walk. let parts = cut-steps c.args.self.now.names.now c.args.self.now.reading walk in (parts.0, parts.2)) c.from_residual-in_err-begun-in-Cut.ensures.1 c.in_err-begun-in-Cut.ensures.steps
 
 pub walk-returns-in_err-enter-in-Group : goal.walk-returns-in_err-enter-in-Group
-walk-returns-in_err-enter-in-Group t c =
-    λ steps h.
-    let is = known c.args.x.now c.x.inside.span c.x.inside.form _ c.x.view_is c.in-Group.is in
-    let parts = group-steps c.args.self.now.names.now c.args.self.now.reading (as-form c.args.self.now.names.now c.args.self.now.reading is h) in
-    exit-stops c.args.begun.nodes steps _ c.from_residual-in_err-enter-in-Group.result c.from_residual-in_err-enter-in-Group.ensures.1 (stops-in c.args.begun.nodes (entering (around_view c.args.self.now.reading c.args.around) c.x.inside.span.start) parts.0 steps _ parts.2 (c.in_err-enter-in-Group.ensures.steps c.args.begun.nodes))
+walk-returns-in_err-enter-in-Group t c = front-stops c.args.self.now.names.now c.args.self.now.reading (around_view c.args.self.now.reading c.args.around) c.args.x.now (entering (around_view c.args.self.now.reading c.args.around) c.x.inside.span.start) c.args.begun.nodes _ c.from_residual-in_err-enter-in-Group.result (known c.args.x.now c.x.inside.span c.x.inside.form _ c.x.view_is c.in-Group.is) (λ steps walk. let parts = group-steps c.args.self.now.names.now c.args.self.now.reading walk in (parts.0, parts.2)) c.from_residual-in_err-enter-in-Group.ensures.1 (c.in_err-enter-in-Group.ensures.steps c.args.begun.nodes)
 
 pub walk-returns-in_ok-begun-in-Labelled : goal.walk-returns-in_ok-begun-in-Labelled
 walk-returns-in_ok-begun-in-Labelled t c =
-    λ steps h.
-    let is = known c.args.x.now c.x.inside.span c.x.inside.form _ c.x.view_is c.in-Labelled.is in
-    let parts = labelled-steps c.args.self.now.names.now c.args.self.now.reading (as-form c.args.self.now.names.now c.args.self.now.reading is h) in
-    let inner = as-form c.args.self.now.names.now c.args.self.now.reading (sym c.deref.ensures) (walk-in c.args.self.now.names.now c.args.self.now.reading (c.inside.ensures.around c.args.self.now.reading) parts.1) in
-    goes-after c.args.begun.nodes c.in_ok-begun-in-Labelled.begun.nodes (node_at (around_view c.args.self.now.reading c.args.around) c.x.inside.span.start) parts.0 steps c.walk.result parts.2 c.in_ok-begun-in-Labelled.ensures.steps (c.walk.ensures parts.0 inner)
+    inside-goes c.args.self.now.names.now c.args.self.now.reading (around_view c.args.self.now.reading c.args.around) c.args.x.now (node_at (around_view c.args.self.now.reading c.args.around) c.x.inside.span.start) c.args.begun.nodes c.in_ok-begun-in-Labelled.begun.nodes c.walk.result (known c.args.x.now c.x.inside.span c.x.inside.form _ c.x.view_is c.in-Labelled.is)
+    (λ steps walk. let parts = labelled-steps c.args.self.now.names.now c.args.self.now.reading walk in (parts.0, parts.2, c.walk.ensures parts.0 (as-form c.args.self.now.names.now c.args.self.now.reading (sym c.deref.ensures) (walk-in c.args.self.now.names.now c.args.self.now.reading (c.inside.ensures.around c.args.self.now.reading) parts.1))))
+    c.in_ok-begun-in-Labelled.ensures.steps
 
 pub walk-returns-in_ok-enter-in-Group : goal.walk-returns-in_ok-enter-in-Group
 walk-returns-in_ok-enter-in-Group t c =
-    λ steps h.
-    let is = known c.args.x.now c.x.inside.span c.x.inside.form _ c.x.view_is c.in-Group.is in
-    let parts = group-steps c.args.self.now.names.now c.args.self.now.reading (as-form c.args.self.now.names.now c.args.self.now.reading is h) in
-    let inner = as-form c.args.self.now.names.now c.args.self.now.reading (sym c.deref-in-Group.ensures) (walk-in c.args.self.now.names.now c.args.self.now.reading (c.inside-in-Group.ensures.around c.args.self.now.reading) parts.1) in
-    goes-after c.args.begun.nodes c.args.begun.nodes (entering (around_view c.args.self.now.reading c.args.around) c.x.inside.span.start) parts.0 steps c.walk-in-Group.result parts.2 (c.in_ok-enter-in-Group.ensures.steps c.args.begun.nodes) (c.walk-in-Group.ensures parts.0 inner)
+    inside-goes c.args.self.now.names.now c.args.self.now.reading (around_view c.args.self.now.reading c.args.around) c.args.x.now (entering (around_view c.args.self.now.reading c.args.around) c.x.inside.span.start) c.args.begun.nodes c.args.begun.nodes c.walk-in-Group.result (known c.args.x.now c.x.inside.span c.x.inside.form _ c.x.view_is c.in-Group.is)
+    (λ steps walk. let parts = group-steps c.args.self.now.names.now c.args.self.now.reading walk in (parts.0, parts.2, c.walk-in-Group.ensures parts.0 (as-form c.args.self.now.names.now c.args.self.now.reading (sym c.deref-in-Group.ensures) (walk-in c.args.self.now.names.now c.args.self.now.reading (c.inside-in-Group.ensures.around c.args.self.now.reading) parts.1))))
+    (c.in_ok-enter-in-Group.ensures.steps c.args.begun.nodes)
 
 pub walk-returns-in_ok-begun-in-Seq : goal.walk-returns-in_ok-begun-in-Seq
 walk-returns-in_ok-begun-in-Seq t c =
-    λ steps h.
-    let is = known c.args.x.now c.x.inside.span c.x.inside.form _ c.x.view_is c.in-Seq.is in
-    let parts = seq-steps c.args.self.now.names.now c.args.self.now.reading (as-form c.args.self.now.names.now c.args.self.now.reading is h) in
     let all : c.in-Seq.items ≡ take c.len.result c.in-Seq.items = sym (take_all c.len.result c.in-Seq.items (omega (arith, c.len.ensures.len))) in
-    let inner = items-like c.args.self.now.names.now c.args.self.now.reading (c.inside-in-Seq.ensures.around c.args.self.now.reading) refl (ap exprs_of all) parts.1 in
-    goes-after c.args.begun.nodes c.in_ok-begun-in-Seq.begun.nodes (node_at (around_view c.args.self.now.reading c.args.around) c.x.inside.span.start) parts.0 steps c.walk_items.result parts.2 c.in_ok-begun-in-Seq.ensures.steps (c.walk_items.ensures parts.0 inner)
+    inside-goes c.args.self.now.names.now c.args.self.now.reading (around_view c.args.self.now.reading c.args.around) c.args.x.now (node_at (around_view c.args.self.now.reading c.args.around) c.x.inside.span.start) c.args.begun.nodes c.in_ok-begun-in-Seq.begun.nodes c.walk_items.result (known c.args.x.now c.x.inside.span c.x.inside.form _ c.x.view_is c.in-Seq.is)
+    (λ steps walk. let parts = seq-steps c.args.self.now.names.now c.args.self.now.reading walk in (parts.0, parts.2, c.walk_items.ensures parts.0 (items-like c.args.self.now.names.now c.args.self.now.reading (c.inside-in-Seq.ensures.around c.args.self.now.reading) refl (ap exprs_of all) parts.1)))
+    c.in_ok-begun-in-Seq.ensures.steps
 
 pub walk-returns-in_ok-begun-in-Choice : goal.walk-returns-in_ok-begun-in-Choice
 walk-returns-in_ok-begun-in-Choice t c =
-    λ steps h.
-    let is = known c.args.x.now c.x.inside.span c.x.inside.form _ c.x.view_is c.in-Choice.is in
-    let parts = choice-steps c.args.self.now.names.now c.args.self.now.reading (as-form c.args.self.now.names.now c.args.self.now.reading is h) in
-    let inner = branches-in c.args.self.now.names.now c.args.self.now.reading (c.inside-in-Choice.ensures.around c.args.self.now.reading) parts.1 in
-    goes-after c.args.begun.nodes c.in_ok-begun-in-Choice.begun.nodes (node_at (around_view c.args.self.now.reading c.args.around) c.x.inside.span.start) parts.0 steps c.walk_branches.result parts.2 c.in_ok-begun-in-Choice.ensures.steps (c.walk_branches.ensures parts.0 inner)
+    inside-goes c.args.self.now.names.now c.args.self.now.reading (around_view c.args.self.now.reading c.args.around) c.args.x.now (node_at (around_view c.args.self.now.reading c.args.around) c.x.inside.span.start) c.args.begun.nodes c.in_ok-begun-in-Choice.begun.nodes c.walk_branches.result (known c.args.x.now c.x.inside.span c.x.inside.form _ c.x.view_is c.in-Choice.is)
+    (λ steps walk. let parts = choice-steps c.args.self.now.names.now c.args.self.now.reading walk in (parts.0, parts.2, c.walk_branches.ensures parts.0 (branches-in c.args.self.now.names.now c.args.self.now.reading (c.inside-in-Choice.ensures.around c.args.self.now.reading) parts.1)))
+    c.in_ok-begun-in-Choice.ensures.steps
 
 pub walk-returns-in_ok-begun-in-Cut : goal.walk-returns-in_ok-begun-in-Cut
 walk-returns-in_ok-begun-in-Cut t c =
-    λ steps h.
-    let is = known c.args.x.now c.x.inside.span c.x.inside.form _ c.x.view_is c.in-Cut.is in
-    let parts = cut-steps c.args.self.now.names.now c.args.self.now.reading (as-form c.args.self.now.names.now c.args.self.now.reading is h) in
     let all : c.in-Cut.items ≡ take c.len-in-Cut.result c.in-Cut.items = sym (take_all c.len-in-Cut.result c.in-Cut.items (omega (arith, c.len-in-Cut.ensures.len))) in
-    let inner = items-like c.args.self.now.names.now c.args.self.now.reading (c.inside-in-Cut.ensures.around c.args.self.now.reading) refl (ap exprs_of all) parts.1 in
-    goes-after c.args.begun.nodes c.in_ok-begun-in-Cut.begun.nodes (node_at (around_view c.args.self.now.reading c.args.around) c.x.inside.span.start) parts.0 steps c.walk_items-in-Cut.result parts.2 c.in_ok-begun-in-Cut.ensures.steps (c.walk_items-in-Cut.ensures parts.0 inner)
+    inside-goes c.args.self.now.names.now c.args.self.now.reading (around_view c.args.self.now.reading c.args.around) c.args.x.now (node_at (around_view c.args.self.now.reading c.args.around) c.x.inside.span.start) c.args.begun.nodes c.in_ok-begun-in-Cut.begun.nodes c.walk_items-in-Cut.result (known c.args.x.now c.x.inside.span c.x.inside.form _ c.x.view_is c.in-Cut.is)
+    (λ steps walk. let parts = cut-steps c.args.self.now.names.now c.args.self.now.reading walk in (parts.0, parts.2, c.walk_items-in-Cut.ensures parts.0 (items-like c.args.self.now.names.now c.args.self.now.reading (c.inside-in-Cut.ensures.around c.args.self.now.reading) refl (ap exprs_of all) parts.1)))
+    c.in_ok-begun-in-Cut.ensures.steps
 
 pub walk-returns-in_err-begun-in-Sends : goal.walk-returns-in_err-begun-in-Sends
 walk-returns-in_err-begun-in-Sends t c =
@@ -198,10 +157,7 @@ walk-walk_both-requires t c =
     (omega (arith, size, left, right, c.decreases), omega (arith, size, left, right, c.requires))
 
 pub walk-returns-in-Name : goal.walk-returns-in-Name
-walk-returns-in-Name t c =
-    λ steps h.
-    let is = known c.args.x.now c.x.inside.span c.x.inside.form _ c.x.view_is c.in-Name.is in
-    c.walk_name.ensures c.x.inside.span.end steps (as-form c.args.self.now.names.now c.args.self.now.reading is h)
+walk-returns-in-Name t c = λ steps h. c.walk_name.ensures c.x.inside.span.end steps (as-form c.args.self.now.names.now c.args.self.now.reading (known c.args.x.now c.x.inside.span c.x.inside.form _ c.x.view_is c.in-Name.is) h)
 
 pub walk-returns-in-Power : goal.walk-returns-in-Power
 walk-returns-in-Power t c =
@@ -233,27 +189,22 @@ walk_power-walk-requires t c =
     rw c.inside.ensures.depth (omega (arith, less, c.decreases), omega (arith, c.requires))
 
 pub walk_both-returns-in_err-begun : goal.walk_both-returns-in_err-begun
-walk_both-returns-in_err-begun t c =
-    λ end steps h.
-    let parts = both-steps c.args.self.now.names.now c.args.self.now.reading h in
-    exit-stops c.args.begun.nodes steps _ c.from_residual.result c.from_residual.ensures.1 (stops-in c.args.begun.nodes (node_at (around_view c.args.self.now.reading c.args.around) c.args.place) parts.0 steps _ parts.1 c.in_err-begun.ensures.steps)
+walk_both-returns-in_err-begun t c = λ end. front-stops c.args.self.now.names.now c.args.self.now.reading (around_view c.args.self.now.reading c.args.around) (expr c.args.place end (both c.args.left.now c.args.right.now)) (node_at (around_view c.args.self.now.reading c.args.around) c.args.place) c.args.begun.nodes _ c.from_residual.result refl (λ steps walk. both-steps c.args.self.now.names.now c.args.self.now.reading walk) c.from_residual.ensures.1 c.in_err-begun.ensures.steps
 
 pub walk_both-returns-in_err-check_width : goal.walk_both-returns-in_err-check_width
 walk_both-returns-in_err-check_width t c =
     λ end steps h.
     let begins : start_of c.args.left.now ≡ c.left.inside.span.start = sym (ap start_of c.left.view_is) in
-    let parts = window-steps c.args.self.now.names.now c.args.self.now.reading (width_view c.in-Some.width) (sym c.in-Some.ensures) h in
-    let counts = count-at c.args.self.now.names.now c.args.self.now.reading begins parts.2 in
-    exit-stops c.args.begun.nodes steps _ c.from_residual-in_err-check_width.result c.from_residual-in_err-check_width.ensures.1 (stops-second c.args.begun.nodes c.in_ok-begun.begun.nodes (node_at (around_view c.args.self.now.reading c.args.around) c.args.place) parts.0 parts.1 steps _ parts.4 c.in_ok-begun.ensures.steps (c.in_err-check_width.ensures parts.0 counts c.in_ok-begun.begun.nodes))
+    let parts = window-at c.args.self.now.names.now c.args.self.now.reading (width_view c.in-Some.width) c.left.inside.span.start begins (sym c.in-Some.ensures) h in
+    exit-stops c.args.begun.nodes steps _ c.from_residual-in_err-check_width.result c.from_residual-in_err-check_width.ensures.1 (stops-second c.args.begun.nodes c.in_ok-begun.begun.nodes (node_at (around_view c.args.self.now.reading c.args.around) c.args.place) parts.0 parts.1 steps _ parts.4 c.in_ok-begun.ensures.steps (c.in_err-check_width.ensures parts.0 parts.2 c.in_ok-begun.begun.nodes))
 
 pub walk_both-returns-in-Some : goal.walk_both-returns-in-Some
 walk_both-returns-in-Some t c =
     λ end steps h.
     let begins : start_of c.args.left.now ≡ c.left.inside.span.start = sym (ap start_of c.left.view_is) in
-    let parts = window-steps c.args.self.now.names.now c.args.self.now.reading (width_view c.in-Some.width) (sym c.in-Some.ensures) h in
-    let counts = count-at c.args.self.now.names.now c.args.self.now.reading begins parts.2 in
+    let parts = window-at c.args.self.now.names.now c.args.self.now.reading (width_view c.in-Some.width) c.left.inside.span.start begins (sym c.in-Some.ensures) h in
     let inner = walk-in c.args.self.now.names.now c.args.self.now.reading (c.inside.ensures.around c.args.self.now.reading) parts.3 in
-    goes-third c.args.begun.nodes c.in_ok-begun.begun.nodes c.in_ok-begun.begun.nodes (node_at (around_view c.args.self.now.reading c.args.around) c.args.place) parts.0 parts.1 steps c.walk.result parts.4 c.in_ok-begun.ensures.steps (c.in_ok-check_width.ensures parts.0 counts c.in_ok-begun.begun.nodes) (c.walk.ensures parts.1 inner)
+    goes-third c.args.begun.nodes c.in_ok-begun.begun.nodes c.in_ok-begun.begun.nodes (node_at (around_view c.args.self.now.reading c.args.around) c.args.place) parts.0 parts.1 steps c.walk.result parts.4 c.in_ok-begun.ensures.steps (c.in_ok-check_width.ensures parts.0 parts.2 c.in_ok-begun.begun.nodes) (c.walk.ensures parts.1 inner)
 
 pub walk_both-returns-in_err-begun-2 : goal.walk_both-returns-in_err-begun-2
 walk_both-returns-in_err-begun-2 t c =
@@ -297,28 +248,20 @@ walk_branches-walk-requires t c =
 pub walk_branches-returns-in_err-begun : goal.walk_branches-returns-in_err-begun
 walk_branches-returns-in_err-begun t c =
     λ steps h.
-    let before = c.loop-at.invariant steps h in
-    let parts = branches-next-steps c.args.self.now.names.now c.args.self.now.reading (branches-at c.args.self.now.names.now c.args.self.now.reading c.args.branches.now c.loop-at.at c.get-branch.result.now c.get-branch.ensures before.1) in
-    let first = as-form c.args.self.now.names.now c.args.self.now.reading (ap (λ (z : BranchV). z.body) (sym c.branch.view_is)) parts.3 in
-    exit-stops c.args.begun.nodes steps _ c.from_residual.result c.from_residual.ensures.1 (stops-same _ before.2 (stops-in c.loop-at.begun.nodes parts.0 _ before.0 _ parts.6 (c.in_err-begun.ensures parts.0 first)))
+    let parts = branch-next c.args.self.now.names.now c.args.self.now.reading c.args.branches.now c.loop-at.at c.get-branch.result.now _ c.loop-at.begun.nodes c.args.begun.nodes steps c.get-branch.ensures (sym c.branch.view_is) (c.loop-at.invariant steps h) in
+    exit-stops c.args.begun.nodes steps _ c.from_residual.result c.from_residual.ensures.1 (stops-same _ parts.6 (stops-first c.loop-at.begun.nodes parts.0 (parts.1 ++ parts.2) _ (c.in_err-begun.ensures parts.0 parts.3)))
 
 pub walk_branches-returns-in_err-leave_branch : goal.walk_branches-returns-in_err-leave_branch
 walk_branches-returns-in_err-leave_branch t c =
     λ steps h.
-    let before = c.loop-at.invariant steps h in
-    let parts = branches-next-steps c.args.self.now.names.now c.args.self.now.reading (branches-at c.args.self.now.names.now c.args.self.now.reading c.args.branches.now c.loop-at.at c.get-branch.result.now c.get-branch.ensures before.1) in
-    let first = as-form c.args.self.now.names.now c.args.self.now.reading (ap (λ (z : BranchV). z.body) (sym c.branch.view_is)) parts.3 in
-    let left = branch-left-as c.args.self.now.names.now c.args.self.now.reading (sym c.branch.view_is) parts.4 in
-    exit-stops c.args.begun.nodes steps _ c.from_residual-in_err-leave_branch.result c.from_residual-in_err-leave_branch.ensures.1 (stops-same _ before.2 (stops-second c.loop-at.begun.nodes c.in_ok-begun.begun.nodes parts.0 parts.1 parts.2 before.0 _ parts.6 (c.in_ok-begun.ensures parts.0 first) (c.in_err-leave_branch.ensures parts.1 left c.in_ok-begun.begun.nodes)))
+    let parts = branch-next c.args.self.now.names.now c.args.self.now.reading c.args.branches.now c.loop-at.at c.get-branch.result.now _ c.loop-at.begun.nodes c.args.begun.nodes steps c.get-branch.ensures (sym c.branch.view_is) (c.loop-at.invariant steps h) in
+    exit-stops c.args.begun.nodes steps _ c.from_residual-in_err-leave_branch.result c.from_residual-in_err-leave_branch.ensures.1 (stops-same _ parts.6 (stops-second c.loop-at.begun.nodes c.in_ok-begun.begun.nodes parts.0 parts.1 parts.2 (parts.0 ++ (parts.1 ++ parts.2)) _ refl (c.in_ok-begun.ensures parts.0 parts.3) (c.in_err-leave_branch.ensures parts.1 parts.4 c.in_ok-begun.begun.nodes)))
 
 pub walk_branches-loop-at-preserved : goal.walk_branches-loop-at-preserved
 walk_branches-loop-at-preserved t c =
     λ steps h.
-    let before = c.loop-at.invariant steps h in
-    let parts = branches-next-steps c.args.self.now.names.now c.args.self.now.reading (branches-at c.args.self.now.names.now c.args.self.now.reading c.args.branches.now c.loop-at.at c.get-branch.result.now c.get-branch.ensures before.1) in
-    let first = as-form c.args.self.now.names.now c.args.self.now.reading (ap (λ (z : BranchV). z.body) (sym c.branch.view_is)) parts.3 in
-    let left = branch-left-as c.args.self.now.names.now c.args.self.now.reading (sym c.branch.view_is) parts.4 in
-    (parts.2, parts.5, before.2 ∙ way-third c.loop-at.begun.nodes c.in_ok-begun.begun.nodes c.in_ok-begun.begun.nodes parts.0 parts.1 parts.2 before.0 parts.6 (c.in_ok-begun.ensures parts.0 first) (c.in_ok-leave_branch.ensures parts.1 left c.in_ok-begun.begun.nodes))
+    let parts = branch-next c.args.self.now.names.now c.args.self.now.reading c.args.branches.now c.loop-at.at c.get-branch.result.now _ c.loop-at.begun.nodes c.args.begun.nodes steps c.get-branch.ensures (sym c.branch.view_is) (c.loop-at.invariant steps h) in
+    (parts.2, parts.5, parts.6 ∙ way-third c.loop-at.begun.nodes c.in_ok-begun.begun.nodes c.in_ok-begun.begun.nodes parts.0 parts.1 parts.2 (parts.0 ++ (parts.1 ++ parts.2)) refl (c.in_ok-begun.ensures parts.0 parts.3) (c.in_ok-leave_branch.ensures parts.1 parts.4 c.in_ok-begun.begun.nodes))
 
 pub walk_branches-returns : goal.walk_branches-returns
 walk_branches-returns t c =
@@ -335,29 +278,20 @@ walk_items-walk-requires t c =
 pub walk_items-returns-in_err-begun : goal.walk_items-returns-in_err-begun
 walk_items-returns-in_err-begun t c =
     λ steps h.
-    let before = c.loop-at.invariant steps h in
-    let few : c.loop-at.at < c.args.count = c.loop-at-test.true in
-    let parts = items-next-steps c.args.self.now.names.now c.args.self.now.reading (items-at c.args.self.now.names.now c.args.self.now.reading (take c.args.count c.args.items.now) c.loop-at.at c.get-item.result.now (take_get c.args.items.now c.args.count c.loop-at.at c.get-item.result.now few c.get-item.ensures) before.1) in
-    let first = walk-in c.args.self.now.names.now c.args.self.now.reading (c.behind.ensures.around c.args.self.now.reading) (behind-in c.args.self.now.names.now c.args.self.now.reading c.args.around c.args.items c.loop-at.at parts.3) in
-    exit-stops c.args.begun.nodes steps _ c.from_residual.result c.from_residual.ensures.1 (stops-same _ before.2 (stops-in c.loop-at.begun.nodes parts.0 _ before.0 _ parts.6 (c.in_err-begun.ensures parts.0 first)))
+    let parts = item-next c.args.self.now.names.now c.args.self.now.reading c.args.around c.args.items c.args.count c.loop-at.at c.get-item.result.now (around_view c.args.self.now.reading c.behind.result) c.loop-at.begun.nodes c.args.begun.nodes steps (c.behind.ensures.around c.args.self.now.reading) c.loop-at-test.true c.get-item.ensures (c.loop-at.invariant steps h) in
+    exit-stops c.args.begun.nodes steps _ c.from_residual.result c.from_residual.ensures.1 (stops-same _ parts.6 (stops-first c.loop-at.begun.nodes parts.0 (parts.1 ++ parts.2) _ (c.in_err-begun.ensures parts.0 parts.3)))
 
 pub walk_items-returns-in_err-leave_item : goal.walk_items-returns-in_err-leave_item
 walk_items-returns-in_err-leave_item t c =
     λ steps h.
-    let before = c.loop-at.invariant steps h in
-    let few : c.loop-at.at < c.args.count = c.loop-at-test.true in
-    let parts = items-next-steps c.args.self.now.names.now c.args.self.now.reading (items-at c.args.self.now.names.now c.args.self.now.reading (take c.args.count c.args.items.now) c.loop-at.at c.get-item.result.now (take_get c.args.items.now c.args.count c.loop-at.at c.get-item.result.now few c.get-item.ensures) before.1) in
-    let first = walk-in c.args.self.now.names.now c.args.self.now.reading (c.behind.ensures.around c.args.self.now.reading) (behind-in c.args.self.now.names.now c.args.self.now.reading c.args.around c.args.items c.loop-at.at parts.3) in
-    exit-stops c.args.begun.nodes steps _ c.from_residual-in_err-leave_item.result c.from_residual-in_err-leave_item.ensures.1 (stops-same _ before.2 (stops-second c.loop-at.begun.nodes c.in_ok-begun.begun.nodes parts.0 parts.1 parts.2 before.0 _ parts.6 (c.in_ok-begun.ensures parts.0 first) (c.in_err-leave_item.ensures parts.1 parts.4 c.in_ok-begun.begun.nodes)))
+    let parts = item-next c.args.self.now.names.now c.args.self.now.reading c.args.around c.args.items c.args.count c.loop-at.at c.get-item.result.now (around_view c.args.self.now.reading c.behind.result) c.loop-at.begun.nodes c.args.begun.nodes steps (c.behind.ensures.around c.args.self.now.reading) c.loop-at-test.true c.get-item.ensures (c.loop-at.invariant steps h) in
+    exit-stops c.args.begun.nodes steps _ c.from_residual-in_err-leave_item.result c.from_residual-in_err-leave_item.ensures.1 (stops-same _ parts.6 (stops-second c.loop-at.begun.nodes c.in_ok-begun.begun.nodes parts.0 parts.1 parts.2 (parts.0 ++ (parts.1 ++ parts.2)) _ refl (c.in_ok-begun.ensures parts.0 parts.3) (c.in_err-leave_item.ensures parts.1 parts.4 c.in_ok-begun.begun.nodes)))
 
 pub walk_items-loop-at-preserved : goal.walk_items-loop-at-preserved
 walk_items-loop-at-preserved t c =
     λ steps h.
-    let before = c.loop-at.invariant steps h in
-    let few : c.loop-at.at < c.args.count = c.loop-at-test.true in
-    let parts = items-next-steps c.args.self.now.names.now c.args.self.now.reading (items-at c.args.self.now.names.now c.args.self.now.reading (take c.args.count c.args.items.now) c.loop-at.at c.get-item.result.now (take_get c.args.items.now c.args.count c.loop-at.at c.get-item.result.now few c.get-item.ensures) before.1) in
-    let first = walk-in c.args.self.now.names.now c.args.self.now.reading (c.behind.ensures.around c.args.self.now.reading) (behind-in c.args.self.now.names.now c.args.self.now.reading c.args.around c.args.items c.loop-at.at parts.3) in
-    (parts.2, items-like c.args.self.now.names.now c.args.self.now.reading refl (frame-more c.args.self.now.reading c.args.items.now c.loop-at.at c.get-item.result.now c.get-item.ensures) refl parts.5, before.2 ∙ way-third c.loop-at.begun.nodes c.in_ok-begun.begun.nodes c.in_ok-begun.begun.nodes parts.0 parts.1 parts.2 before.0 parts.6 (c.in_ok-begun.ensures parts.0 first) (c.in_ok-leave_item.ensures parts.1 parts.4 c.in_ok-begun.begun.nodes))
+    let parts = item-next c.args.self.now.names.now c.args.self.now.reading c.args.around c.args.items c.args.count c.loop-at.at c.get-item.result.now (around_view c.args.self.now.reading c.behind.result) c.loop-at.begun.nodes c.args.begun.nodes steps (c.behind.ensures.around c.args.self.now.reading) c.loop-at-test.true c.get-item.ensures (c.loop-at.invariant steps h) in
+    (parts.2, parts.5, parts.6 ∙ way-third c.loop-at.begun.nodes c.in_ok-begun.begun.nodes c.in_ok-begun.begun.nodes parts.0 parts.1 parts.2 (parts.0 ++ (parts.1 ++ parts.2)) refl (c.in_ok-begun.ensures parts.0 parts.3) (c.in_ok-leave_item.ensures parts.1 parts.4 c.in_ok-begun.begun.nodes))
 
 pub walk_items-returns : goal.walk_items-returns
 walk_items-returns t c =
@@ -412,10 +346,7 @@ walk_name-returns t c =
     goes-after c.args.begun.nodes c.args.begun.nodes (entering (around_view c.args.self.now.reading c.args.around) c.args.place) parts.0 steps c.walk_rule.result parts.2 (c.in_ok-enter.ensures.steps c.args.begun.nodes) (c.walk_rule.ensures parts.0 (putting-in c.args.self.now.names.now c.args.self.now.reading c.args.around c.bytes-4.result c.args.label.now c.bytes-4.ensures.value parts.1))
 
 pub walk_power-returns-in_err-begun : goal.walk_power-returns-in_err-begun
-walk_power-returns-in_err-begun t c =
-    λ end steps h.
-    let parts = power-steps c.args.self.now.names.now c.args.self.now.reading h in
-    exit-stops c.args.begun.nodes steps _ c.from_residual.result c.from_residual.ensures.1 (stops-in c.args.begun.nodes (node_at (around_view c.args.self.now.reading c.args.around) c.args.place) parts.0 steps _ parts.1 c.in_err-begun.ensures.steps)
+walk_power-returns-in_err-begun t c = λ end. front-stops c.args.self.now.names.now c.args.self.now.reading (around_view c.args.self.now.reading c.args.around) (expr c.args.place end (power c.args.part.now c.args.count.now)) (node_at (around_view c.args.self.now.reading c.args.around) c.args.place) c.args.begun.nodes _ c.from_residual.result refl (λ steps walk. power-steps c.args.self.now.names.now c.args.self.now.reading walk) c.from_residual.ensures.1 c.in_err-begun.ensures.steps
 
 pub walk_power-returns-in_err-is_leaf : goal.walk_power-returns-in_err-is_leaf
 walk_power-returns-in_err-is_leaf t c =
