@@ -1,4 +1,4 @@
-use Rattle.std.proofs.Common.{◌≡◌, refl}
+use Rattle.std.proofs.Common.{refl}
 use Rattle.csn_grammar.specs.declared.expr.Form.TheVariants as form
 use Rattle.csn_grammar.specs.ExprV.{sends}
 use Rattle.csn_resolve.specs.Tests.{is_narrow, form_narrow}

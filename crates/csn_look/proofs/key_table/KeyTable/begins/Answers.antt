@@ -1,4 +1,4 @@
-use Rattle.std.proofs.Common.{◌≡◌, ℕ, ◌+◌, Bool, false, List, IsTrue, ◌↔◌, sym, ◌∙◌, subst}
+use Rattle.std.proofs.Common.{◌≡◌, ℕ, ◌+◌, Bool, false, List, IsTrue, ◌↔◌, sym, subst}
 use Rattle.csn_look.specs.KeyMarks.{IsWord, is_marked, place_of, BeginsWithKey, StartsKey}
 use Rattle.csn_look.specs.KeyTables.{IsKeyTable}
 use Rattle.csn_look.proofs.Sets.Telling.{is_so, told_not}
