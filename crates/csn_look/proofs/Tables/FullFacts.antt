@@ -6,12 +6,11 @@ use Rattle.std.proofs.lemmas.Bool.Decides.{nat_tests}
 use Rattle.std.proofs.lemmas.Nat.Bits.{bit_at-lt, bit_at_not, bit_at_above}
 use Rattle.std.proofs.lemmas.Nat.{pow_pos, pow-add}
 use Rattle.std.proofs.Math.Nat.{div-lt_iff_lt-mul, mod-eq_of_lt, mul-le-mul_left, mul-le-mul_right, pow-le-pow_right}
-use Rattle.csn_bits.specs.Octets.{IsBits}
 use Rattle.csn_bits.specs.Numbers.{number_of}
 use Rattle.csn_bits.proofs.NumberFacts.{number_of-lt}
 use Rattle.csn_look.specs.KeyMarks.{IsWord, is_marked, place_of, has_key, IsKeyOf, StartsKey}
 use Rattle.csn_look.specs.KeyTables.{IsKeyTable}
-use Rattle.csn_look.specs.Full.{is_key_at, is_sought, sought_against, AreAll, IsOther, AreNoKeys, IsFull, IsFullAt}
+use Rattle.csn_look.specs.Full.{is_key_at, is_sought, sought_against, IsOther, AreNoKeys, IsFull, IsFullAt}
 use Rattle.csn_look.proofs.Basics.Below.{below_or}
 use Rattle.csn_look.proofs.Basics.Places.{place_of-append, Numbered, numbered}
 use Rattle.csn_look.proofs.Tables.KeyMarkFacts.{key_told, starts_told}

@@ -1,6 +1,4 @@
-use Rattle.std.proofs.Common.{◌≡◌, ℕ, ◌+◌, ◌*◌, ◌%◌, ◌^◌, ◌<◌, ◌≤◌, sym, ap, ◌∙◌, subst, arith}
-use Rattle.csn_look.specs.KeyMarks.{is_marked}
-use Rattle.csn_look.specs.Full.{is_key_at, AreNoKeys}
+use Rattle.std.proofs.Common.{◌+◌, ◌*◌, ◌%◌, ◌^◌, ◌≤◌, sym, ◌∙◌, arith}
 use Rattle.csn_look.proofs.Tables.FullFacts.{key_place, no_keys_next, no_keys_on}
 use Rattle.csn_look.proofs.full.first_key.Goals as goal
 

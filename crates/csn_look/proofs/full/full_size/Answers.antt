@@ -1,4 +1,4 @@
-use Rattle.std.proofs.Common.{◌≡◌, ℕ, ◌+◌, ◌-◌, ◌*◌, ◌%◌, ◌^◌, ◌<◌, ◌≤◌, true, false, List, length, sym, ap, ◌∙◌, subst, arith}
+use Rattle.std.proofs.Common.{◌≡◌, ℕ, ◌+◌, ◌-◌, ◌*◌, ◌%◌, ◌^◌, true, subst, arith}
 use Rattle.csn_look.specs.Full.{AreAll, IsOther, IsFullAt}
 use Rattle.csn_look.proofs.Tables.FullFacts.{room_at, level_at, no_other_size, no_size, not_all, some_shorter}
 use Rattle.csn_look.proofs.full.full_size.Goals as goal

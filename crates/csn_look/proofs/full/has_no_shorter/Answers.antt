@@ -1,6 +1,6 @@
-use Rattle.std.proofs.Common.{◌≡◌, ℕ, ◌+◌, ◌*◌, ◌%◌, ◌^◌, ◌<◌, ◌≤◌, ◌⊎◌, false, inl, inr, sym, ap, ◌∙◌, subst, arith}
-use Rattle.csn_look.specs.Full.{AreAll, IsOther}
-use Rattle.csn_look.proofs.Tables.FullFacts.{LevelAt, level_at}
+use Rattle.std.proofs.Common.{ℕ, ◌+◌, ◌*◌, ◌%◌, ◌^◌, false, subst, arith}
+use Rattle.csn_look.specs.Full.{IsOther}
+use Rattle.csn_look.proofs.Tables.FullFacts.{level_at}
 use Rattle.csn_look.proofs.full.has_no_shorter.Goals as goal
 
 pub overflow_add-first : goal.overflow_add-first

@@ -1,4 +1,4 @@
-use Rattle.std.proofs.Common.{◌≡◌, ℕ, ◌+◌, ◌*◌, ◌^◌, ◌<◌, ◌≤◌, false, sym, ap, ◌∙◌, subst, arith}
+use Rattle.std.proofs.Common.{◌≡◌, ℕ, ◌+◌, ◌*◌, ◌<◌, ◌≤◌, false, sym, subst, arith}
 use Rattle.csn_look.proofs.Tables.SizeFacts.{AreSizes, sizes_first, sizes_set, sizes_unset, sizes_last}
 use Rattle.csn_look.specs.KeyMarks.{is_marked}
 use Rattle.csn_look.proofs.sizes.sizes_of.Goals as goal

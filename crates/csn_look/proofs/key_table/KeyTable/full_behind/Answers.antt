@@ -1,4 +1,4 @@
-use Rattle.std.proofs.Common.{◌≡◌, ℕ, ◌+◌, ◌-◌, ◌^◌, ◌≤◌, suc, length, sym, ap, ◌∙◌, subst, arith}
+use Rattle.std.proofs.Common.{◌≡◌, ℕ, ◌+◌, ◌-◌, ◌^◌, ◌≤◌, suc, length, sym, ap, subst, arith}
 use Rattle.csn_look.specs.Full.{IsFull}
 use Rattle.csn_look.proofs.Basics.Places.{place_of-most}
 use Rattle.csn_look.proofs.Tables.FullFacts.{full_of_place, place_of_full}
