@@ -1,4 +1,4 @@
-use Rattle.std.proofs.Common.{◌≡◌, ◌++◌, ◌∷◌, [], ℕ, Bool, true, false, List, Some, length, length-append, slice_get, sym, ◌∙◌, ap, arith}
+use Rattle.std.proofs.Common.{◌≡◌, ◌++◌, ◌∷◌, [], false, length, length-append, slice_get, sym, ◌∙◌, ap, arith}
 use Rattle.csn_resolve.proofs.Basics.Options.{no_none}
 use Rattle.csn_resolve.proofs.Emptiness.LeastFacts.{none_more, none_sound}
 use Rattle.csn_resolve.proofs.marks.Marks.new.Goals as goal
