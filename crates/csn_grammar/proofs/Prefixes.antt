@@ -1,5 +1,5 @@
 -- Every prefix of bits that are followed is followed.
-use Rattle.std.proofs.Common.{◌≡◌, ℕ, ◌+◌, true, List, [], ◌∷◌, ◌++◌, ◌⊎◌, inl, inr, length, refl, sym, ◌∙◌, ap, arith, append_assoc, append-nil, length-append, codes, Some}
+use Rattle.std.proofs.Common.{◌≡◌, ℕ, ◌+◌, true, List, [], ◌∷◌, ◌++◌, ◌⊎◌, inl, inr, length, refl, sym, ◌∙◌, ap, arith, append-nil, length-append, codes, Some}
 use Rattle.csn_desc.specs.declared.reading.Reading.{Reading}
 use Rattle.csn_desc.specs.TreeV.{TreeV, empty, bits, row, Trees, none, more}
 use Rattle.csn_desc.specs.Spelled.{spelled}
