@@ -1,6 +1,5 @@
 -- What the equations make of claims of look-ahead is what they make of the least sets, which have it.
 use Rattle.std.proofs.Common.{ℕ, List, sym, subst, Option, Some}
-use Rattle.csn_desc.specs.declared.node.Count.{Count}
 use Rattle.csn_desc.specs.declared.node.Node.{Node}
 use Rattle.csn_desc.specs.Nodes.{DescV}
 use Rattle.csn_cert.specs.CertificateV.{NodeV}
