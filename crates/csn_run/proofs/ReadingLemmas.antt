@@ -3,7 +3,10 @@ use Rattle.std.proofs.Common.{◌≡◌, ℕ, ◌+◌, ◌-◌, ◌<◌, Bool, t
 use Rattle.std.proofs.lemmas.List.{get_or-append-add}
 use Rattle.std.proofs.Math.Seq.{take-append-add}
 use Rattle.csn_run.specs.Lines.{HasNoFeed, without_return}
-use Rattle.csn_run.specs.Reading.{AtLine, return_of}
+use Rattle.csn_run.specs.declared.lines.Lines.{Lines}
+use Rattle.csn_run.specs.LineState.{Kept}
+use Rattle.csn_run.specs.OutLine.{LineWork}
+use Rattle.csn_run.specs.Reading.{AtLine, OnlyGives, return_of}
 use Rattle.csn_run.proofs.LinesLemmas.{HasNoFeed-append}
 
 -- a return is looked for in what was added last
@@ -29,3 +32,9 @@ at_more line bytes front unended more some bare all stands count = record {
   bare = without_return-append line bytes some ∙ ap (λ l. line ++ l) (sym bare);
   unended = HasNoFeed-append line bytes unended more;
 }
+
+-- bytes were given, and then more
+pub gives_then :
+    {work between_work work' : LineWork} {kept between_kept kept' : Kept} {lines between lines' : Lines} → OnlyGives work between_work kept between_kept lines between
+    → work' ≡ between_work → kept' ≡ between_kept → lines'.pending ≡ between.pending → lines'.refused ≡ between.refused → OnlyGives work work' kept kept' lines lines'
+gives_then first work kept pending refused = record { work = work ∙ first.work; kept = kept ∙ first.kept; pending = pending ∙ first.pending; refused = refused ∙ first.refused }

@@ -3,6 +3,8 @@ use Rattle.std.specs.Prelude.{◌≡◌, ℕ, Bool, true, false, List, [], ◌�
 use Rattle.csn_run.specs.declared.lines.Lines.{Lines}
 use Rattle.csn_run.specs.declared.lines.TheConstants.{CARRIAGE_RETURN}
 use Rattle.csn_run.specs.Lines.{HasNoFeed, without_return}
+use Rattle.csn_run.specs.LineState.{Kept}
+use Rattle.csn_run.specs.OutLine.{LineWork}
 
 -- the carriage return that waits, where one does
 abbrev pub return_of : Bool → List ℕ
@@ -21,3 +23,10 @@ pub record AtLine (reads : List ℕ → Type 0) (given : ℕ) (held : Bool) (lin
 -- no byte of a line has come
 abbrev pub IsFresh : Lines → Type 0
 IsFresh lines = (lines.given ≡ 0) × (lines.held ≡ false)
+
+-- bytes were at most given to a command: it does what it did and keeps what it kept, no answer was added, and no line refused
+pub record OnlyGives (does does' : LineWork) (keeps keeps' : Kept) (lines lines' : Lines) : Type 0 where
+  pub work : does' ≡ does
+  pub kept : keeps' ≡ keeps
+  pub pending : lines'.pending ≡ lines.pending
+  pub refused : lines'.refused ≡ lines.refused

@@ -6,7 +6,7 @@ ghost use Rattle.csn_io.specs.Got.{IfBytes, OnEnd, OnFailed, UnlessBytes, Gave, 
 ghost use Rattle.csn_io.specs.Put.{Appended};
 ghost use Rattle.csn_run.specs.declared.lines.TheConstants.{LINE_FEED, MOST_INPUT, PIECE};
 ghost use Rattle.csn_run.specs.Lines.{HasNoFeed, without_return, is_refusal, is_refused};
-ghost use Rattle.csn_run.specs.Reading.{AtLine, IsFresh, return_of};
+ghost use Rattle.csn_run.specs.Reading.{AtLine, IsFresh, OnlyGives, return_of};
 ghost use Rattle.csn_run.specs.Progress.{AddsAnswers, Advances, Closes, Halts, PassesOn, HaltsAt, AnswersAll, Stops};
 ghost use Rattle.csn_run.specs.LineState.{closing_of};
 ghost use Rattle.csn_run.specs.OutLine.{Works};
@@ -179,10 +179,7 @@ impl Lines {
         requires { (line : List ℕ) × AtLine (C.reads command.old) self.old.given self.old.held line × (length line ≤ MOST_INPUT) }
         ensures ok { OnOk result ((line : List ℕ) → AtLine (C.reads command.old) self.old.given self.old.held line
             → C.reads command.new line × (self.new.given ≡ length line)) }
-        ensures work { C.work command.new ≡ C.work command.old }
-        ensures kept { C.kept command.new ≡ C.kept command.old }
-        ensures pending { self.new.pending ≡ self.old.pending }
-        ensures refused { self.new.refused ≡ self.old.refused }
+        ensures rest { OnlyGives (C.work command.old) (C.work command.new) (C.kept command.old) (C.kept command.new) self.old self.new }
     {
         if self.held {
             command.take(&[CARRIAGE_RETURN])?;
@@ -198,10 +195,7 @@ impl Lines {
         requires unended { HasNoFeed bytes.now }
         ensures ok { OnOk result ((line : List ℕ) → AtLine (C.reads command.old) self.old.given self.old.held line
             → AtLine (C.reads command.new) self.new.given self.new.held (line ++ bytes.now)) }
-        ensures work { C.work command.new ≡ C.work command.old }
-        ensures kept { C.kept command.new ≡ C.kept command.old }
-        ensures pending { self.new.pending ≡ self.old.pending }
-        ensures refused { self.new.refused ≡ self.old.refused }
+        ensures rest { OnlyGives (C.work command.old) (C.work command.new) (C.kept command.old) (C.kept command.new) self.old self.new }
     {
         if bytes.len() == 0 {
             return Ok(());

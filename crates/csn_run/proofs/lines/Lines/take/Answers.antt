@@ -14,7 +14,7 @@ give-requires-clause-at g c =
 pub returns-in_err-give-clause-err : goal.returns-in_err-give-clause-err
 returns-in_err-give-clause-err g c =
     let p = err_from_is_err_and c.from_residual.result c.from_residual.ensures.1 in
-    rw p.1 (λ line stands. rw c.give.ensures.pending (so_far_halts _ _ _ _ _ _ _ _ _ (c.loop-front.invariant.so_far line stands).2))
+    rw p.1 (λ line stands. rw c.give.ensures.rest.pending (so_far_halts _ _ _ _ _ _ _ _ _ (c.loop-front.invariant.so_far line stands).2))
 
 pub end_line-requires : goal.end_line-requires
 end_line-requires g c =
@@ -24,7 +24,7 @@ end_line-requires g c =
 pub returns-in_err-end_line-clause-err : goal.returns-in_err-end_line-clause-err
 returns-in_err-end_line-clause-err g c =
     let p = err_from_is_err_and c.from_residual-in_err-end_line.result c.from_residual-in_err-end_line.ensures.1 in
-    rw p.1 (λ line stands. rw (c.in_err-end_line.ensures.err, c.give.ensures.pending) (so_far_halts _ _ _ _ _ _ _ _ _ (c.loop-front.invariant.so_far line stands).2))
+    rw p.1 (λ line stands. rw (c.in_err-end_line.ensures.err, c.give.ensures.rest.pending) (so_far_halts _ _ _ _ _ _ _ _ _ (c.loop-front.invariant.so_far line stands).2))
 
 pub loop-front-preserved : goal.loop-front-preserved
 loop-front-preserved g c =
@@ -32,13 +32,13 @@ loop-front-preserved g c =
     record {
       so_far = λ line stands.
           let here = c.loop-front.invariant.so_far line stands in
-          let ended = rw (c.give.ensures.work, c.give.ensures.kept, c.give.ensures.pending, c.give.ensures.refused, c.loop-front.invariant.work) at c.in_ok-end_line.ensures.ok (here.0 ++ c.in-Some.front.now) (c.in_ok-give.ensures.ok here.0 here.1) in (
+          let ended = rw (c.give.ensures.rest.work, c.give.ensures.rest.kept, c.give.ensures.rest.pending, c.give.ensures.rest.refused, c.loop-front.invariant.work) at c.in_ok-end_line.ensures.ok (here.0 ++ c.in-Some.front.now) (c.in_ok-give.ensures.ok here.0 here.1) in (
             [],
             c.in_ok-end_line.ensures.anew,
             so_far_line _ _ _ _ _ _ _ _ _ _ _ _ _ _ here.2 parts.0 parts.1 ended.1 ended.2,
             omega (arith, here.3, ap length parts.0, length-append c.in-Some.front.now (10 ∷ c.in-Some.back.now)),
           );
-      work = c.end_line.ensures.work ∙ c.give.ensures.work ∙ c.loop-front.invariant.work;
+      work = c.end_line.ensures.work ∙ c.give.ensures.rest.work ∙ c.loop-front.invariant.work;
     }
 
 pub give-requires-2-clause-at : goal.give-requires-2-clause-at
@@ -49,7 +49,7 @@ give-requires-2-clause-at g c =
 pub returns-in_err-give-2-clause-err : goal.returns-in_err-give-2-clause-err
 returns-in_err-give-2-clause-err g c =
     let p = err_from_is_err_and c.from_residual-in_err-give-2.result c.from_residual-in_err-give-2.ensures.1 in
-    rw p.1 (λ line stands. rw c.give-2.ensures.pending (so_far_halts _ _ _ _ _ _ _ _ _ (c.loop-front.invariant.so_far line stands).2))
+    rw p.1 (λ line stands. rw c.give-2.ensures.rest.pending (so_far_halts _ _ _ _ _ _ _ _ _ (c.loop-front.invariant.so_far line stands).2))
 
 pub returns-clause-ok : goal.returns-clause-ok
 returns-clause-ok g c = λ line stands.
@@ -58,7 +58,10 @@ returns-clause-ok g c = λ line stands.
       here.0 ++ c.loop-front.rest.now,
       c.in_ok-give-2.ensures.ok here.0 here.1,
       rest.0,
-      rw (c.give-2.ensures.pending, c.give-2.ensures.kept) rest.1,
-      rw c.give-2.ensures.refused rest.2,
+      rw (c.give-2.ensures.rest.pending, c.give-2.ensures.rest.kept) rest.1,
+      rw c.give-2.ensures.rest.refused rest.2,
       omega (arith, here.3, length-append here.0 c.loop-front.rest.now),
     )
+
+pub returns-clause-work : goal.returns-clause-work
+returns-clause-work g c = c.give-2.ensures.rest.work ∙ c.loop-front.invariant.work
