@@ -1,13 +1,11 @@
 -- Words, and the rows of the command table.
-use Rattle.std.proofs.Common.{◌≡◌, ◌↔◌, ◌≤◌, ◌⊎◌, inl, inr, ℕ, List, [], ◌∷◌, ◌++◌, length, Option, Some, None, IsSome, is_some, false, true≢false, refl, sym, ◌∙◌, ap, subst, arith, map, Bor}
+use Rattle.std.proofs.Common.{◌≡◌, ◌↔◌, ◌≤◌, inl, ℕ, List, [], ◌∷◌, ◌++◌, length, Option, Some, None, IsSome, is_some, false, true≢false, refl, sym, ◌∙◌, ap, subst, arith, map, Bor}
 use Rattle.csn_desc.specs.declared.reading.Reading.{Reading}
 use Rattle.csn_run.specs.declared.command.RuleCommand.{RuleCommand}
-use Rattle.csn_catalogue.specs.declared.entry.Entry.{Entry}
-use Rattle.csn_run.specs.Command.{IsCommand, IsRowOf, IsOverRule, IsAnswer, IsMigrate, IsSoak, IsCompat, IsVerify, NamesFile, NamesFiles, names_one, names_pair, names_certificate, rule_row, compat_row, verify_row, ReadsLines, leaves_report, leaves_soak, leaves_compat, leaves_verify}
+use Rattle.csn_run.specs.Command.{IsCommand, IsRowOf, IsOverRule, IsAnswer, IsMigrate, IsCompat, IsVerify, NamesFile, NamesFiles, names_one, names_pair, names_certificate, rule_row, compat_row, verify_row, ReadsLines, leaves_report, leaves_soak, leaves_compat, leaves_verify}
 use Rattle.csn_run.specs.declared.command.Command.{Command}
-use Rattle.csn_replay.specs.Watched.{Watched}
-use Rattle.csn_run.specs.Job.{Asked, ComesTo}
-use Rattle.csn_run.specs.Result.{LineJob, comes_first, comes_second, comes_certificate}
+use Rattle.csn_run.specs.Job.{ComesTo}
+use Rattle.csn_run.specs.Result.{comes_first, comes_second, comes_certificate}
 use Rattle.csn_run.proofs.OneResult.{one_rule, one_pair, one_verify, not_compat, over, answers, not_both, not_migrate, migrate_not_three, not_two, not_three, not_five, two_not_three}
 
 -- words that no command stands for are no row
@@ -84,35 +82,18 @@ answer_reads command row (leaves_soak entry n soak) = not_three (answers command
 answer_reads command row (leaves_compat before after name reading compat) = not_five (answers command row) compat.words_are
 answer_reads command row (leaves_verify file name reading certificate verify) = not_five (answers command row) verify.words_are
 
--- a job that reads lines and leaves the source alone, or has come to its lines
-pub reads_too :
-    {A : Type 0} (words : List (List ℕ)) (files : Option (List ℕ → Option (List ℕ))) (watchers : List Watched) → ReadsLines words
-    → A ⊎ ((job : LineJob) × Asked words files watchers job) → A ⊎ (ReadsLines words × (job : LineJob) × Asked words files watchers job)
-reads_too words files watchers reads (inl same) = inl same
-reads_too words files watchers reads (inr asked) = inr (reads, asked.0, asked.1)
-
 pub migrate_reads : {words : List (List ℕ)} → IsMigrate words → ReadsLines words
 migrate_reads is (leaves_report report file name reading reports) = not_migrate (over (inl (report, reports))) is
 migrate_reads is (leaves_soak entry n soak) = migrate_not_three is soak.words_are
 migrate_reads is (leaves_compat before after name reading compat) = omega (arith, ap length is, ap length compat.words_are)
 migrate_reads is (leaves_verify file name reading certificate verify) = omega (arith, ap length is, ap length verify.words_are)
 
-pub migrate_names : {words : List (List ℕ)} → IsMigrate words → (file : List ℕ) → NamesFile words file → ⊥
-migrate_names is file names = omega (arith, ap length is, names_long names.2)
-
--- words of two read lines, and name no file
+-- words of two read lines
 pub two_read : {words : List (List ℕ)} {first second : List ℕ} → words ≡ first ∷ second ∷ [] → ReadsLines words
 two_read is (leaves_report report file name reading reports) = not_two (over (inl (report, reports))) is
 two_read is (leaves_soak entry n soak) = two_not_three is soak.words_are
 two_read is (leaves_compat before after name reading compat) = omega (arith, ap length is, ap length compat.words_are)
 two_read is (leaves_verify file name reading certificate verify) = omega (arith, ap length is, ap length verify.words_are)
-
-pub two_name : {words : List (List ℕ)} {first second : List ℕ} → words ≡ first ∷ second ∷ [] → (file : List ℕ) → NamesFile words file → ⊥
-two_name is file names = omega (arith, ap length is, names_long names.2)
-
--- and neither do words of three
-pub soak_names : {words : List (List ℕ)} {entry : Entry} {n : ℕ} → IsSoak words entry n → (file : List ℕ) → NamesFile words file → ⊥
-soak_names is file names = omega (arith, ap length is.words_are, names_long names.2)
 
 -- words of three or fewer come to no file
 pub comes_to_none : (words : List (List ℕ)) (file : List ℕ) (files : Option (List ℕ → Option (List ℕ))) → length words ≤ 3 → ComesTo words files file → ⊥

@@ -9,6 +9,7 @@ pub mod FormsAgree
 pub mod Following
 pub mod OneInput
 pub mod JobLemmas
+pub mod JobParts
 pub mod LinesLemmas
 pub mod OutsideLemmas
 pub mod ProgressLemmas
@@ -18,6 +19,7 @@ pub mod ResultLemmas
 pub mod RuleRows
 pub mod ShowLemmas
 pub mod StandingLemmas
+pub mod UnreadLemmas
 pub mod Within
 pub mod Words
 pub mod ReadWords

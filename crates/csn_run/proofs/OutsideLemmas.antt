@@ -1,14 +1,10 @@
 -- What a sink took and what a source gave, over several calls.
-use Rattle.std.proofs.Common.{◌≡◌, ℕ, ◌+◌, ◌-◌, ◌<◌, ◌≤◌, inl, subst, List, [], ◌∷◌, ◌++◌, length, take, drop, refl, sym, ◌∙◌, ap, arith, length-drop, Option, Some, None}
+use Rattle.std.proofs.Common.{◌≡◌, ℕ, ◌+◌, ◌-◌, ◌<◌, ◌≤◌, List, [], ◌++◌, length, take, drop, refl, sym, ◌∙◌, ap, arith, length-drop, Option, Some, None}
 use Rattle.std.proofs.lemmas.List.{append-nil, length-take}
 use Rattle.csn_io.specs.Faults.{Keeps}
 use Rattle.csn_io.specs.Put.{Appended}
 use Rattle.csn_io.specs.Got.{Gave}
-use Rattle.std.specs.Prelude.{Result, Vec}
-use Rattle.std.specs.declared.alloc.Global.{Global}
-use Rattle.csn_io.specs.declared.shelf.ShelfFault.{ShelfFault}
 use Rattle.csn_replay.proofs.Puts.{slice_from, take_more_of}
-use Rattle.csn_run.specs.Outside.{LeftByFetch, LeftByFetches}
 
 -- nothing was taken
 pub Appended-nil : (a : Option (List ℕ)) → Appended a a []
@@ -63,17 +59,3 @@ keeps_both f g first next = (
   λ steady. (let here = first.1 steady in let there = next.1 here.0 in (there.0, there.1 ∙ here.1)),
   λ none. next.2 (λ q. none (g q)) ∙ first.2 (λ p. none (f p)),
 )
-
--- ---- calls for files
-
--- a call for the one file
-pub fetches_one :
-    {Shelf : Type 0} (gives : Shelf → List ℕ → Result (Vec ℕ Global) ShelfFault → Shelf → Type 0) {file : List ℕ} {files : List (List ℕ)} (before after : Shelf)
-    → files ≡ file ∷ [] → LeftByFetch (gives before file) after → LeftByFetches gives files before after
-fetches_one gives before after is fetched = subst (λ l. LeftByFetches gives l before after) (sym is) (after, fetched, inl refl)
-
--- calls for the same files
-pub fetches_same :
-    {Shelf : Type 0} (gives : Shelf → List ℕ → Result (Vec ℕ Global) ShelfFault → Shelf → Type 0) {files others : List (List ℕ)} (before after : Shelf)
-    → files ≡ others → LeftByFetches gives others before after → LeftByFetches gives files before after
-fetches_same gives before after is fetched = subst (λ l. LeftByFetches gives l before after) (sym is) fetched

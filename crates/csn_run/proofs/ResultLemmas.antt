@@ -244,18 +244,16 @@ nothing_left_of words files watchers left left' taken taken' waits end (all_line
 nothing_left_of words files watchers left left' taken taken' waits end (some_lines job fault asked s e) answered reads =
     absurd (fault_answered fault (subst (λ (r : Result Ended Fault). IsAnswered (end_with r)) e answered))
 
+-- a source that has left what it had is within the limit
+pub as_before : (whole rest : List ℕ) → Some whole ≡ Some rest → length whole ≤ length rest + MOST_INPUT + 1
+as_before whole rest e = let same : whole ≡ rest = cc in omega (arith, ap length same)
+
 -- no more is taken of a source than a byte past its limit
 pub bounded_of :
     (words : List (List ℕ)) (files : Option (List ℕ → Option (List ℕ))) (watchers : List Watched) (whole rest : List ℕ) (left' taken taken' : Option (List ℕ)) (waits : List ℕ) (end : Result Ended Fault)
     → JobEnds words files watchers (Some whole) left' taken taken' waits end → left' ≡ Some rest → length whole ≤ length rest + MOST_INPUT + 1
 bounded_of words files watchers whole rest left' taken taken' waits end (unread same_left same_taken none cause) is = as_before whole rest (sym same_left ∙ is)
-  where
-    as_before : (whole rest : List ℕ) → Some whole ≡ Some rest → length whole ≤ length rest + MOST_INPUT + 1
-    as_before whole rest e = let same : whole ≡ rest = cc in omega (arith, ap length same)
 bounded_of words files watchers whole rest left' taken taken' waits end (before_lines gives same_left same_taken) is = as_before whole rest (sym same_left ∙ is)
-  where
-    as_before : (whole rest : List ℕ) → Some whole ≡ Some rest → length whole ≤ length rest + MOST_INPUT + 1
-    as_before whole rest e = let same : whole ≡ rest = cc in omega (arith, ap length same)
 bounded_of words files watchers whole rest left' taken taken' waits end (all_lines job some asked a e) is =
     let none = given_all whole a.given left' a.source a.nothing_left in omega (arith, ap length none, a.fits)
 bounded_of words files watchers whole rest left' taken taken' waits end (some_lines job fault asked s e) is =

@@ -1,14 +1,18 @@
 -- What a job has done with the outside when it is over, before the answers that still wait are handed on.
-use Rattle.std.specs.Prelude.{◌≡◌, ℕ, ◌+◌, ◌<◌, ◌≤◌, ◌⊎◌, Bool, List, [], length, Option, Some, None, Result, Ok, Err}
-use Rattle.csn_io.specs.ShelfFault.{BeginsFile}
+use Rattle.std.specs.Prelude.{◌≡◌, ℕ, ◌+◌, ◌<◌, ◌≤◌, ◌⊎◌, Bool, List, [], length, Option, Some, None, Result, Ok, Err, Vec}
+use Rattle.std.specs.declared.alloc.Global.{Global}
+use Rattle.csn_io.specs.Faults.{Keeps, Rose}
+use Rattle.csn_io.specs.ShelfFault.{BeginsFile, LacksFile}
+use Rattle.csn_io.specs.declared.shelf.ShelfFault.{ShelfFault}
 use Rattle.csn_replay.specs.Watched.{Watched}
 use Rattle.csn_run.specs.declared.ended.Ended.{Ended}
-use Rattle.csn_run.specs.declared.ended.Ended.TheVariants.{Done, SomeRefused, BadDescription, NotCertified, ReadFault, WriteFault, NoMemory, TooLong as Long}
+use Rattle.csn_run.specs.declared.ended.Ended.TheVariants.{Done, SomeRefused, Usage, BadDescription, NotCertified, ReadFault, WriteFault, NoMemory, TooLong as Long}
 use Rattle.csn_run.specs.declared.fault.Fault.{Fault}
 use Rattle.csn_run.specs.declared.fault.Fault.TheVariants.{Read, Write, Memory, TooLong}
 use Rattle.csn_run.specs.declared.compile.TheConstants.{MOST_DESCRIPTION}
-use Rattle.csn_run.specs.Command.{NamesFile, ReadsLines}
+use Rattle.csn_run.specs.Command.{IsCommand, NamesFile, NamesFiles, ReadsLines}
 use Rattle.csn_run.specs.LineState.{closing}
+use Rattle.csn_run.specs.Outside.{LeftByFetches}
 use Rattle.csn_run.specs.Progress.{AnswersAll, Stops}
 use Rattle.csn_run.specs.Result.{LineJob, Steps, beginning, AsksFor, ComesToFile, EndsBefore, end_of}
 
@@ -70,3 +74,32 @@ pub data JobEnds (words : List (List ℕ)) (files : Option (List ℕ → Option 
   some_lines : (job : LineJob) (fault : Fault) → Asked words files watchers job
       → Stops (Steps job) (beginning job) fault left left' taken taken' waits → end ≡ Err fault
       → JobEnds words files watchers left left' taken taken' waits end
+
+-- what a job over lines tells of its source and its sink: it is over by a fault of one only where that shows it, and the
+-- faults of one are as many as before where it does not blame it
+pub record BlamesStreams (end : Result Ended Fault) (steady steady' : Type 0) (faults faults' : ℕ) (sink_steady sink_steady' : Type 0) (sink_faults sink_faults' : ℕ) : Type 0 where
+  pub read : end ≡ Err Read → Rose faults faults'
+  pub write : end ≡ Err Write → Rose sink_faults sink_faults'
+  pub input : Keeps steady steady' faults faults' (end ≡ Err Read)
+  pub out : Keeps sink_steady sink_steady' sink_faults sink_faults' (end ≡ Err Write)
+
+-- what a job does with its source and its sink, where `comes` holds of one that comes to its lines: before that it leaves
+-- the source alone. That it could not read may be the fault of a file
+pub record LeavesStreams {Source : Type 0} (end : Result Ended Fault) (source source' : Source) (comes : Type 0) (steady steady' : Type 0) (faults faults' : ℕ) (sink_steady sink_steady' : Type 0) (sink_faults sink_faults' : ℕ) : Type 0 where
+  pub touches : (source' ≡ source) ⊎ comes
+  pub before_lines : (end ≡ Ok BadDescription) ⊎ (end ≡ Ok NotCertified) → source' ≡ source
+  pub write : end ≡ Err Write → Rose sink_faults sink_faults'
+  pub input : Keeps steady steady' faults faults' (end ≡ Err Read)
+  pub out : Keeps sink_steady sink_steady' sink_faults sink_faults' (end ≡ Err Write)
+
+-- what the job of these words does with the shelf: it asks for the files that they name and for no others, and where it
+-- comes to one that is told as not held, `lacking` holds
+pub record AsksFiles {Shelf : Type 0} (words : List (List ℕ)) (gives : Shelf → List ℕ → Result (Vec ℕ Global) ShelfFault → Shelf → Type 0) (files : Option (List ℕ → Option (List ℕ))) (shelf shelf' : Shelf) (lacking : Type 0) : Type 0 where
+  pub no_file : ((file : List ℕ) → NamesFile words file → ⊥) → shelf' ≡ shelf
+  pub fetched : (names : List (List ℕ)) → NamesFiles words names → LeftByFetches gives names shelf shelf'
+  pub missing : (file : List ℕ) → ComesTo words files file → LacksFile files file → lacking
+
+-- how a run ends that comes to no job: the words are no row of the command table, or there was no memory to read them
+pub data EndsUnread (words : List (List ℕ)) (ended : Ended) : Type 0 where
+  ends_usage : ended ≡ Usage → ¬ IsCommand words → EndsUnread words ended
+  ends_wanting : ended ≡ NoMemory → IsCommand words → EndsUnread words ended

@@ -24,6 +24,12 @@ pub record AtLine (reads : List ℕ → Type 0) (given : ℕ) (held : Bool) (lin
 abbrev pub IsFresh : Lines → Type 0
 IsFresh lines = (lines.given ≡ 0) × (lines.held ≡ false)
 
+-- none has come, no answer waits, and no line was refused
+pub record IsReady (lines : Lines) : Type 0 where
+  pub line : IsFresh lines
+  pub pending : lines.pending.items ≡ []
+  pub refused : lines.refused ≡ false
+
 -- bytes were at most given to a command: it does what it did and keeps what it kept, no answer was added, and no line refused
 pub record OnlyGives (does does' : LineWork) (keeps keeps' : Kept) (lines lines' : Lines) : Type 0 where
   pub work : does' ≡ does

@@ -1,4 +1,4 @@
-ghost use Rattle.std.specs.Prelude.{◌≡◌, ◌≢◌, ◌↔◌, ◌⊎◌, ◌+◌, ◌<◌, ◌≤◌, ◌++◌, [], List, ℕ, Option, Some, false, length, map, vec_len, Err, Ok, IfOk, IfErr, OnOk, ◌∷◌};
+ghost use Rattle.std.specs.Prelude.{◌≡◌, ◌≢◌, ◌↔◌, ◌⊎◌, ◌+◌, ◌<◌, ◌≤◌, ◌++◌, [], List, ℕ, Option, Some, length, map, vec_len, Err, Ok, IfOk, IfErr, OnOk, ◌∷◌};
 ghost use Rattle.std.specs.String.{string_bytes};
 ghost use Rattle.csn_io.specs.Faults.{Keeps, Rose};
 ghost use Rattle.csn_io.specs.Got.{NothingLeft};
@@ -8,11 +8,11 @@ ghost use Rattle.csn_run.specs.declared.lines.TheConstants.{LINE_FEED, MOST_INPU
 ghost use Rattle.csn_replay.specs.Watched.{Watched};
 ghost use Rattle.csn_run.specs.Command.{IsCommand, IsReplay, IsRowOf, IsSegments, NamesFile, NamesFiles, ReadsLines};
 ghost use Rattle.csn_run.specs.Progress.{AnswersAll, Stops};
-ghost use Rattle.csn_run.specs.Reading.{IsFresh};
+ghost use Rattle.csn_run.specs.Reading.{IsReady};
 ghost use Rattle.csn_run.specs.LineState.{closing_of, nothing_kept};
 ghost use Rattle.csn_run.specs.OutLine.{Works, by_plan};
 ghost use Rattle.csn_run.specs.Outside.{CannotRead, LeftByFetch, LeftByFetches};
-ghost use Rattle.csn_run.specs.Job.{Asked, ComesTo, JobEnds, end_with};
+ghost use Rattle.csn_run.specs.Job.{Asked, AsksFiles, BlamesStreams, ComesTo, EndsUnread, JobEnds, LeavesStreams, end_with};
 ghost use Rattle.csn_run.specs.Result.{AnswersPromptly, BeginsResult, EndsBefore, IsFinished, IsStopped, LineJob, OldBlocksStay, Result, RulesHaveOneTree, StopsReading, end_of};
 
 use crate::capture_text::CaptureText;
@@ -42,6 +42,17 @@ use csn_replay::Watcher;
 use csn_segment::Joiner;
 use std::alloc::Global;
 
+/// The end of a job that answered all lines, by whether it refused one.
+fn end_by_lines(refused: bool) -> Ended
+    ensures { result ≡ end_of refused }
+{
+    if refused {
+        Ended::SomeRefused
+    } else {
+        Ended::Done
+    }
+}
+
 /// Answers each line of the input.
 fn answer_lines<C: LineCommand, S: Source, K: Sink>(
     alloc: Global,
@@ -51,24 +62,16 @@ fn answer_lines<C: LineCommand, S: Source, K: Sink>(
     lines: &mut Lines,
 ) -> Result<Ended, Fault>
     requires begin { C.reads command.old [] }
-    requires line { IsFresh lines.old }
-    requires pending { lines.old.pending.items ≡ [] }
-    requires refused { lines.old.refused ≡ false }
+    requires ready { IsReady lines.old }
     ensures ok { IfOk result (λ ended. AnswersAll (Works (C.work command.old)) closing_of (C.kept command.old)
         (S.left input.old) (S.left input.new) (K.taken out.old) (K.taken out.new) lines.new.pending.items lines.new.refused × (ended ≡ end_of lines.new.refused)) }
     ensures err { IfErr result (λ fault. Stops (Works (C.work command.old)) (C.kept command.old) fault
         (S.left input.old) (S.left input.new) (K.taken out.old) (K.taken out.new) lines.new.pending.items) }
-    ensures read { result ≡ Err Fault.Read → Rose (S.faults input.old) (S.faults input.new) }
-    ensures write { result ≡ Err Fault.Write → Rose (K.faults out.old) (K.faults out.new) }
-    ensures input { Keeps (S.steady input.old) (S.steady input.new) (S.faults input.old) (S.faults input.new) (result ≡ Err Fault.Read) }
-    ensures out { Keeps (K.steady out.old) (K.steady out.new) (K.faults out.old) (K.faults out.new) (result ≡ Err Fault.Write) }
+    ensures blames { BlamesStreams result (S.steady input.old) (S.steady input.new) (S.faults input.old) (S.faults input.new)
+        (K.steady out.old) (K.steady out.new) (K.faults out.old) (K.faults out.new) }
 {
     lines.answer_all(command, alloc, input, out)?;
-    Ok(if lines.refused {
-        Ended::SomeRefused
-    } else {
-        Ended::Done
-    })
+    Ok(end_by_lines(lines.refused))
 }
 
 /// Reports on the rule of a file.
@@ -106,17 +109,13 @@ fn answer_by_plan<S: Source, K: Sink>(
     out: &mut K,
     lines: &mut Lines,
 ) -> Result<Ended, Fault>
-    requires line { IsFresh lines.old }
-    requires pending { lines.old.pending.items ≡ [] }
-    requires refused { lines.old.refused ≡ false }
+    requires ready { IsReady lines.old }
     ensures ok { IfOk result (λ ended. AnswersAll (Works (by_plan command plan.now)) closing_of nothing_kept
         (S.left input.old) (S.left input.new) (K.taken out.old) (K.taken out.new) lines.new.pending.items lines.new.refused × (ended ≡ end_of lines.new.refused)) }
     ensures err { IfErr result (λ fault. Stops (Works (by_plan command plan.now)) nothing_kept fault
         (S.left input.old) (S.left input.new) (K.taken out.old) (K.taken out.new) lines.new.pending.items) }
-    ensures read { result ≡ Err Fault.Read → Rose (S.faults input.old) (S.faults input.new) }
-    ensures write { result ≡ Err Fault.Write → Rose (K.faults out.old) (K.faults out.new) }
-    ensures input { Keeps (S.steady input.old) (S.steady input.new) (S.faults input.old) (S.faults input.new) (result ≡ Err Fault.Read) }
-    ensures out { Keeps (K.steady out.old) (K.steady out.new) (K.faults out.old) (K.faults out.new) (result ≡ Err Fault.Write) }
+    ensures blames { BlamesStreams result (S.steady input.old) (S.steady input.new) (S.faults input.old) (S.faults input.new)
+        (K.steady out.old) (K.steady out.new) (K.faults out.old) (K.faults out.new) }
 {
     match command {
         RuleCommand::Show(form) => {
@@ -141,24 +140,21 @@ fn answer_by_rule<B: Shelf, S: Source, K: Sink>(
     out: &mut K,
     lines: &mut Lines,
 ) -> Result<Ended, Fault>
-    requires line { IsFresh lines.old }
-    requires pending { lines.old.pending.items ≡ [] }
-    requires refused { lines.old.refused ≡ false }
+    requires ready { IsReady lines.old }
     ensures ends { (words : List (List ℕ)) (watchers : List Watched) → IsRowOf words (Command.Answer command rule.entry)
         → JobEnds words (B.files shelf.old) watchers (S.left input.old) (S.left input.new)
         (K.taken out.old) (K.taken out.new) lines.new.pending.items result }
     ensures read { result ≡ Err Fault.Read → Rose (S.faults input.old) (S.faults input.new)
         ⊎ CannotRead (B.files shelf.old) (B.faults shelf.old) (B.faults shelf.new) (B.last_fault shelf.new) rule.entry.file.now }
-    ensures write { result ≡ Err Fault.Write → Rose (K.faults out.old) (K.faults out.new) }
-    ensures touches { (words : List (List ℕ)) (watchers : List Watched) → IsRowOf words (Command.Answer command rule.entry)
-        → (input.new ≡ input.old) ⊎ ((job : LineJob) × Asked words (B.files shelf.old) watchers job) }
-    ensures before_lines { (result ≡ Ok Ended.BadDescription) ⊎ (result ≡ Ok Ended.NotCertified) → input.new ≡ input.old }
     ensures missing { LacksFile (B.files shelf.old) rule.entry.file.now → ((result ≡ Err Fault.Read) ⊎ (result ≡ Err Fault.Memory))
         × (input.new ≡ input.old) × (out.new ≡ out.old) × (lines.new.pending.items ≡ []) }
     ensures fetched { LeftByFetch (B.fetch_gives shelf.old rule.entry.file.now) shelf.new }
     ensures shelf { Keeps (B.steady shelf.old) (B.steady shelf.new) (B.faults shelf.old) (B.faults shelf.new) (result ≡ Err Fault.Read) }
-    ensures input { Keeps (S.steady input.old) (S.steady input.new) (S.faults input.old) (S.faults input.new) (result ≡ Err Fault.Read) }
-    ensures out { Keeps (K.steady out.old) (K.steady out.new) (K.faults out.old) (K.faults out.new) (result ≡ Err Fault.Write) }
+    ensures streams { LeavesStreams result input.old input.new
+        ((words : List (List ℕ)) (watchers : List Watched) → IsRowOf words (Command.Answer command rule.entry)
+        → (job : LineJob) × Asked words (B.files shelf.old) watchers job)
+        (S.steady input.old) (S.steady input.new) (S.faults input.old) (S.faults input.new)
+        (K.steady out.old) (K.steady out.new) (K.faults out.old) (K.faults out.new) }
 {
     let plan = match plan_of(alloc, shelf, rule) {
         Ok(plan) => plan,
@@ -175,19 +171,16 @@ fn answer_segments<S: Source, K: Sink>(
     out: &mut K,
     lines: &mut Lines,
 ) -> Result<Ended, Fault>
-    requires line { IsFresh lines.old }
-    requires pending { lines.old.pending.items ≡ [] }
-    requires refused { lines.old.refused ≡ false }
+    requires ready { IsReady lines.old }
     ensures ends { (words : List (List ℕ)) (files : Option (List ℕ → Option (List ℕ))) (watchers : List Watched)
         → IsSegments words reading → JobEnds words files watchers (S.left input.old) (S.left input.new)
         (K.taken out.old) (K.taken out.new) lines.new.pending.items result }
     ensures read { result ≡ Err Fault.Read → Rose (S.faults input.old) (S.faults input.new) }
-    ensures write { result ≡ Err Fault.Write → Rose (K.faults out.old) (K.faults out.new) }
-    ensures touches { (words : List (List ℕ)) (files : Option (List ℕ → Option (List ℕ))) (watchers : List Watched)
-        → IsSegments words reading → (input.new ≡ input.old) ⊎ ((job : LineJob) × Asked words files watchers job) }
-    ensures before_lines { (result ≡ Ok Ended.BadDescription) ⊎ (result ≡ Ok Ended.NotCertified) → input.new ≡ input.old }
-    ensures input { Keeps (S.steady input.old) (S.steady input.new) (S.faults input.old) (S.faults input.new) (result ≡ Err Fault.Read) }
-    ensures out { Keeps (K.steady out.old) (K.steady out.new) (K.faults out.old) (K.faults out.new) (result ≡ Err Fault.Write) }
+    ensures streams { LeavesStreams result input.old input.new
+        ((words : List (List ℕ)) (files : Option (List ℕ → Option (List ℕ))) (watchers : List Watched)
+        → IsSegments words reading → (job : LineJob) × Asked words files watchers job)
+        (S.steady input.old) (S.steady input.new) (S.faults input.old) (S.faults input.new)
+        (K.steady out.old) (K.steady out.new) (K.faults out.old) (K.faults out.new) }
 {
     let plan = match plan_of_entry(alloc, Entry::Downlink, reading) {
         Ok(plan) => plan,
@@ -210,19 +203,16 @@ fn answer_replay<S: Source, K: Sink>(
     out: &mut K,
     lines: &mut Lines,
 ) -> Result<Ended, Fault>
-    requires line { IsFresh lines.old }
-    requires pending { lines.old.pending.items ≡ [] }
-    requires refused { lines.old.refused ≡ false }
+    requires ready { IsReady lines.old }
     ensures ends { (words : List (List ℕ)) (files : Option (List ℕ → Option (List ℕ))) → IsReplay words reading
         → JobEnds words files (map (λ b. watched b) watchers.items) (S.left input.old) (S.left input.new)
         (K.taken out.old) (K.taken out.new) lines.new.pending.items result }
     ensures read { result ≡ Err Fault.Read → Rose (S.faults input.old) (S.faults input.new) }
-    ensures write { result ≡ Err Fault.Write → Rose (K.faults out.old) (K.faults out.new) }
-    ensures touches { (words : List (List ℕ)) (files : Option (List ℕ → Option (List ℕ))) → IsReplay words reading
-        → (input.new ≡ input.old) ⊎ ((job : LineJob) × Asked words files (map (λ b. watched b) watchers.items) job) }
-    ensures before_lines { (result ≡ Ok Ended.BadDescription) ⊎ (result ≡ Ok Ended.NotCertified) → input.new ≡ input.old }
-    ensures input { Keeps (S.steady input.old) (S.steady input.new) (S.faults input.old) (S.faults input.new) (result ≡ Err Fault.Read) }
-    ensures out { Keeps (K.steady out.old) (K.steady out.new) (K.faults out.old) (K.faults out.new) (result ≡ Err Fault.Write) }
+    ensures streams { LeavesStreams result input.old input.new
+        ((words : List (List ℕ)) (files : Option (List ℕ → Option (List ℕ))) → IsReplay words reading
+        → (job : LineJob) × Asked words files (map (λ b. watched b) watchers.items) job)
+        (S.steady input.old) (S.steady input.new) (S.faults input.old) (S.faults input.new)
+        (K.steady out.old) (K.steady out.new) (K.faults out.old) (K.faults out.new) }
 {
     let plans = match plans_of_entries(alloc, reading) {
         Ok(plans) => plans,
@@ -245,9 +235,7 @@ fn perform<B: Shelf, S: Source, K: Sink>(
     lines: &mut Lines,
     watchers: Vec<Box<dyn Watcher>>,
 ) -> Result<Ended, Fault>
-    requires line { IsFresh lines.old }
-    requires pending { lines.old.pending.items ≡ [] }
-    requires refused { lines.old.refused ≡ false }
+    requires ready { IsReady lines.old }
     requires row { (words : List (List ℕ)) × IsRowOf words command }
     ensures ends { (words : List (List ℕ)) → IsRowOf words command.entry
         → JobEnds words (B.files shelf.old) (map (λ b. watched b) watchers.items) (S.left input.old) (S.left input.new)
@@ -255,20 +243,14 @@ fn perform<B: Shelf, S: Source, K: Sink>(
     ensures read { result ≡ Err Fault.Read → (words : List (List ℕ)) → IsRowOf words command.entry
         → Rose (S.faults input.old) (S.faults input.new) ⊎ ((file : List ℕ) × ComesTo words (B.files shelf.old) file
         × CannotRead (B.files shelf.old) (B.faults shelf.old) (B.faults shelf.new) (B.last_fault shelf.new) file) }
-    ensures write { result ≡ Err Fault.Write → Rose (K.faults out.old) (K.faults out.new) }
-    ensures touches { (words : List (List ℕ)) → IsRowOf words command.entry → (input.new ≡ input.old)
-        ⊎ (ReadsLines words × (job : LineJob) × Asked words (B.files shelf.old) (map (λ b. watched b) watchers.items) job) }
-    ensures before_lines { (result ≡ Ok Ended.BadDescription) ⊎ (result ≡ Ok Ended.NotCertified) → input.new ≡ input.old }
-    ensures no_file { (words : List (List ℕ)) → IsRowOf words command.entry
-        → ((file : List ℕ) → NamesFile words file → ⊥) → shelf.new ≡ shelf.old }
-    ensures fetched { (words : List (List ℕ)) (files : List (List ℕ)) → IsRowOf words command.entry → NamesFiles words files
-        → LeftByFetches B.fetch_gives files shelf.old shelf.new }
-    ensures missing { (words : List (List ℕ)) (file : List ℕ) → IsRowOf words command.entry
-        → ComesTo words (B.files shelf.old) file → LacksFile (B.files shelf.old) file → ((result ≡ Err Fault.Read) ⊎ (result ≡ Err Fault.Memory))
-        × (input.new ≡ input.old) × (out.new ≡ out.old) × (lines.new.pending.items ≡ []) }
+    ensures files { (words : List (List ℕ)) → IsRowOf words command.entry
+        → AsksFiles words B.fetch_gives (B.files shelf.old) shelf.old shelf.new (((result ≡ Err Fault.Read) ⊎ (result ≡ Err Fault.Memory))
+        × (input.new ≡ input.old) × (out.new ≡ out.old) × (lines.new.pending.items ≡ [])) }
     ensures shelf { Keeps (B.steady shelf.old) (B.steady shelf.new) (B.faults shelf.old) (B.faults shelf.new) (result ≡ Err Fault.Read) }
-    ensures input { Keeps (S.steady input.old) (S.steady input.new) (S.faults input.old) (S.faults input.new) (result ≡ Err Fault.Read) }
-    ensures out { Keeps (K.steady out.old) (K.steady out.new) (K.faults out.old) (K.faults out.new) (result ≡ Err Fault.Write) }
+    ensures streams { LeavesStreams result input.old input.new ((words : List (List ℕ)) → IsRowOf words command.entry
+        → ReadsLines words × (job : LineJob) × Asked words (B.files shelf.old) (map (λ b. watched b) watchers.items) job)
+        (S.steady input.old) (S.steady input.new) (S.faults input.old) (S.faults input.new)
+        (K.steady out.old) (K.steady out.new) (K.faults out.old) (K.faults out.new) }
 {
     match command {
         Command::Report(what, rule) => report(alloc, what, rule, shelf, &mut lines.pending),
@@ -311,6 +293,22 @@ fn finish<K: Sink>(end: Result<Ended, Fault>, pending: &mut Vec<u8>, out: &mut K
         Ok(ended) => ended,
         Err(fault) => fault.end(),
     }
+}
+
+/// The words of a row of the command table as they are read, or the end of a run that has none.
+fn read_row<'a>(alloc: Global, words: &'a [String]) -> Result<Vec<&'a str>, Ended>
+    ensures row { OnOk result (IsCommand (map string_bytes words.now)) }
+    ensures words { IfOk result (λ read. map (λ word. word.now) read.items ≡ map string_bytes words.now) }
+    ensures unread { IfErr result (EndsUnread (map string_bytes words.now)) }
+{
+    // Words that are no row are told so also where there is no memory to read them.
+    if command_of(words).is_none() {
+        return Err(Ended::Usage);
+    }
+    let Ok(read) = read_words(alloc, words) else {
+        return Err(Ended::NoMemory);
+    };
+    Ok(read)
 }
 
 /// Does the job that the words ask for. Where that is `replay`, the watchers count its blocks.
@@ -410,12 +408,9 @@ pub fn run<B: Shelf, S: Source, K: Sink>(
 {
     known();
     lines_have_one_answer();
-    // Words that are no row are told so also where there is no memory to read them.
-    if command_of(words).is_none() {
-        return Ended::Usage;
-    }
-    let Ok(read) = read_words(alloc, words) else {
-        return Ended::NoMemory;
+    let read = match read_row(alloc, words) {
+        Ok(read) => read,
+        Err(end) => return end,
     };
     let Some(command) = command_of(&read) else {
         unreachable!();

@@ -1,14 +1,24 @@
-use Rattle.std.proofs.Common.{[], refl, inr}
+use Rattle.std.proofs.Common.{[], refl}
 use Rattle.csn_catalogue.specs.declared.entry.Entry.TheVariants.{Downlink}
 use Rattle.csn_run.specs.Compiled.{rule_of_entry}
 use Rattle.csn_run.specs.OutLine.{joining, Works}
 use Rattle.csn_run.specs.Result.{segmenting}
 use Rattle.csn_run.proofs.JobLemmas.{KeepsBodies, keeps_close, joins_follow, segments_compile, asked_segments, reason_ends, lines_end}
+use Rattle.csn_run.proofs.JobParts.{streams_alone, streams_of_lines, text_no_read, text_no_write}
 use Rattle.csn_run.proofs.top.answer_segments.Goals as goal
 
-pub returns-in-Err-clause-ends : goal.returns-in-Err-clause-ends
-returns-in-Err-clause-ends g c = λ words files watchers row.
-    reason_ends words files watchers [] (rule_of_entry c.args.reading Downlink) [] _ _ _ c.in-Err.reason _ (λ told e. segments_compile words told c.args.reading row) tt c.plan_of_entry.ensures.fits c.in-Err.ensures.none c.refuse.ensures
+pub refuse-requires : goal.refuse-requires
+refuse-requires g c = c.requires.ready.pending
+
+pub returns-in-Err : goal.returns-in-Err
+returns-in-Err g c = record {
+  ends = λ words files watchers row. reason_ends words files watchers [] (rule_of_entry c.args.reading Downlink) [] _ _ _ c.in-Err.reason _ (λ told e. segments_compile words told c.args.reading row) tt c.plan_of_entry.ensures.fits c.in-Err.ensures.none c.refuse.ensures;
+  read = λ e. absurd (text_no_read c.in-Err.reason c.refuse.new.pending.items c.refuse.result c.refuse.ensures e);
+  streams = streams_alone (text_no_write c.in-Err.reason c.refuse.new.pending.items c.refuse.result c.refuse.ensures);
+}
+
+pub answer_lines-requires-clause-ready : goal.answer_lines-requires-clause-ready
+answer_lines-requires-clause-ready g c = c.requires.ready
 
 pub returns-clause-ends : goal.returns-clause-ends
 returns-clause-ends g c = λ words files watchers row.
@@ -17,5 +27,10 @@ returns-clause-ends g c = λ words files watchers row.
     let stopped = rw c.new-command.ensures.command at c.answer_lines.ensures.err in
     lines_end KeepsBodies (Works (joining c.in-Ok.plan)) _ words files watchers (segmenting is.0 c.args.reading) _ _ _ _ _ _ _ (asked_segments words files watchers c.args.reading is.0 c.in-Ok.plan row c.plan_of_entry.ensures.fits is.1) (joins_follow c.in-Ok.plan _ is.0 c.args.reading is.1) keeps_close (record { joins = c.new.ensures; watches = refl }) ended stopped
 
-pub returns-clause-touches : goal.returns-clause-touches
-returns-clause-touches g c = λ words files watchers row. inr (segmenting c.in-Ok.ensures.plan.0 c.args.reading, asked_segments words files watchers c.args.reading c.in-Ok.ensures.plan.0 c.in-Ok.plan row c.plan_of_entry.ensures.fits c.in-Ok.ensures.plan.1)
+pub returns-clause-read : goal.returns-clause-read
+returns-clause-read g c = c.answer_lines.ensures.blames.read
+
+pub returns-clause-streams : goal.returns-clause-streams
+returns-clause-streams g c =
+    let is = c.in-Ok.ensures.plan in
+    streams_of_lines (λ words files watchers row. (segmenting is.0 c.args.reading, asked_segments words files watchers c.args.reading is.0 c.in-Ok.plan row c.plan_of_entry.ensures.fits is.1)) _ _ c.answer_lines.ensures.ok c.answer_lines.ensures.blames

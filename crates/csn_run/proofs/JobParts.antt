@@ -1,0 +1,167 @@
+-- What a job does with the outside, by what the functions that do it ensure.
+use Rattle.std.proofs.Common.{◌≡◌, ℕ, ◌≤◌, ◌⊎◌, Bool, true, false, inl, inr, List, [], ◌∷◌, length, Option, Result, Ok, Err, IfOk, refl, sym, ◌∙◌, ap, subst}
+use Rattle.std.specs.Prelude.{Vec}
+use Rattle.std.specs.declared.alloc.Global.{Global}
+use Rattle.csn_desc.specs.declared.reading.Reading.{Reading}
+use Rattle.csn_io.specs.Faults.{Keeps, Rose}
+use Rattle.csn_io.specs.ShelfFault.{LacksFile}
+use Rattle.csn_io.specs.declared.shelf.ShelfFault.{ShelfFault}
+use Rattle.csn_replay.specs.Watched.{Watched}
+use Rattle.csn_run.specs.declared.compile.NoPlan.{NoPlan}
+use Rattle.csn_run.specs.declared.ended.Ended.{Ended}
+use Rattle.csn_run.specs.declared.ended.Ended.TheVariants.{Done, SomeRefused, BadDescription, NotCertified}
+use Rattle.csn_run.specs.declared.fault.Fault.{Fault}
+use Rattle.csn_run.specs.declared.fault.Fault.TheVariants.{Read, Write, Memory}
+use Rattle.csn_run.specs.declared.planned.Unplanned.TheVariants.{Text}
+use Rattle.csn_run.specs.Command.{IsCompat, IsOverRule, IsVerify, NamesFiles, ReadsLines, names_one, names_pair, names_certificate}
+use Rattle.csn_run.specs.Job.{Asked, AsksFiles, BlamesStreams, ComesTo, LeavesStreams}
+use Rattle.csn_run.specs.Outside.{LeftByFetch, LeftByFetches}
+use Rattle.csn_run.specs.Planned.{Refuses}
+use Rattle.csn_run.specs.Result.{LineJob, end_of}
+use Rattle.csn_run.proofs.Apart.{ok_not_err}
+use Rattle.csn_run.proofs.CommandLemmas.{comes_to_none, no_files, one_comes, one_file, two_files, verify_files}
+use Rattle.csn_run.proofs.OutsideLemmas.{keeps_along, keeps_still}
+
+-- ---- the faults of the source and the sink
+
+-- of lines that were all answered nothing is to blame
+pub blames_none :
+    {T : Type 0} {x : T} {ended : Ended} {steady steady' sink_steady sink_steady' : Type 0} {faults faults' sink_faults sink_faults' : ℕ}
+    → Keeps steady steady' faults faults' (◌≡◌ {A = Result T Fault} (Ok x) (Err Read)) → Keeps sink_steady sink_steady' sink_faults sink_faults' (◌≡◌ {A = Result T Fault} (Ok x) (Err Write))
+    → BlamesStreams (Ok ended) steady steady' faults faults' sink_steady sink_steady' sink_faults sink_faults'
+blames_none input out = record {
+  read = λ e. absurd (ok_not_err e);
+  write = λ e. absurd (ok_not_err e);
+  input = keeps_along (λ e. absurd (ok_not_err e)) input;
+  out = keeps_along (λ e. absurd (ok_not_err e)) out;
+}
+
+-- one fault in two results
+one_fault : {T U : Type 0} {end : Result T Fault} {met fault : Fault} → end ≡ Err met → end ≡ Err fault → ◌≡◌ {A = Result U Fault} (Err met) (Err fault)
+one_fault {met = met} {fault = fault} is e = let same : met ≡ fault = cc in ap Err same
+
+-- a job that is over by the fault that its lines met
+pub blames_same :
+    {T : Type 0} {met : Fault} {end : Result Ended Fault} {steady steady' sink_steady sink_steady' : Type 0} {faults faults' sink_faults sink_faults' : ℕ}
+    → end ≡ Err met → (◌≡◌ {A = Result T Fault} (Err met) (Err Read) → Rose faults faults') → (◌≡◌ {A = Result T Fault} (Err met) (Err Write) → Rose sink_faults sink_faults')
+    → Keeps steady steady' faults faults' (◌≡◌ {A = Result T Fault} (Err met) (Err Read)) → Keeps sink_steady sink_steady' sink_faults sink_faults' (◌≡◌ {A = Result T Fault} (Err met) (Err Write))
+    → BlamesStreams end steady steady' faults faults' sink_steady sink_steady' sink_faults sink_faults'
+blames_same is read write input out = record {
+  read = λ e. read (one_fault is e);
+  write = λ e. write (one_fault is e);
+  input = keeps_along (λ e. is ∙ one_fault refl e) input;
+  out = keeps_along (λ e. is ∙ one_fault refl e) out;
+}
+
+-- ---- the source and the sink
+
+-- a job that leaves both alone
+pub streams_alone :
+    {Source : Type 0} {end : Result Ended Fault} {source : Source} {comes steady sink_steady : Type 0} {faults sink_faults : ℕ}
+    → (end ≡ Err Write → ⊥) → LeavesStreams end source source comes steady steady faults faults sink_steady sink_steady sink_faults sink_faults
+streams_alone never = record { touches = inl refl; before_lines = λ ended. refl; write = λ e. absurd (never e); input = keeps_still; out = keeps_still }
+
+-- where all lines were answered, the job is not over before them
+not_before :
+    (A : Type 0) (refused : Bool) (end : Result Ended Fault) → IfOk end (λ ended. A × (ended ≡ end_of refused))
+    → (end ≡ Ok BadDescription) ⊎ (end ≡ Ok NotCertified) → ⊥
+not_before A refused (Err fault) ok (inl e) = cc
+not_before A refused (Err fault) ok (inr e) = cc
+not_before A true (Ok ended) ok (inl e) = let is : ended ≡ SomeRefused = ok.1 in cc
+not_before A true (Ok ended) ok (inr e) = let is : ended ≡ SomeRefused = ok.1 in cc
+not_before A false (Ok ended) ok (inl e) = let is : ended ≡ Done = ok.1 in cc
+not_before A false (Ok ended) ok (inr e) = let is : ended ≡ Done = ok.1 in cc
+
+-- a job that comes to its lines
+pub streams_of_lines :
+    {Source : Type 0} {end : Result Ended Fault} {source source' : Source} {comes : Type 0} {steady steady' sink_steady sink_steady' : Type 0} {faults faults' sink_faults sink_faults' : ℕ}
+    → comes → (A : Type 0) (refused : Bool) → IfOk end (λ ended. A × (ended ≡ end_of refused)) → BlamesStreams end steady steady' faults faults' sink_steady sink_steady' sink_faults sink_faults'
+    → LeavesStreams end source source' comes steady steady' faults faults' sink_steady sink_steady' sink_faults sink_faults'
+streams_of_lines {end = end} comes A refused ok blames = record {
+  touches = inr comes;
+  before_lines = λ before. absurd (not_before A refused end ok before);
+  write = blames.write;
+  input = blames.input;
+  out = blames.out;
+}
+
+-- a job within another
+pub streams_within :
+    {Source : Type 0} {end : Result Ended Fault} {source source' : Source} {comes others : Type 0} {steady steady' sink_steady sink_steady' : Type 0} {faults faults' sink_faults sink_faults' : ℕ}
+    → (comes → others) → LeavesStreams end source source' comes steady steady' faults faults' sink_steady sink_steady' sink_faults sink_faults'
+    → LeavesStreams end source source' others steady steady' faults faults' sink_steady sink_steady' sink_faults sink_faults'
+streams_within within streams = record {
+  touches = elim streams.touches [ inl same ↦ inl same | inr comes ↦ inr (within comes) ];
+  before_lines = streams.before_lines;
+  write = streams.write;
+  input = streams.input;
+  out = streams.out;
+}
+
+-- words that read lines ask for a job
+pub reads_for :
+    (words : List (List ℕ)) (files : Option (List ℕ → Option (List ℕ))) (watchers : List Watched) → ReadsLines words
+    → (job : LineJob) × Asked words files watchers job → ReadsLines words × (job : LineJob) × Asked words files watchers job
+reads_for words files watchers reads asked = (reads, asked.0, asked.1)
+
+-- ---- a text that gives no plan
+
+-- it ends a job by no fault but want of memory
+module _ (reason : NoPlan) (waits : List ℕ) where
+  pub text_no_read : (end : Result Ended Fault) → Refuses (Text reason) waits end → end ≡ Err Read → ⊥
+  text_no_read (Ok ended) refuses e = cc
+  text_no_read (Err fault) refuses e = let is : fault ≡ Memory = refuses.0 in cc
+
+  pub text_no_write : (end : Result Ended Fault) → Refuses (Text reason) waits end → end ≡ Err Write → ⊥
+  text_no_write (Ok ended) refuses e = cc
+  text_no_write (Err fault) refuses e = let is : fault ≡ Memory = refuses.0 in cc
+
+-- ---- the shelf
+
+-- words of three or fewer ask for no file
+pub asks_none :
+    {Shelf : Type 0} {words : List (List ℕ)} {gives : Shelf → List ℕ → Result (Vec ℕ Global) ShelfFault → Shelf → Type 0} {files : Option (List ℕ → Option (List ℕ))} {shelf : Shelf} {lacking : Type 0}
+    → length words ≤ 3 → AsksFiles words gives files shelf shelf lacking
+asks_none {words = words} {files = files} few = record {
+  no_file = λ none. refl;
+  fetched = λ names named. absurd (no_files few named);
+  missing = λ file comes lacks. absurd (comes_to_none words file files few comes);
+}
+
+-- words that name these files ask for the first, and then perhaps for the next
+pub asks_named :
+    {Shelf : Type 0} {words : List (List ℕ)} {file : List ℕ} {others : List (List ℕ)} {lacking : Type 0} (gives : Shelf → List ℕ → Result (Vec ℕ Global) ShelfFault → Shelf → Type 0) (files : Option (List ℕ → Option (List ℕ))) (shelf shelf' : Shelf)
+    → NamesFiles words (file ∷ others) → ((names : List (List ℕ)) → NamesFiles words names → names ≡ file ∷ others) → LeftByFetches gives (file ∷ others) shelf shelf'
+    → ((other : List ℕ) → ComesTo words files other → LacksFile files other → lacking) → AsksFiles words gives files shelf shelf' lacking
+asks_named {file = file} {others = others} gives files shelf shelf' named alone fetched missing = record {
+  no_file = λ none. absurd (none file ([], others, named));
+  fetched = λ names is. subst (λ l. LeftByFetches gives l shelf shelf') (sym (alone names is)) fetched;
+  missing = missing;
+}
+
+module _ {Shelf : Type 0} {words : List (List ℕ)} {lacking : Type 0} (gives : Shelf → List ℕ → Result (Vec ℕ Global) ShelfFault → Shelf → Type 0) (files : Option (List ℕ → Option (List ℕ))) (shelf shelf' : Shelf) where
+  -- words that name a rule ask for its file alone
+  pub asks_one :
+      {file name : List ℕ} {reading : Reading} → IsOverRule words file name reading → LeftByFetch (gives shelf file) shelf'
+      → (LacksFile files file → lacking) → AsksFiles words gives files shelf shelf' lacking
+  asks_one {file = file} {name = name} {reading = reading} over fetched missing =
+      asks_named gives files shelf shelf' (names_one file name reading over refl) (λ names named. one_file over named) (shelf', fetched, inl refl)
+      (λ other comes lacks. missing (subst (LacksFile files) (one_comes files over comes) lacks))
+
+  -- those of `compat` ask for both files
+  pub asks_pair :
+      {before after name : List ℕ} {reading : Reading} → IsCompat words before after name reading → LeftByFetches gives (before ∷ after ∷ []) shelf shelf'
+      → ((other : List ℕ) → ComesTo words files other → LacksFile files other → lacking) → AsksFiles words gives files shelf shelf' lacking
+  asks_pair {before = before} {after = after} {name = name} {reading = reading} row =
+      asks_named gives files shelf shelf' (names_pair before after name reading row refl) (λ names named. two_files row named)
+
+  -- and those of `verify` for the description and the certificate
+  pub asks_certificate :
+      {file name certificate : List ℕ} {reading : Reading} → IsVerify words file name reading certificate → LeftByFetches gives (file ∷ certificate ∷ []) shelf shelf'
+      → ((other : List ℕ) → ComesTo words files other → LacksFile files other → lacking) → AsksFiles words gives files shelf shelf' lacking
+  asks_certificate {file = file} {name = name} {certificate = certificate} {reading = reading} row =
+      asks_named gives files shelf shelf' (names_certificate file name reading certificate row refl) (λ names named. verify_files row named)
+
+-- where a file is lacking, what leaves the streams alone has done so
+pub lacking_alone : {A B Source Sink : Type 0} {source : Source} {sink : Sink} → A × B → A × (source ≡ source) × (sink ≡ sink) × B
+lacking_alone both = (both.0, refl, refl, both.1)
