@@ -1,8 +1,7 @@
 use Rattle.std.proofs.Common.{◌≡◌, [], ◌++◌, ◌∙◌, append-nil, codes, length, refl, sym, ap, append_assoc, arith}
-use Rattle.std.proofs.lemmas.Result.{IfOk-from_err}
 use Rattle.csn_bits.specs.Fault.{IsLineFault}
 use Rattle.csn_run.specs.OutLine.{fault_text, refusal_text}
-use Rattle.csn_run.proofs.AnswerLemmas.{cut_back, on_ok_none}
+use Rattle.csn_run.proofs.AnswerLemmas.{cut_back}
 use Rattle.csn_run.proofs.ProgressLemmas.{OnErr-from}
 use Rattle.csn_run.proofs.ShowLemmas.{fault_refuses, place_shown, text_shown}
 use Rattle.csn_run.proofs.show.answer_line.Goals as goal
@@ -59,71 +58,5 @@ returns-in_err-answer_fault-in-Fault-clause-err c = OnErr-from c.from_residual-i
     cut_back c.args.out.now.items c.end.new.out.items c.truncate-in-Fault.new.self.items (codes "ok ") c.len-start.result (ended.1 ∙ c.in_ok-extend_from_slice.ensures.items) c.truncate-in-Fault.ensures.items start in
     let (tail, is) = c.in_err-answer_fault-in-Fault.ensures.err in (tail, is ∙ ap (λ l. l ++ tail) same))
 
-pub returns-in_err-extend_from_slice-clause-form : goal.returns-in_err-extend_from_slice-clause-form
-returns-in_err-extend_from_slice-clause-form c = refl
-
-pub returns-in_err-extend_from_slice-clause-desc : goal.returns-in_err-extend_from_slice-clause-desc
-returns-in_err-extend_from_slice-clause-desc c = refl
-
-pub returns-in_err-extend_from_slice-clause-ok : goal.returns-in_err-extend_from_slice-clause-ok
-returns-in_err-extend_from_slice-clause-ok c = IfOk-from_err c.from_residual.result _ c.from_residual.ensures.0
-
-pub returns-in_err-extend_from_slice-clause-anew : goal.returns-in_err-extend_from_slice-clause-anew
-returns-in_err-extend_from_slice-clause-anew c = on_ok_none c.from_residual.result _ c.from_residual.ensures.0
-
 pub returns-in_err-extend_from_slice-clause-err : goal.returns-in_err-extend_from_slice-clause-err
 returns-in_err-extend_from_slice-clause-err c = OnErr-from c.from_residual.result (λ line reads. ([], c.in_err-extend_from_slice.ensures.items ∙ sym (append-nil _)))
-
-pub returns-in_err-bits-clause-form : goal.returns-in_err-bits-clause-form
-returns-in_err-bits-clause-form c = c.end.ensures.form
-
-pub returns-in_err-bits-clause-desc : goal.returns-in_err-bits-clause-desc
-returns-in_err-bits-clause-desc c = c.end.ensures.desc
-
-pub returns-in_err-bits-clause-ok : goal.returns-in_err-bits-clause-ok
-returns-in_err-bits-clause-ok c = IfOk-from_err c.from_residual-in_err-bits.result _ c.from_residual-in_err-bits.ensures.0
-
-pub returns-in_err-bits-clause-anew : goal.returns-in_err-bits-clause-anew
-returns-in_err-bits-clause-anew c = on_ok_none c.from_residual-in_err-bits.result _ c.from_residual-in_err-bits.ensures.0
-
-pub returns-in_err-answer_refusal-in-Refused-clause-form : goal.returns-in_err-answer_refusal-in-Refused-clause-form
-returns-in_err-answer_refusal-in-Refused-clause-form c = c.end.ensures.form
-
-pub returns-in_err-answer_refusal-in-Refused-clause-desc : goal.returns-in_err-answer_refusal-in-Refused-clause-desc
-returns-in_err-answer_refusal-in-Refused-clause-desc c = c.end.ensures.desc
-
-pub returns-in_err-answer_refusal-in-Refused-clause-ok : goal.returns-in_err-answer_refusal-in-Refused-clause-ok
-returns-in_err-answer_refusal-in-Refused-clause-ok c = IfOk-from_err c.from_residual-in_err-answer_refusal-in-Refused.result _ c.from_residual-in_err-answer_refusal-in-Refused.ensures.0
-
-pub returns-in_err-answer_refusal-in-Refused-clause-anew : goal.returns-in_err-answer_refusal-in-Refused-clause-anew
-returns-in_err-answer_refusal-in-Refused-clause-anew c = on_ok_none c.from_residual-in_err-answer_refusal-in-Refused.result _ c.from_residual-in_err-answer_refusal-in-Refused.ensures.0
-
-pub returns-in_err-answer_fault-in-Fault-clause-form : goal.returns-in_err-answer_fault-in-Fault-clause-form
-returns-in_err-answer_fault-in-Fault-clause-form c = c.end.ensures.form
-
-pub returns-in_err-answer_fault-in-Fault-clause-desc : goal.returns-in_err-answer_fault-in-Fault-clause-desc
-returns-in_err-answer_fault-in-Fault-clause-desc c = c.end.ensures.desc
-
-pub returns-in_err-answer_fault-in-Fault-clause-ok : goal.returns-in_err-answer_fault-in-Fault-clause-ok
-returns-in_err-answer_fault-in-Fault-clause-ok c = IfOk-from_err c.from_residual-in_err-answer_fault-in-Fault.result _ c.from_residual-in_err-answer_fault-in-Fault.ensures.0
-
-pub returns-in_err-answer_fault-in-Fault-clause-anew : goal.returns-in_err-answer_fault-in-Fault-clause-anew
-returns-in_err-answer_fault-in-Fault-clause-anew c = on_ok_none c.from_residual-in_err-answer_fault-in-Fault.result _ c.from_residual-in_err-answer_fault-in-Fault.ensures.0
-
-pub returns-in-Text-clause-form : goal.returns-in-Text-clause-form
-returns-in-Text-clause-form c = c.end.ensures.form
-
-pub returns-in-Text-clause-desc : goal.returns-in-Text-clause-desc
-returns-in-Text-clause-desc c = c.end.ensures.desc
-
-pub returns-in_ok-answer_refusal-in-Refused-clause-form : goal.returns-in_ok-answer_refusal-in-Refused-clause-form
-returns-in_ok-answer_refusal-in-Refused-clause-form c = c.end.ensures.form
-
-pub returns-in_ok-answer_refusal-in-Refused-clause-desc : goal.returns-in_ok-answer_refusal-in-Refused-clause-desc
-returns-in_ok-answer_refusal-in-Refused-clause-desc c = c.end.ensures.desc
-
-pub returns-in_ok-answer_fault-in-Fault-clause-form : goal.returns-in_ok-answer_fault-in-Fault-clause-form
-returns-in_ok-answer_fault-in-Fault-clause-form c = c.end.ensures.form
-
-pub returns-in_ok-answer_fault-in-Fault-clause-desc : goal.returns-in_ok-answer_fault-in-Fault-clause-desc
-returns-in_ok-answer_fault-in-Fault-clause-desc c = c.end.ensures.desc
