@@ -1,91 +1,55 @@
 -- Ends and faults that are not the same.
-use Rattle.std.proofs.Common.{◌≡◌, Result, Ok, Err, true≢false, sym, ◌∙◌, ap, subst}
+use Rattle.std.proofs.Common.{◌≡◌, ℕ, Result, Ok, Err, T, not, eqb, T_not, true≢false, sym, ◌∙◌, ap, subst}
 use Rattle.std.specs.Result.{is_ok}
 use Rattle.csn_run.specs.declared.ended.Ended.{Ended}
-use Rattle.csn_run.specs.declared.ended.Ended.TheVariants.{Done, SomeRefused, Usage, BadDescription, NotCertified, ReadFault, WriteFault, NoMemory, TooLong as end_too_long}
+use Rattle.csn_run.specs.declared.ended.Ended.TheVariants.{Done, Usage, WriteFault, NoMemory}
 use Rattle.csn_run.specs.declared.fault.Fault.{Fault}
-use Rattle.csn_run.specs.declared.fault.Fault.TheVariants.{Read, Write, Memory, TooLong}
+use Rattle.csn_run.specs.declared.fault.Fault.TheVariants.{Memory}
+use Rattle.csn_run.specs.Ended.{status_of}
+use Rattle.csn_run.specs.Job.{end_by}
+use lib.Dec.{eqb_refl}
 
--- ends that are not these
-abbrev pub IsNoUsage : Ended → Type 0
-IsNoUsage Done = Unit {0}
-IsNoUsage SomeRefused = Unit {0}
-IsNoUsage Usage = ⊥
-IsNoUsage BadDescription = Unit {0}
-IsNoUsage NotCertified = Unit {0}
-IsNoUsage ReadFault = Unit {0}
-IsNoUsage WriteFault = Unit {0}
-IsNoUsage NoMemory = Unit {0}
-IsNoUsage end_too_long = Unit {0}
+-- numbers that a test tells apart are not the same
+apart : (a b : ℕ) → T (not (eqb a b)) → a ≡ b → ⊥
+apart a b other same = T_not (eqb a b) other (subst (λ (k : ℕ). T (eqb a k)) same (eqb_refl a))
 
-abbrev pub IsNoWrite : Ended → Type 0
-IsNoWrite Done = Unit {0}
-IsNoWrite SomeRefused = Unit {0}
-IsNoWrite Usage = Unit {0}
-IsNoWrite BadDescription = Unit {0}
-IsNoWrite NotCertified = Unit {0}
-IsNoWrite ReadFault = Unit {0}
-IsNoWrite WriteFault = ⊥
-IsNoWrite NoMemory = Unit {0}
-IsNoWrite end_too_long = Unit {0}
+-- an end that has another exit status than this one
+abbrev pub EndsOtherwise : Ended → Ended → Type 0
+EndsOtherwise ended end = T (not (eqb (status_of ended) (status_of end)))
 
-abbrev pub IsNoWant : Ended → Type 0
-IsNoWant Done = Unit {0}
-IsNoWant SomeRefused = Unit {0}
-IsNoWant Usage = Unit {0}
-IsNoWant BadDescription = Unit {0}
-IsNoWant NotCertified = Unit {0}
-IsNoWant ReadFault = Unit {0}
-IsNoWant WriteFault = Unit {0}
-IsNoWant NoMemory = ⊥
-IsNoWant end_too_long = Unit {0}
+other_end : {ended end : Ended} → ended ≡ end → EndsOtherwise ended end → ⊥
+other_end {ended} {end} is other = apart (status_of ended) (status_of end) other (ap status_of is)
 
-pub ends_written : (ended end : Ended) → ended ≡ end → IsNoWrite end → ended ≡ WriteFault → ⊥
-ends_written ended end is none write = subst IsNoWrite (sym is ∙ write) none
+pub ends_written : (ended end : Ended) → ended ≡ end → EndsOtherwise WriteFault end → ended ≡ WriteFault → ⊥
+ends_written ended end is other write = other_end (sym write ∙ is) other
 
-pub ends_provided : (ended end : Ended) → ended ≡ end → IsNoWant end → ended ≡ NoMemory → ⊥
-ends_provided ended end is none want = subst IsNoWant (sym is ∙ want) none
+pub ends_provided : (ended end : Ended) → ended ≡ end → EndsOtherwise NoMemory end → ended ≡ NoMemory → ⊥
+ends_provided ended end is other want = other_end (sym want ∙ is) other
 
-pub usage_alone : {end : Ended} → Usage ≡ end → IsNoUsage end → ⊥
-usage_alone is none = subst IsNoUsage (sym is) none
+pub usage_alone : {end : Ended} → Usage ≡ end → EndsOtherwise Usage end → ⊥
+usage_alone is other = other_end is other
 
-pub want_alone : {end : Ended} → NoMemory ≡ end → IsNoWant end → ⊥
-want_alone is none = subst IsNoWant (sym is) none
+pub want_alone : {end : Ended} → NoMemory ≡ end → EndsOtherwise NoMemory end → ⊥
+want_alone is other = other_end is other
 
 -- what was done met no fault
 pub ok_not_err : {T E : Type 0} {x : T} {y : E} → ◌≡◌ {A = Result T E} (Ok x) (Err y) → ⊥
 ok_not_err is = true≢false (ap is_ok is)
 
--- faults that are not these
-abbrev pub MetNoRead : {T : Type 0} → Result T Fault → Type 0
-MetNoRead (Ok x) = Unit {0}
-MetNoRead (Err Read) = ⊥
-MetNoRead (Err Write) = Unit {0}
-MetNoRead (Err Memory) = Unit {0}
-MetNoRead (Err TooLong) = Unit {0}
+-- the exit status of a run that is over with what was met
+abbrev pub status_with : {A : Type 0} → Result A Fault → ℕ
+status_with (Ok x) = status_of Done
+status_with (Err fault) = status_of (end_by fault)
 
-abbrev pub MetNoWant : {T : Type 0} → Result T Fault → Type 0
-MetNoWant (Ok x) = Unit {0}
-MetNoWant (Err Read) = Unit {0}
-MetNoWant (Err Write) = Unit {0}
-MetNoWant (Err Memory) = ⊥
-MetNoWant (Err TooLong) = Unit {0}
+-- another exit status than by this fault
+abbrev pub MetOtherwise : {A : Type 0} → Fault → Result A Fault → Type 0
+MetOtherwise fault met = T (not (eqb (status_of (end_by fault)) (status_with met)))
 
-abbrev pub IsNotLong : {T : Type 0} → Result T Fault → Type 0
-IsNotLong (Ok x) = Unit {0}
-IsNotLong (Err Read) = Unit {0}
-IsNotLong (Err Write) = Unit {0}
-IsNotLong (Err Memory) = Unit {0}
-IsNotLong (Err TooLong) = ⊥
+pub other_met : {A : Type 0} {fault : Fault} {met : Result A Fault} → Err fault ≡ met → MetOtherwise fault met → ⊥
+other_met {fault = fault} {met} is other = apart (status_of (end_by fault)) (status_with met) other (ap status_with is)
 
-pub read_alone : {T : Type 0} {end : Result T Fault} → Err Read ≡ end → MetNoRead end → ⊥
-read_alone is none = subst MetNoRead (sym is) none
-
-pub memory_alone : {T : Type 0} {end : Result T Fault} → Err Memory ≡ end → MetNoWant end → ⊥
-memory_alone is none = subst MetNoWant (sym is) none
-
-pub long_alone : {T : Type 0} {end : Result T Fault} → Err TooLong ≡ end → IsNotLong end → ⊥
-long_alone is none = subst IsNotLong (sym is) none
+pub memory_alone : {A : Type 0} {end : Result A Fault} → Err Memory ≡ end → MetOtherwise Memory end → ⊥
+memory_alone is other = other_met is other
 
 -- one fault was met
 abbrev fault_or : {T : Type 0} → Fault → Result T Fault → Fault
