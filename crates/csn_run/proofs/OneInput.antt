@@ -9,21 +9,11 @@ use Rattle.csn_run.specs.LineState.{LineState, closing}
 use Rattle.csn_run.specs.Progress.{AllSteps, Answers, EndsIn}
 use Rattle.csn_run.specs.Result.{LineJob, Steps, beginning, end_of, AnswersInput, answers_all, answers_front}
 use Rattle.csn_run.proofs.LinesLemmas.{between_feeds-one}
-
-last_apart : (xs ys : List (List ℕ)) (x y : List ℕ) → xs ++ x ∷ [] ≡ ys ++ y ∷ [] → xs ≡ ys
-last_apart [] [] x y e = refl
-last_apart [] (v ∷ []) x y e = cc
-last_apart [] (v ∷ w ∷ ys) x y e = cc
-last_apart (u ∷ []) [] x y e = cc
-last_apart (u ∷ w ∷ xs) [] x y e = cc
-last_apart (u ∷ xs) (v ∷ ys) x y e =
-    let first : u ≡ v = cc in
-    let behind : xs ++ x ∷ [] ≡ ys ++ y ∷ [] = cc in
-    ap (λ w. w ∷ xs) first ∙ ap (λ l. v ∷ l) (last_apart xs ys x y behind)
+use Rattle.csn_run.proofs.Words.{last_apart}
 
 -- bytes have one list of lines that have ended in them
 pub one_end : (bytes line other : List ℕ) (ended others : List (List ℕ)) → EndsIn bytes ended line → EndsIn bytes others other → ended ≡ others
-one_end bytes line other ended others a b = last_apart ended others line other (sym (pieces ended line a) ∙ pieces others other b)
+one_end bytes line other ended others a b = (last_apart ended others line other (sym (pieces ended line a) ∙ pieces others other b)).0
   where
     pieces : (ended : List (List ℕ)) (line : List ℕ) → EndsIn bytes ended line → between_feeds (bytes ++ []) ≡ ended ++ line ∷ []
     pieces ended line is = is.whole [] ∙ ap (λ l. ended ++ between_feeds l) (append-nil line) ∙ ap (λ l. ended ++ l) (between_feeds-one line is.unended)

@@ -1,5 +1,6 @@
 -- Lists of as many members as a row of the command table has words.
-use Rattle.std.proofs.Common.{◌≡◌, ◌<◌, ◌≤◌, List, [], ◌∷◌, length, get_or, arith, Option, Some, None, IfSome, IsSome, is_some, true≢false, sym, subst, ap, ◌∙◌}
+use Rattle.std.proofs.Common.{◌≡◌, ◌<◌, ◌≤◌, List, [], ◌∷◌, ◌++◌, reverse, length, get_or, arith, Option, Some, None, IfSome, IsSome, is_some, true≢false, sym, subst, ap, ◌∙◌}
+use Rattle.std.proofs.lemmas.List.{append_cancel_right, reverse-append}
 
 -- a list of four members is these four
 pub four_members : {A : Type 0} (xs : List A) (a b c d : A) → 4 ≤ length xs → length xs < 5 → a ≡ get_or xs 0 a → b ≡ get_or xs 1 b → c ≡ get_or xs 2 c → d ≡ get_or xs 3 d → xs ≡ a ∷ b ∷ c ∷ d ∷ []
@@ -31,15 +32,12 @@ three_members (w ∷ x ∷ []) a b c low high p q r = absurd (omega arith)
 three_members (w ∷ x ∷ y ∷ []) a b c low high p q r = cc
 three_members (w ∷ x ∷ y ∷ z ∷ rest) a b c low high p q r = absurd (omega arith)
 
--- a list of five members is these five
-pub five_members : {A : Type 0} (xs : List A) (a b c d e : A) → 5 ≤ length xs → length xs < 6 → a ≡ get_or xs 0 a → b ≡ get_or xs 1 b → c ≡ get_or xs 2 c → d ≡ get_or xs 3 d → e ≡ get_or xs 4 e → xs ≡ a ∷ b ∷ c ∷ d ∷ e ∷ []
-five_members [] a b c d e low high p q r s t = absurd (omega arith)
-five_members (v ∷ []) a b c d e low high p q r s t = absurd (omega arith)
-five_members (v ∷ w ∷ []) a b c d e low high p q r s t = absurd (omega arith)
-five_members (v ∷ w ∷ x ∷ []) a b c d e low high p q r s t = absurd (omega arith)
-five_members (v ∷ w ∷ x ∷ y ∷ []) a b c d e low high p q r s t = absurd (omega arith)
-five_members (v ∷ w ∷ x ∷ y ∷ z ∷ []) a b c d e low high p q r s t = cc
-five_members (v ∷ w ∷ x ∷ y ∷ z ∷ u ∷ rest) a b c d e low high p q r s t = absurd (omega arith)
+-- lists with a member behind each are the same in front and in that member
+pub last_apart : {A : Type 0} (xs ys : List A) (x y : A) → xs ++ x ∷ [] ≡ ys ++ y ∷ [] → (xs ≡ ys) × (x ≡ y)
+last_apart xs ys x y e =
+    let turned : x ∷ reverse xs ≡ y ∷ reverse ys = sym (reverse-append xs (x ∷ [])) ∙ ap (λ l. reverse l) e ∙ reverse-append ys (y ∷ []) in
+    let same : x ≡ y = cc (turned) in
+    (append_cancel_right xs ys (y ∷ []) (ap (λ w. xs ++ w ∷ []) (sym same) ∙ e), same)
 
 -- where there is none, nothing is asked of it
 pub if_none : {A : Type 0} (o : Option A) (P : A → Type 0) → o ≡ None → IfSome o P

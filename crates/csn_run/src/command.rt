@@ -3,7 +3,9 @@ ghost use Rattle.std.specs.Fmt.{decimal};
 ghost use Rattle.csn_catalogue.specs.declared.entry.Entry.{Entry};
 ghost use Rattle.csn_desc.specs.declared.reading.Reading.{Reading};
 ghost use Rattle.csn_soak.specs.declared.soaking.TheConstants.{MOST_BLOCKS};
-ghost use Rattle.csn_run.specs.Command.{AreRuleWords, IsArgument, IsCommand, IsCompat, IsVerify, IsMigrate, IsOverRule, IsRowOf, IsSoak, NamesReading, NamesRule, word_of};
+ghost use Rattle.csn_run.specs.declared.command.RuleCommand.{RuleCommand};
+ghost use Rattle.csn_run.specs.declared.command.RuleReport.{RuleReport};
+ghost use Rattle.csn_run.specs.Command.{AreRuleWords, IsArgument, IsCommand, IsCompat, IsVerify, IsMigrate, IsOverRule, IsRowOf, IsSoak, NamesReading, NamesRule, command_word, report_word, word_of};
 
 use csn_catalogue::{Entry, entry_of};
 use csn_desc::Reading;
@@ -80,12 +82,6 @@ fn is_argument(word: &str) -> bool
         [] => false,
         [first, ..] => *first != b'-',
     }
-}
-
-fn are_arguments(first: &str, second: &str, third: &str) -> bool
-    ensures { IsTrue result ↔ (IsArgument first.now × IsArgument second.now × IsArgument third.now) }
-{
-    is_argument(first) && is_argument(second) && is_argument(third)
 }
 
 /// The reading that a word names.
@@ -178,19 +174,17 @@ fn pair_words<'a, W: AsStr>(words: &'a [W]) -> Option<PairWords<'a>>
     ensures names { IfSome result (λ pair. IsCompat (map W.text words.now) pair.before.now pair.after.now pair.name.now pair.reading) }
     ensures none { (before after name : List ℕ) (reading : Reading) → IsCompat (map W.text words.now) before after name reading → IsSome result }
 {
-    let [first, before, after, name, reading] = words else {
-        return None;
-    };
-    let reading = reading_of(reading.as_str())?;
+    // Behind `compat` the words are those of a rule, with the old file in place of a command.
+    let (first, behind) = words.split_first()?;
+    let (before, _) = behind.split_first()?;
     let before = before.as_str();
-    let after = after.as_str();
-    let name = name.as_str();
-    if first.as_str() == "compat" && are_arguments(before, after, name) {
+    let rule = rule_words(before, behind)?;
+    if first.as_str() == "compat" && is_argument(before) {
         Some(PairWords {
             before,
-            after,
-            name,
-            reading,
+            after: rule.file,
+            name: rule.name,
+            reading: rule.reading,
         })
     } else {
         None
@@ -202,19 +196,10 @@ fn verify_words<'a, W: AsStr>(words: &'a [W]) -> Option<(RuleWords<'a>, &'a str)
     ensures names { IfSome result (λ asked. IsVerify (map W.text words.now) asked.0.file.now asked.0.name.now asked.0.reading asked.1.now) }
     ensures none { (file name : List ℕ) (reading : Reading) (certificate : List ℕ) → IsVerify (map W.text words.now) file name reading certificate → IsSome result }
 {
-    let [first, file, name, reading, certificate] = words else {
-        return None;
-    };
-    let reading = reading_of(reading.as_str())?;
-    let file = file.as_str();
-    let name = name.as_str();
+    let (certificate, front) = words.split_last()?;
+    let rule = rule_words("verify", front)?;
     let certificate = certificate.as_str();
-    if first.as_str() == "verify" && are_arguments(file, name, certificate) {
-        let rule = RuleWords {
-            file,
-            name,
-            reading,
-        };
+    if is_argument(certificate) {
         Some((rule, certificate))
     } else {
         None
@@ -230,29 +215,50 @@ fn is_migrate<W: AsStr>(words: &[W]) -> bool
     }
 }
 
+/// The report that a word asks for.
+fn report_of(word: &str) -> Option<RuleReport>
+    ensures named { IfSome result (λ report. word.now ≡ report_word report) }
+    ensures none { (report : RuleReport) → word.now ≡ report_word report → IsSome result }
+{
+    match word.as_bytes() {
+        b"check" => Some(RuleReport::Check),
+        b"certificate" => Some(RuleReport::Certificate),
+        _ => None,
+    }
+}
+
+/// The command that a word asks for, by which a rule answers lines.
+fn answer_of(word: &str) -> Option<RuleCommand>
+    ensures named { IfSome result (λ command. word.now ≡ command_word command) }
+    ensures none { (command : RuleCommand) → word.now ≡ command_word command → IsSome result }
+{
+    if word == "show" {
+        Some(RuleCommand::Show(TreeForm::Text))
+    } else if word == "json" {
+        Some(RuleCommand::Show(TreeForm::Json))
+    } else if word == "write" {
+        Some(RuleCommand::Write(TreeForm::Text))
+    } else if word == "unjson" {
+        Some(RuleCommand::Write(TreeForm::Json))
+    } else {
+        None
+    }
+}
+
 /// The command over a rule that the words ask for, where they are such a row of the command table.
 fn rule_command<W: AsStr>(words: &[W]) -> Option<Command<'_>>
     ensures row { IsSome result → IsCommand (map W.text words.now) }
     ensures none { (file name : List ℕ) (reading : Reading) → IsOverRule (map W.text words.now) file name reading → IsSome result }
     ensures names { IfSome result (λ command. IsRowOf (map W.text words.now) command) }
 {
-    if let Some(rule) = rule_words("check", words) {
-        return Some(Command::Report(RuleReport::Check, rule));
+    let (first, _) = words.split_first()?;
+    let word = first.as_str();
+    let rule = rule_words(word, words)?;
+    if let Some(report) = report_of(word) {
+        return Some(Command::Report(report, rule));
     }
-    if let Some(rule) = rule_words("show", words) {
-        return Some(Command::Answer(RuleCommand::Show(TreeForm::Text), rule));
-    }
-    if let Some(rule) = rule_words("write", words) {
-        return Some(Command::Answer(RuleCommand::Write(TreeForm::Text), rule));
-    }
-    if let Some(rule) = rule_words("json", words) {
-        return Some(Command::Answer(RuleCommand::Show(TreeForm::Json), rule));
-    }
-    if let Some(rule) = rule_words("certificate", words) {
-        return Some(Command::Report(RuleReport::Certificate, rule));
-    }
-    let rule = rule_words("unjson", words)?;
-    Some(Command::Answer(RuleCommand::Write(TreeForm::Json), rule))
+    let command = answer_of(word)?;
+    Some(Command::Answer(command, rule))
 }
 
 /// The command that the words ask for, where they are a row of the command table.

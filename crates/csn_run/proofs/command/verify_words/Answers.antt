@@ -1,54 +1,34 @@
-use Rattle.std.proofs.Common.{rules, sym, subst, ◌≡◌, ◌∙◌, ap, map, codes, IsTrue, is_some, refl, length}
-use Rattle.csn_run.specs.Command.{IsArgument}
+use Rattle.std.proofs.Common.{sym, subst, ◌∙◌, ap, is_some, refl, arith, length}
 use Rattle.std.proofs.lemmas.List.{length-map}
-use Rattle.csn_run.proofs.Words.{five_members, if_none}
-use Rattle.csn_run.proofs.command.verify_words.Goals.{in_default-via-then-words-lt5, in_default-via-else-words-lt5+else-words-lt6, else-eq-via-then-eq+else-are_arguments, else-eq-via-else-eq}
+use Rattle.csn_run.specs.Command.{IsArgument}
+use Rattle.csn_run.proofs.RuleRows.{front_of_verify, verify_row_of}
+use Rattle.csn_run.proofs.Words.{if_none}
 use Rattle.csn_run.proofs.command.verify_words.Goals as goal
 
-pub returns-then-are_arguments-clause-names : goal.returns-then-are_arguments-clause-names
-returns-then-are_arguments-clause-names g c =
-    let fit = c.are_arguments.ensures.0 c.if-are_arguments.true in
-    let words = five_members c.args.words.now _ _ _ _ _ c.in-len5.len_at_least c.in-len5.len_below c.first-item.is c.file-item.is c.name-item.is c.reading-item.is c.certificate-item.is in
-    let first : g.W.AsStr.text c.first-item.result ≡ codes "verify" = search rules in
-    record {
-      words_are = ap (map g.W.AsStr.text) words ∙ cc (first, c.as_str-file.ensures, c.as_str-name.ensures, c.as_str-certificate.ensures, c.as_str.ensures, c.in_ok-reading.ensures.named);
-      file_fits = fit.0;
-      name_fits = fit.1;
-      certificate_fits = fit.2;
-    }
+pub returns-then-is_argument-clause-names : goal.returns-then-is_argument-clause-names
+returns-then-is_argument-clause-names g c =
+    verify_row_of g.W.AsStr.text c.in_ok-certificate.front.now c.in_ok-certificate.certificate.now c.in_ok-certificate.ensures.cases.0 c.as_str-certificate.ensures c.in_ok-rule.ensures.names
+    (c.is_argument.ensures.0 c.if-is_argument.true)
 
-pub returns-then-are_arguments-clause-none : goal.returns-then-are_arguments-clause-none
-returns-then-are_arguments-clause-none g c = λ file name reading certificate row. refl
+pub returns-then-is_argument-clause-none : goal.returns-then-is_argument-clause-none
+returns-then-is_argument-clause-none g c = λ file name reading certificate row. refl
 
-pub returns-in_default-clause-none : goal.returns-in_default-clause-none
-returns-in_default-clause-none g c = λ file name reading certificate row.
-    let five : length c.args.words.now ≡ 5 = sym (length-map c.args.words.now g.W.AsStr.text) ∙ ap length row.words_are in
-    elim c.in_default.branch [
-      | in_default-via-then-words-lt5 w ↦ absurd (search (rules, five))
-      | in_default-via-else-words-lt5+else-words-lt6 w ↦ absurd (search (rules, five))
-    ]
+pub returns-else-is_argument-clause-none : goal.returns-else-is_argument-clause-none
+returns-else-is_argument-clause-none g c = λ file name reading certificate row.
+    let front = front_of_verify g.W.AsStr.text c.in_ok-certificate.front.now c.in_ok-certificate.certificate.now c.in_ok-certificate.ensures.cases.0 row in
+    sym c.if-is_argument.false ∙ c.is_argument.ensures.1 (subst IsArgument (front.1 ∙ sym c.as_str-certificate.ensures) row.certificate_fits)
 
-pub returns-in_err-reading-clause-names : goal.returns-in_err-reading-clause-names
-returns-in_err-reading-clause-names g c = if_none c.from_residual.result _ c.from_residual.ensures
+pub returns-in_err-certificate-clause-none : goal.returns-in_err-certificate-clause-none
+returns-in_err-certificate-clause-none g c = λ file name reading certificate row.
+    absurd (omega (arith, c.in_err-certificate.ensures.cases, ap length row.words_are, length-map c.args.words.now g.W.AsStr.text))
 
-pub returns-in_err-reading-clause-none : goal.returns-in_err-reading-clause-none
-returns-in_err-reading-clause-none g c = λ file name reading certificate row.
-    let words = five_members c.args.words.now _ _ _ _ _ c.in-len5.len_at_least c.in-len5.len_below c.first-item.is c.file-item.is c.name-item.is c.reading-item.is c.certificate-item.is in
-    let all = sym (ap (map g.W.AsStr.text) words) ∙ row.words_are in
-    ap is_some c.from_residual.ensures ∙ c.in_err-reading.ensures.none reading (cc (all, c.as_str.ensures))
+pub returns-in_err-certificate-clause-names : goal.returns-in_err-certificate-clause-names
+returns-in_err-certificate-clause-names g c = if_none c.from_residual.result _ c.from_residual.ensures
 
-pub returns-else-eq-clause-none : goal.returns-else-eq-clause-none
-returns-else-eq-clause-none g c = λ file name reading certificate row.
-    let words = five_members c.args.words.now _ _ _ _ _ c.in-len5.len_at_least c.in-len5.len_below c.first-item.is c.file-item.is c.name-item.is c.reading-item.is c.certificate-item.is in
-    let all = sym (ap (map g.W.AsStr.text) words) ∙ row.words_are in
-    elim c.else-eq.branch [
-      | else-eq-via-then-eq+else-are_arguments w ↦
-          let file_is : file ≡ c.as_str-file.result.now = cc (all, c.as_str-file.ensures) in
-          let name_is : name ≡ c.as_str-name.result.now = cc (all, c.as_str-name.ensures) in
-          let certificate_is : certificate ≡ c.as_str-certificate.result.now = cc (all, c.as_str-certificate.ensures) in
-          sym w.if-are_arguments.false ∙ w.are_arguments.ensures.1 (subst IsArgument file_is row.file_fits, subst IsArgument name_is row.name_fits, subst IsArgument certificate_is row.certificate_fits)
-      | else-eq-via-else-eq w ↦
-          let first : g.W.AsStr.text c.first-item.result ≡ codes "verify" = cc (all) in
-          let yes : IsTrue c.eq.result = search rules in
-          sym w.if-eq.false ∙ yes
-    ]
+pub returns-in_err-rule-clause-none : goal.returns-in_err-rule-clause-none
+returns-in_err-rule-clause-none g c = λ file name reading certificate row.
+    ap is_some c.from_residual-in_err-rule.ensures
+    ∙ c.in_err-rule.ensures.none file name reading (front_of_verify g.W.AsStr.text c.in_ok-certificate.front.now c.in_ok-certificate.certificate.now c.in_ok-certificate.ensures.cases.0 row).0
+
+pub returns-in_err-rule-clause-names : goal.returns-in_err-rule-clause-names
+returns-in_err-rule-clause-names g c = if_none c.from_residual-in_err-rule.result _ c.from_residual-in_err-rule.ensures
