@@ -1,6 +1,6 @@
 //! Lines of `write` and `unjson`: a tree in, its block or its first misfit out.
 
-ghost use Rattle.std.specs.Prelude.{◌≡◌, ◌<◌, ◌≤◌, ◌⊎◌, ◌++◌, ◌∷◌, [], List, ℕ, codes, length, IfOk, IfErr, IfSome, OnOk, OnErr};
+ghost use Rattle.std.specs.Prelude.{◌≡◌, ◌<◌, ◌≤◌, ◌⊎◌, ◌++◌, ◌∷◌, [], List, ℕ, codes, length, IfOk, IfErr, IfNone, IfSome, OnOk, OnErr};
 ghost use Rattle.csn_bits.specs.Line.{written};
 ghost use Rattle.csn_encode.specs.declared.misfit.Misfit.{Misfit};
 ghost use Rattle.csn_desc.specs.TreeV.{TreeV};
@@ -66,22 +66,32 @@ fn push_counted(name: &[u8], wanted: u32, found: u32, out: &mut Vec<u8>) -> Resu
     push_numbers(&[wanted, found], out)
 }
 
+/// The name of a reason, and what was wanted and found, where it tells that.
+fn told_by(why: MisfitWhy) -> (&'static [u8], Option<(u32, u32)>)
+    ensures name { IfNone result.1 (why_text why ≡ result.0.now) }
+    ensures counted { IfSome result.1 (λ counts. why_text why ≡ line_of result.0.now (counts.0 ∷ counts.1 ∷ [])) }
+{
+    match why {
+        MisfitWhy::WrongKind => (b"WrongKind", None),
+        MisfitWhy::WrongLabel => (b"WrongLabel", None),
+        MisfitWhy::WrongCount { wanted, found } => (b"WrongCount", Some((wanted, found))),
+        MisfitWhy::WrongWidth { wanted, found } => (b"WrongWidth", Some((wanted, found))),
+        MisfitWhy::WrongSpare => (b"WrongSpare", None),
+        MisfitWhy::NoSuchAlternative => (b"NoSuchAlternative", None),
+        MisfitWhy::WindowLength { wanted, found } => (b"WindowLength", Some((wanted, found))),
+        MisfitWhy::TooManyBits => (b"TooManyBits", None),
+    }
+}
+
 /// Writes why a tree misses.
 fn push_why(why: MisfitWhy, out: &mut Vec<u8>) -> Result<(), AllocError>
     ensures ok { OnOk result (out.new.items ≡ out.old.items ++ why_text why) }
     ensures err { OnErr result ((tail : List ℕ) × (out.new.items ≡ out.old.items ++ tail)) }
 {
-    match why {
-        MisfitWhy::WrongKind => out.extend_from_slice(b"WrongKind"),
-        MisfitWhy::WrongLabel => out.extend_from_slice(b"WrongLabel"),
-        MisfitWhy::WrongCount { wanted, found } => push_counted(b"WrongCount", wanted, found, out),
-        MisfitWhy::WrongWidth { wanted, found } => push_counted(b"WrongWidth", wanted, found, out),
-        MisfitWhy::WrongSpare => out.extend_from_slice(b"WrongSpare"),
-        MisfitWhy::NoSuchAlternative => out.extend_from_slice(b"NoSuchAlternative"),
-        MisfitWhy::WindowLength { wanted, found } => {
-            push_counted(b"WindowLength", wanted, found, out)
-        }
-        MisfitWhy::TooManyBits => out.extend_from_slice(b"TooManyBits"),
+    let (name, counts) = told_by(why);
+    match counts {
+        Some((wanted, found)) => push_counted(name, wanted, found, out),
+        None => out.extend_from_slice(name),
     }
 }
 
