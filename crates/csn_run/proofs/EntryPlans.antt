@@ -1,7 +1,7 @@
 -- The plans of all entries, made one after another.
 use Rattle.std.proofs.Common.{◌≡◌, ℕ, ◌+◌, ◌<◌, ◌≤◌, zero, suc, true, false, Result, Ok, Err, List, [], ◌∷◌, ◌++◌, length, map, take, drop, slice_get, slice_index_or, Some, refl, sym, ap, subst, arith}
 use Rattle.std.specs.List.{AllByRecursion}
-use Rattle.std.specs.Prelude.{OnOk, if◌then◌else◌}
+use Rattle.std.specs.Prelude.{if◌then◌else◌}
 use Rattle.std.specs.Result.{is_err, is_ok}
 use Rattle.csn_catalogue.specs.declared.entry.Entry.{Entry}
 use Rattle.csn_catalogue.specs.Entries.{all_entries, entry_root}
@@ -21,11 +21,6 @@ use Rattle.csn_run.proofs.ReplayedLines.{compiled_more}
 pub pushed : {A B X : Type 0} (r : Result A B) (new more same : List X) → new ≡ (if is_ok r then more else same) → is_err r ≡ false → new ≡ more
 pushed (Ok x) new more same is e = is
 pushed (Err x) new more same is e = absurd (let clash : true ≡ false = e in cc)
-
--- what holds where there was no error
-pub kept : {A B : Type 0} (r : Result A B) (P : Type 0) → OnOk r P → is_err r ≡ false → P
-kept (Ok x) P holds e = holds
-kept (Err x) P holds e = absurd (let clash : true ≡ false = e in cc)
 
 -- a member of a list
 member : (xs : List Entry) (i : ℕ) (d : Entry) → i < length xs → slice_get xs i ≡ Some (slice_index_or xs i d)

@@ -152,9 +152,9 @@ fn plans_by(alloc: Global, rules: &Rules, reading: Reading) -> Result<Vec<TextPl
             Ok(plan) => plan,
             Err(reason) => return Err(reason),
         };
-        if keep_plan(&mut plans, plan).is_err() {
+        let Ok(()) = keep_plan(&mut plans, plan) else {
             return Err(NoPlan::Plan(CertifyFault::NoMemory));
-        }
+        };
     }
     Ok(plans)
 }
