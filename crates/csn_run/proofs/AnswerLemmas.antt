@@ -25,11 +25,7 @@ pub on_ok_none : {T E : Type 0} (r : Result T E) (P : Type 0) → IsErr r → On
 on_ok_none (Ok x) P is = absurd (true≢false (sym is))
 on_ok_none (Err e) P is = tt
 
--- what holds where more was put behind a text, and what holds where there was no memory for it
-pub put_behind : {T E : Type 0} (r : Result T E) (P : Type 0) (new more same : List ℕ) → new ≡ (if is_ok r then more else same) → (new ≡ more → P) → OnOk r P
-put_behind (Ok x) P new more same is holds = holds is
-put_behind (Err e) P new more same is holds = tt
-
+-- what holds where there was no memory for what was to be put behind a text
 pub not_put : {T E : Type 0} (r : Result T E) (P : Type 0) (new more same : List ℕ) → new ≡ (if is_ok r then more else same) → (new ≡ same → P) → OnErr r P
 not_put (Ok x) P new more same is holds = tt
 not_put (Err e) P new more same is holds = holds is
