@@ -118,23 +118,6 @@ fn answer_no_block(fault: EncodeFault, out: &mut Vec<u8>) -> Result<(), AllocErr
     }
 }
 
-/// The block that has a tree, or its first misfit; with a counter of steps.
-fn block_of<L: Ledger>(
-    alloc: Global,
-    plan: &Plan,
-    tree: &Tree,
-    blank: Blank,
-) -> Result<Bits, EncodeFault>
-    requires name { blank.name ≡ L.name }
-    requires parts { blank.parts ≡ L.parts }
-    requires some { 0 < blank.parts }
-    ensures block { IfOk result (IsBlockOf plan.now tree.now) }
-    ensures misfit { IfErr result (IsFaultOf plan.now tree.now) }
-{
-    let mut steps = Steps::<L>::new(blank);
-    encode(alloc, plan, tree, &mut steps)
-}
-
 /// The block that has the tree of a text, written along the text; with a counter of steps.
 fn block_along<L: Ledger>(alloc: Global, plan: &Plan, text: &[u8], blank: Blank) -> Option<Bits>
     requires name { blank.name ≡ L.name }
@@ -192,15 +175,25 @@ fn tree_of_line(
     Ok(None)
 }
 
-/// Answers a tree by the block that has it, or by its first misfit.
-fn answer_tree(alloc: Global, plan: &Plan, tree: &Tree, out: &mut Vec<u8>) -> LineResult
+/// Answers a tree by the block that has it, or by its first misfit; with a counter of steps.
+fn answer_tree<L: Ledger>(
+    alloc: Global,
+    plan: &Plan,
+    tree: &Tree,
+    out: &mut Vec<u8>,
+    blank: Blank,
+) -> LineResult
+    requires name { blank.name ≡ L.name }
+    requires parts { blank.parts ≡ L.parts }
+    requires some { 0 < blank.parts }
     ensures ok { IfOk result (λ answered. (answer : List ℕ) × (out.new.items ≡ out.old.items ++ answer)
         × (((block : List ℕ) × IsBlockOf plan.now tree.now block × (answer ≡ codes "ok " ++ written block))
         ⊎ ((misfit : Misfit) × IsFaultOf plan.now tree.now (EncodeFault.Misfit misfit) × (answer ≡ misfit_text misfit.path misfit.why)))
         × (is_refused answered ≡ is_refusal answer)) }
     ensures err { OnErr result ((tail : List ℕ) × (out.new.items ≡ out.old.items ++ tail)) }
 {
-    match block_of::<Brand>(alloc, plan, tree, Blank::new(1)) {
+    let mut steps = Steps::<L>::new(blank);
+    match encode(alloc, plan, tree, &mut steps) {
         Ok(bits) => {
             answer_block(alloc, &bits, out)?;
             Ok(Answered::Given)
@@ -229,7 +222,7 @@ fn write_by_tree(
     let Some(tree) = tree_of_line(alloc, form, line, out)? else {
         return Ok(Answered::Refused);
     };
-    answer_tree(alloc, plan, &tree, out)
+    answer_tree::<Brand>(alloc, plan, &tree, out, Blank::new(1))
 }
 
 /// Answers a line by the block of its tree, which it is in a form. What the quick way along the text leaves open, the tree

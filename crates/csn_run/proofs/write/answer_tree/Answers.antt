@@ -5,16 +5,16 @@ use Rattle.csn_run.specs.OutLine.{misfit_text}
 use Rattle.csn_run.proofs.ProgressLemmas.{OnErr-from}
 use Rattle.csn_run.proofs.write.answer_tree.Goals as goal
 
-pub returns-in_ok-answer_block-in-Ok-clause-ok : goal.returns-in_ok-answer_block-in-Ok-clause-ok
-returns-in_ok-answer_block-in-Ok-clause-ok c = (
+pub returns-in-Ok-clause-ok : goal.returns-in-Ok-clause-ok
+returns-in-Ok-clause-ok g c = (
   codes "ok " ++ written c.in-Ok.bits,
   c.in_ok-answer_block-in-Ok.ensures.ok,
-  inl (c.in-Ok.bits, c.in-Ok.ensures.block, refl),
+  inl (c.in-Ok.bits, c.in-Ok.ensures.bits, refl),
   refl,
 )
 
-pub returns-in_ok-answer_no_block-in-Err-clause-ok : goal.returns-in_ok-answer_no_block-in-Err-clause-ok
-returns-in_ok-answer_no_block-in-Err-clause-ok c =
+pub returns-clause-ok : goal.returns-clause-ok
+returns-clause-ok g c =
     let told = c.in_ok-answer_no_block-in-Err.ensures.ok in (
       misfit_text told.0.path told.0.why,
       told.2,
@@ -23,7 +23,7 @@ returns-in_ok-answer_no_block-in-Err-clause-ok c =
     )
 
 pub returns-in_err-answer_block-in-Ok-clause-err : goal.returns-in_err-answer_block-in-Ok-clause-err
-returns-in_err-answer_block-in-Ok-clause-err c = OnErr-from c.from_residual.result c.in_err-answer_block-in-Ok.ensures.err
+returns-in_err-answer_block-in-Ok-clause-err g c = OnErr-from c.from_residual.result c.in_err-answer_block-in-Ok.ensures.err
 
 pub returns-in_err-answer_no_block-in-Err-clause-err : goal.returns-in_err-answer_no_block-in-Err-clause-err
-returns-in_err-answer_no_block-in-Err-clause-err c = OnErr-from c.from_residual-in_err-answer_no_block-in-Err.result c.in_err-answer_no_block-in-Err.ensures.err
+returns-in_err-answer_no_block-in-Err-clause-err g c = OnErr-from c.from_residual-in_err-answer_no_block-in-Err.result c.in_err-answer_no_block-in-Err.ensures.err
