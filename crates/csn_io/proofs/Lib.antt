@@ -1,3 +1,3 @@
 pub mod Dropped
 pub mod Told
-pub mod Refusals
+pub mod Planned

@@ -55,10 +55,15 @@ impl Shelf for MemShelf {
             return Err(ShelfFault::Missing);
         };
         if fails {
-            self.faults.rise(alloc, name)?;
-            return Err(ShelfFault::Failed);
+            return match self.faults.rise(alloc, name) {
+                Ok(()) => Err(ShelfFault::Failed),
+                Err(_) => Err(ShelfFault::NoMemory),
+            };
         }
-        Ok(front(alloc, file, most)?)
+        match front(alloc, file, most) {
+            Ok(front) => Ok(front),
+            Err(_) => Err(ShelfFault::NoMemory),
+        }
     }
 }
 
