@@ -35,10 +35,16 @@ space_missing line more entry at clear longer is =
 -- ---- a line that goes on with bytes that have a space
 
 -- it is what stands before the space, the space, and what stands behind it
-pub split_line : (line bytes : List ℕ) (k : ℕ) → k < length bytes → Passes (is_byte space) bytes k
+split_line : (line bytes : List ℕ) (k : ℕ) → k < length bytes → Passes (is_byte space) bytes k
     → line ++ bytes ≡ (line ++ take k bytes) ++ space ∷ drop (k + 1) bytes
 split_line line bytes k within here =
     ap (λ text. line ++ text) (split_at_space bytes k within here) ∙ sym (append_assoc line (take k bytes) (space ∷ drop (k + 1) bytes))
+
+-- with this word before that space
+pub split_word : (line bytes word : List ℕ) (k : ℕ) (entry : Entry) → line ≡ word → k < length bytes → Passes (is_byte space) bytes k
+    → word ++ take k bytes ≡ entry_word entry → line ++ bytes ≡ entry_word entry ++ space ∷ drop (k + 1) bytes
+split_word line bytes word k entry same within here is =
+    split_line line bytes k within here ∙ ap (λ text. text ++ space ∷ drop (k + 1) bytes) (ap (λ text. text ++ take k bytes) same ∙ is)
 
 -- with another word before its first space it begins no capture of the entry
 pub other_word : (line bytes more : List ℕ) (k : ℕ) (entry : Entry) (at : ℕ) → HasNoSpace line
@@ -92,14 +98,21 @@ heads_tell_captures Missing line never = λ entry at capture. never [] entry at 
 
 -- ---- what has come of the block
 
--- nothing, where the line is no capture
+-- nothing before the space
+pub none_left : (bytes : List ℕ) → [] ≡ drop (length bytes) bytes
+none_left bytes = sym (drop_all (length bytes) bytes (omega arith))
+
+-- nor where the line is no capture
 pub missing_none : (head : CaptureHead) (line bytes : List ℕ) → head ≡ Missing → block_so_far head (line ++ bytes) ≡ block_so_far head line ++ drop (length bytes) bytes
 missing_none head line bytes is =
-    subst (λ h. block_so_far h (line ++ bytes) ≡ block_so_far h line ++ drop (length bytes) bytes) (sym is) (sym (drop_all (length bytes) bytes (omega arith)))
+    subst (λ h. block_so_far h (line ++ bytes) ≡ block_so_far h line ++ drop (length bytes) bytes) (sym is) (none_left bytes)
 
--- nor before the space
-pub word_none : (head : CaptureHead) (word : _) (line bytes : List ℕ) → head ≡ Word word → [] ≡ block_so_far head line ++ drop (length bytes) bytes
-word_none head word line bytes is = sym (ap (λ h. block_so_far h line ++ drop (length bytes) bytes) is ∙ drop_all (length bytes) bytes (omega arith))
+pub missing_is_on : (head : CaptureHead) (line bytes : List ℕ) → head ≡ Missing → HeadOf head line → HeadOf head (line ++ bytes)
+missing_is_on head line bytes is of =
+    let known : HeadOf Missing line = subst (λ h. HeadOf h line) is of in
+    let still : HeadOf Missing (line ++ bytes) =
+    λ more entry at capture. known (bytes ++ more) entry at (subst (λ text. IsCapture text entry at) (append_assoc line bytes more) capture) in
+    subst (λ h. HeadOf h (line ++ bytes)) (sym is) still
 
 -- behind it all that comes
 pub block_goes_on : (head : CaptureHead) (entry : Entry) (line bytes : List ℕ) → head ≡ Block entry → HeadOf head line → block_so_far head (line ++ bytes) ≡ block_so_far head line ++ bytes
@@ -120,9 +133,16 @@ drop_word (byte ∷ word) behind =
     let on : length (byte ∷ word) + 1 ≡ suc (length word + 1) = omega arith in
     ap (λ n. drop n (byte ∷ word ++ space ∷ behind)) on ∙ drop_word word behind
 
-pub block_behind : (head : CaptureHead) (word : _) (entry : Entry) (line text behind : List ℕ) → head ≡ Word word → text ≡ entry_word entry ++ space ∷ behind → drop (length (entry_word entry) + 1) text ≡ block_so_far head line ++ behind
-block_behind head word entry line text behind is split =
-    ap (drop (length (entry_word entry) + 1)) split ∙ drop_word (entry_word entry) behind ∙ sym (ap (λ h. block_so_far h line ++ behind) is)
+pub block_behind : (entry : Entry) (text behind : List ℕ) → text ≡ entry_word entry ++ space ∷ behind → block_so_far (Block entry) text ≡ behind
+block_behind entry text behind split = ap (drop (length (entry_word entry) + 1)) split ∙ drop_word (entry_word entry) behind
+
+-- ---- a head that has read a part of a word
+
+pub word_so_far : {head : CaptureHead} {word read : _} {line : List ℕ} → head ≡ Word word → read ≡ word → HeadOf head line → HeadOf (Word read) line
+word_so_far {line = line} is same of = subst (λ h. HeadOf h line) (is ∙ ap (λ w. Word w) (sym same)) of
+
+pub word_none : {head : CaptureHead} {word : _} (line bytes : List ℕ) → head ≡ Word word → block_so_far head line ++ bytes ≡ bytes
+word_none line bytes is = ap (λ h. block_so_far h line ++ bytes) is
 
 pub no_block : {head : CaptureHead} {word : _} {entry : Entry} → head ≡ Word word → head ≡ Block entry → ⊥
 no_block is other = let clash = sym is ∙ other in cc

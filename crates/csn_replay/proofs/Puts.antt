@@ -4,7 +4,7 @@ use Rattle.std.proofs.lemmas.List.{length-take, take-append-drop, take_all, drop
 use Rattle.std.proofs.Math.Seq.{take-append-add}
 use Rattle.csn_io.specs.Put.{Appended}
 use Rattle.csn_io.proofs.Told.{appended_more}
-use Rattle.csn_io.specs.Faults.{Keeps}
+use Rattle.csn_io.specs.Faults.{Keeps, Rose}
 use Rattle.csn_replay.specs.declared.told.Told.{Told}
 use Rattle.csn_io.specs.declared.sink.Put.TheVariants as put
 use Rattle.csn_replay.specs.declared.told.Told.TheVariants.{Ok, WriteFault, NoMemory}
@@ -49,6 +49,27 @@ kept_on same steady keeps blames = (
 -- no call met one
 pub kept_still : {Old New Blamed : Type 0} {old new : ℕ} → new ≡ old → (Old → New) → Keeps Old New old new Blamed
 kept_still same steady = (omega (arith, same), (λ was. (steady was, same)), (λ free. same))
+
+-- what an answer says of it: whether it was steady and how many faults it had met, before and after
+pub record Leaves (told : Told) (Old New : Type 0) (old new : ℕ) : Type 0 where
+  pub write_fault : told ≡ WriteFault → Rose old new
+  pub outside : Keeps Old New old new (told ≡ WriteFault)
+  pub steady_no_fault : Old → told ≢ WriteFault
+
+-- no call met a fault
+pub leaves_still : (told : Told) {Old New : Type 0} {old new : ℕ} → told ≢ WriteFault → new ≡ old → (Old → New) → Leaves told Old New old new
+leaves_still told fine same steady = record { write_fault = λ is. absurd (fine is); outside = kept_still same steady; steady_no_fault = λ was. fine }
+
+-- all calls but the last one met none
+pub leaves_on :
+    (told : Told) {Old Middle New Blamed : Type 0} {old middle new : ℕ} → middle ≡ old → (Old → Middle)
+    → (told ≡ WriteFault → Rose middle new) → Keeps Middle New middle new Blamed → (Blamed → told ≡ WriteFault) → (Middle → told ≢ WriteFault)
+    → Leaves told Old New old new
+leaves_on told {new = new} same steady rose keeps blames fine = record {
+  write_fault = λ is. subst (λ n. Rose n new) same (rose is);
+  outside = kept_on same steady keeps blames;
+  steady_no_fault = λ was. fine (steady was);
+}
 
 -- ---- answers that are not one another
 

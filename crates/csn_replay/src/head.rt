@@ -1,11 +1,12 @@
 ghost use Rattle.std.specs.Prelude.{◌≡◌, ◌≤◌, ◌++◌, ℕ, List, [], Some, IfSome, length, drop};
 ghost use Rattle.csn_catalogue.specs.Entries.{entry_word};
 ghost use Rattle.csn_replay.specs.Head.{HeadOf, block_so_far};
-ghost use Rattle.csn_replay.specs.declared.head.CaptureHead.TheVariants.{Block, Missing};
+ghost use Rattle.csn_replay.specs.declared.head.CaptureHead.TheVariants.{Word, Block, Missing};
 
 use arrayvec::ArrayVec;
 use csn_catalogue::{Entry, entry_of};
 use memchr::memchr;
+use std::mem;
 
 /// The most bytes of the word of an entry: those of `downlink`.
 const LONGEST_WORD: usize = 8;
@@ -39,26 +40,32 @@ impl CaptureHead {
         ensures missing_stays { self.old ≡ Missing → self.new ≡ self.old }
     {
         let word = match self {
-            CaptureHead::Word(word) => word,
+            CaptureHead::Word(word) => mem::replace(word, ArrayVec::new()),
             CaptureHead::Block(_) => return 0,
             CaptureHead::Missing => return bytes.len(),
         };
-        let Some(word_end) = memchr(b' ', bytes) else {
-            if word.try_extend_from_slice(bytes).is_err() {
-                *self = CaptureHead::Missing;
-            }
-            return bytes.len();
-        };
-        match entry_of_parts(word, &bytes[..word_end]) {
-            Some(entry) => {
-                *self = CaptureHead::Block(entry);
-                word_end + 1
-            }
-            None => {
-                *self = CaptureHead::Missing;
-                bytes.len()
-            }
+        let (head, from) = word_goes_on(word, bytes);
+        *self = head;
+        from
+    }
+}
+
+/// The head of a line that has this much of a word and goes on with these bytes, and how many of the first of them are
+/// not of the block.
+fn word_goes_on(mut word: ArrayVec<u8, LONGEST_WORD>, bytes: &[u8]) -> (CaptureHead, usize)
+    ensures head { (line : List ℕ) → HeadOf (Word word) line → HeadOf result.0 (line ++ bytes.now) }
+    ensures block { (line : List ℕ) → HeadOf (Word word) line → block_so_far result.0 (line ++ bytes.now) ≡ drop result.1 bytes.now }
+    ensures within { result.1 ≤ length bytes.now }
+{
+    let Some(word_end) = memchr(b' ', bytes) else {
+        if word.try_extend_from_slice(bytes).is_err() {
+            return (CaptureHead::Missing, bytes.len());
         }
+        return (CaptureHead::Word(word), bytes.len());
+    };
+    match entry_of_parts(&mut word, &bytes[..word_end]) {
+        Some(entry) => (CaptureHead::Block(entry), word_end + 1),
+        None => (CaptureHead::Missing, bytes.len()),
     }
 }
 

@@ -97,8 +97,7 @@ pub fn close<K: Sink>(alloc: Global, watchers: Vec<Box<dyn Watcher>>, out: &mut 
     for watcher in watchers {
         match report(alloc, &watcher, out) {
             Told::Ok => {}
-            Told::WriteFault => return Told::WriteFault,
-            Told::NoMemory => return Told::NoMemory,
+            told => return told,
         }
     }
     Told::Ok
