@@ -9,18 +9,20 @@ use Rattle.csn_bits.specs.Line.{fault_of, upper}
 use Rattle.csn_bits.specs.declared.fault.LineWhy.{LineWhy}
 use Rattle.csn_bits.specs.Laws.{WrittenIsRead, FaultOrBlock}
 use Rattle.csn_desc.specs.Label.{is_label, IsLabel}
-use Rattle.csn_desc.specs.TreeV.{TreeV, empty, bits, row, alt, named, Trees, none, more}
+use Rattle.csn_desc.specs.TreeV.{TreeV, empty, bits, row, Trees, none, more}
 use Rattle.csn_desc.specs.declared.desc.TheConstants.{MOST_NODES}
 use Rattle.csn_treetext.specs.declared.bounds.TheConstants.{MOST_LEVELS}
 use Rattle.csn_treetext.proofs.Fitting.{room_for}
 use Rattle.serde_json.specs.Data.{Data, null, boolean, number, string, array, object, unsigned, negative, float, Items, no_items, item, Members, no_members, member}
 use Rattle.serde_json.specs.Read.{read}
+use Rattle.csn_json.specs.declared.tag.Tag.{Tag}
+use Rattle.csn_json.specs.declared.tag.Tag.TheVariants.{Numbered, Labelled}
 use Rattle.csn_json.specs.JsonTree.{tagged}
 use Rattle.csn_json.specs.JsonText.{IsJson, Decided}
-use Rattle.csn_json.specs.Reading.{IsWritten, IsShown, AreShown}
+use Rattle.csn_json.specs.Reading.{IsWritten, IsShown, AreShown, IsTag, with_tag}
 use Rattle.csn_json.specs.Laws.{TextsAreDecided}
 use Rattle.csn_json.proofs.Lines.{is_upper, spells, from_block_line}
-use Rattle.csn_json.proofs.Refusals.{no_truth, no_number, line_of, row_of, Tag, numbered, labelled, tag_of, known_tag, no_alternative, no_label, no_inside, no_key}
+use Rattle.csn_json.proofs.Refusals.{no_truth, no_number, line_of, row_of, members_of, known_members, no_number_under, no_label_under, no_tag_under, shown_with_tag}
 use Rattle.csn_json.proofs.Texts.{is_text}
 
 -- it holds or does not
@@ -88,45 +90,36 @@ if_room round value inside = elim (cases_lt round MOST_LEVELS) [
 ]
 
 -- an object of two members
-tag : (round : ℕ) (key : List ℕ) (of inside : Data) → Shows (round + 1) inside → Either (Tag round key of inside)
-tag round key of inside (inr never) = inr (no_inside round key of inside (λ t is. never (t, is)))
-tag round key of inside (inl shown) = let t = shown.0 in let below = shown.1 in elim (same_bytes key (codes "alt")) [
+some_tag : (key : List ℕ) (of : Data) → Either ((tag : Tag) × IsTag key of tag)
+some_tag key of = elim (same_bytes key (codes "alt")) [
   | inl alternative ↦ elim (some_number of) [
-    | inl is ↦ inl (numbered is.0 t alternative is.1 is.2 below)
-    | inr never ↦ inr (no_alternative round key of inside alternative (λ n low is. never (n, is, low)))
+    | inl is ↦ inl (Numbered is.0, (alternative, is.2, is.1))
+    | inr never ↦ inr (λ tag. no_number_under key of alternative (λ n low is. never (n, is, low)) tag.0 tag.1)
   ]
   | inr no_alt ↦ elim (same_bytes key (codes "label")) [
     | inl label ↦ elim (some_label of) [
-      | inl is ↦ inl (labelled is.0 t label is.1 is.2 below)
-      | inr never ↦ inr (no_label round key of inside label (λ l spelled is. never (l, is, spelled)))
+      | inl is ↦ inl (Labelled is.0, (label, is.2, is.1))
+      | inr never ↦ inr (λ tag. no_label_under key of label (λ l spelled is. never (l, is, spelled)) tag.0 tag.1)
     ]
-    | inr never ↦ inr (no_key round key of inside no_alt never)
+    | inr never ↦ inr (λ tag. no_tag_under key of no_alt never tag.0 tag.1)
   ]
 ]
 
-tagged_tree : (round : ℕ) (key : List ℕ) (of inside : Data) → Tag round key of inside → (t : TreeV) × IsShown round (tagged key of inside) t
-tagged_tree round key of inside (numbered j t same is low below) =
-    let fits = below.fits in (
-      alt j t,
-      record { fits = (low, rw (sym (add-one round)) fits); parts = below.parts; shown = rw (same, is, below.shown) refl },
-    )
-tagged_tree round key of inside (labelled l t same is label below) =
-    let fits = below.fits in (
-      named l t,
-      record { fits = rw (sym (add-one round)) fits; parts = (label, below.parts); shown = rw (same, is, below.shown) refl },
-    )
-
-of_tag : (round : ℕ) (key : List ℕ) (of inside : Data) → Either (Tag round key of inside) → Shows round (tagged key of inside)
-of_tag round key of inside (inl is) = inl (tagged_tree round key of inside is)
-of_tag round key of inside (inr never) = inr (λ shown. never (known_tag round _ key of inside refl shown.0 shown.1))
+of_tag : (round : ℕ) (key : List ℕ) (of inside : Data) → Shows (round + 1) inside → Shows round (tagged key of inside)
+of_tag round key of inside (inr never) =
+    inr (λ is. let found = known_members round _ key of inside refl is.0 is.1 in never (found.tree, found.below))
+of_tag round key of inside (inl shown) = elim (some_tag key of) [
+  | inl tag ↦ inl (with_tag tag.0 shown.0, shown_with_tag round key of inside tag.0 shown.0 tag.1 shown.1)
+  | inr never ↦ inr (λ is. let found = known_members round _ key of inside refl is.0 is.1 in never (found.tag, found.is_tag))
+]
 
 -- an object whose second member is no tree
 not_tree : (round : ℕ) (k l : List ℕ) (of inside : Data) (ms : Members) → (l ≡ codes "tree" → ⊥) → Shows round (object (member k of (member l inside ms)))
-not_tree round k l of inside ms never = inr (λ shown. let found = tag_of round _ shown.0 shown.1 in let e = found.3 in let same : l ≡ codes "tree" = cc in never same)
+not_tree round k l of inside ms never = inr (λ shown. let found = members_of round _ shown.0 shown.1 in let e = found.3 in let same : l ≡ codes "tree" = cc in never same)
 
 two_members : (round : ℕ) (k l : List ℕ) (of inside : Data) → Shows (round + 1) inside → Shows round (object (member k of (member l inside no_members)))
 two_members round k l of inside below = elim (same_bytes l (codes "tree")) [
-  | inl is ↦ rw is (of_tag round k of inside (tag round k of inside below))
+  | inl is ↦ rw is (of_tag round k of inside below)
   | inr never ↦ not_tree round k l of inside no_members never
 ]
 
@@ -186,10 +179,10 @@ module _ (read_lines : WrittenIsRead) (decided : FaultOrBlock) where
     shows (number n) round = inr (λ is. no_number round n is.0 is.1)
     shows (string line) round = if_room round (string line) (λ room. string_shows line round room)
     shows (array values) round = if_room round (array values) (λ room. row_shows values round room (all_show values (round + 1)))
-    shows (object no_members) round = inr (λ is. let found = tag_of round _ is.0 is.1 in let e = found.3 in cc)
-    shows (object (member k of no_members)) round = inr (λ is. let found = tag_of round _ is.0 is.1 in let e = found.3 in cc)
+    shows (object no_members) round = inr (λ is. let found = members_of round _ is.0 is.1 in let e = found.3 in cc)
+    shows (object (member k of no_members)) round = inr (λ is. let found = members_of round _ is.0 is.1 in let e = found.3 in cc)
     shows (object (member k of (member l inside no_members))) round = two_members round k l of inside (shows inside (round + 1))
-    shows (object (member k of (member l inside (member m other ms)))) round = inr (λ is. let found = tag_of round _ is.0 is.1 in let e = found.3 in cc)
+    shows (object (member k of (member l inside (member m other ms)))) round = inr (λ is. let found = members_of round _ is.0 is.1 in let e = found.3 in cc)
 
     all_show : (values : Items) (round : ℕ) → AllShow round values
     all_show no_items round = inl (none, record { fits = tt; parts = tt; shown = refl })

@@ -10,8 +10,10 @@ use Rattle.csn_treetext.proofs.Fitting.{room_for}
 use Rattle.serde_json.specs.Data.{Data, boolean, number, string, array, object, unsigned, Num, Items, Members}
 use Rattle.csn_json.specs.declared.fault.JsonFault.{JsonFault}
 use Rattle.csn_json.specs.declared.fault.JsonFault.TheVariants.{NotJson, NotTree, NoMemory}
+use Rattle.csn_json.specs.declared.tag.Tag.{Tag}
+use Rattle.csn_json.specs.declared.tag.Tag.TheVariants.{Numbered, Labelled}
 use Rattle.csn_json.specs.JsonTree.{json_of, tagged}
-use Rattle.csn_json.specs.Reading.{IsWritten, IsShown, AreShown, Refuses}
+use Rattle.csn_json.specs.Reading.{IsWritten, IsShown, AreShown, IsTag, Refuses, with_tag}
 
 -- ---- what a `?` hands on
 
@@ -57,73 +59,84 @@ pub row_of : (round : ℕ) (values : Items) (t : TreeV) → IsShown round (array
 row_of round values (row ts) is = (ts, rw (add-one round) (record { fits = is.fits.1; parts = is.parts; shown = (let e = is.shown in cc) }))
 row_of round values _ is = absurd (let e = is.shown in cc)
 
--- what the members of an object are that shows a tree
-pub data Tag (round : ℕ) (key : List ℕ) (of inside : Data) : Type 0 where
-  numbered : (j : ℕ) → (t : TreeV) → key ≡ codes "alt" → of ≡ number (unsigned j) → j < MOST_NODES → IsShown (round + 1) inside t → Tag round key of inside
-  labelled : (l : List ℕ) → (t : TreeV) → key ≡ codes "label" → of ≡ string l → IsLabel l → IsShown (round + 1) inside t → Tag round key of inside
+-- what the two members of an object are that shows a tree
+pub record Tagged (round : ℕ) (key : List ℕ) (of inside : Data) : Type 0 where
+  pub tag : Tag
+  pub tree : TreeV
+  pub is_tag : IsTag key of tag
+  pub below : IsShown (round + 1) inside tree
 
-pub tag_of : (round : ℕ) (ms : Members) (t : TreeV) → IsShown round (object ms) t → (key : List ℕ) × (of : Data) × (inside : Data) × (object ms ≡ tagged key of inside) × Tag round key of inside
-tag_of round ms (alt j t) is = (
+pub members_of : (round : ℕ) (ms : Members) (t : TreeV) → IsShown round (object ms) t → (key : List ℕ) × (of : Data) × (inside : Data) × (object ms ≡ tagged key of inside) × Tagged round key of inside
+members_of round ms (alt j t) is = (
   codes "alt",
   number (unsigned j),
   json_of t,
   is.shown,
-  numbered j t refl refl is.fits.0 (rw (add-one round) (record { fits = is.fits.1; parts = is.parts; shown = refl })),
+  record { tag = Numbered j; tree = t; is_tag = (refl, is.fits.0, refl); below = rw (add-one round) (record { fits = is.fits.1; parts = is.parts; shown = refl }) },
 )
-tag_of round ms (named l t) is = (
+members_of round ms (named l t) is = (
   codes "label",
   string l,
   json_of t,
   is.shown,
-  labelled l t refl refl is.parts.0 (rw (add-one round) (record { fits = is.fits; parts = is.parts.1; shown = refl })),
+  record { tag = Labelled l; tree = t; is_tag = (refl, is.parts.0, refl); below = rw (add-one round) (record { fits = is.fits; parts = is.parts.1; shown = refl }) },
 )
-tag_of round ms _ is = absurd (let e = is.shown in cc)
+members_of round ms _ is = absurd (let e = is.shown in cc)
 
-same_tag : (round : ℕ) (key : List ℕ) (of inside : Data) (k : List ℕ) (o i : Data) → tagged k o i ≡ tagged key of inside → Tag round k o i → Tag round key of inside
-same_tag round key of inside k o i same tag =
+same_members : (round : ℕ) (key : List ℕ) (of inside : Data) (k : List ℕ) (o i : Data) → tagged k o i ≡ tagged key of inside → Tagged round k o i → Tagged round key of inside
+same_members round key of inside k o i same is =
     let keys : k ≡ key = cc in
     let ofs : o ≡ of = cc in
     let insides : i ≡ inside = cc in
-    subst (λ x. Tag round x of inside) keys (subst (λ x. Tag round k x inside) ofs (subst (λ x. Tag round k o x) insides tag))
+    subst (λ x. Tagged round x of inside) keys (subst (λ x. Tagged round k x inside) ofs (subst (λ x. Tagged round k o x) insides is))
 
 -- an object of two known members that shows a tree
-pub known_tag : (round : ℕ) (ms : Members) (key : List ℕ) (of inside : Data) → object ms ≡ tagged key of inside → (t : TreeV) → IsShown round (object ms) t → Tag round key of inside
-known_tag round ms key of inside known t is =
-    let found = tag_of round ms t is in
-    same_tag round key of inside found.0 found.1 found.2 (sym found.3 ∙ known) found.4
+pub known_members : (round : ℕ) (ms : Members) (key : List ℕ) (of inside : Data) → object ms ≡ tagged key of inside → (t : TreeV) → IsShown round (object ms) t → Tagged round key of inside
+known_members round ms key of inside known t is =
+    let found = members_of round ms t is in
+    same_members round key of inside found.0 found.1 found.2 (sym found.3 ∙ known) found.4
 
--- an object of two known members whose tag is refused is refused
-pub tag_refused :
+-- one is refused where what its tag or its tree has to be is refused
+pub member_refused :
     {T A : Type 0} (round : ℕ) (ms : Members) (key : List ℕ) (of inside : Data) → object ms ≡ tagged key of inside → (r : Result T JsonFault) (e : JsonFault) → IsErrAnd r (λ y. y ≡ e)
-    → (A → Tag round key of inside → ⊥) → Refuses e A → IfErr r (λ fault. Refuses fault ((t : TreeV) → IsShown round (object ms) t → ⊥))
-tag_refused round ms key of inside known r e handed none h =
-    passed r e handed (λ nothing t is. none nothing (known_tag round ms key of inside known t is)) h
+    → (A → Tagged round key of inside → ⊥) → Refuses e A → IfErr r (λ fault. Refuses fault ((t : TreeV) → IsShown round (object ms) t → ⊥))
+member_refused round ms key of inside known r e handed none h =
+    passed r e handed (λ nothing t is. none nothing (known_members round ms key of inside known t is)) h
 
--- ---- alternatives and labelled parts
+-- ---- the tag under a key
 
-pub no_alternative : (round : ℕ) (key : List ℕ) (of inside : Data) → key ≡ codes "alt" → ((n : ℕ) → n < MOST_NODES → of ≡ number (unsigned n) → ⊥) → Tag round key of inside → ⊥
-no_alternative round key of inside is nothing (numbered j t same at low below) = nothing j low at
-no_alternative round key of inside is nothing (labelled l t same at label below) = absurd (let e = sym is ∙ same in cc)
+pub no_number_under : (key : List ℕ) (of : Data) → key ≡ codes "alt" → ((n : ℕ) → n < MOST_NODES → of ≡ number (unsigned n) → ⊥) → (tag : Tag) → IsTag key of tag → ⊥
+no_number_under key of is nothing (Numbered j) tag = nothing j tag.1 tag.2
+no_number_under key of is nothing (Labelled l) tag = absurd (let e = sym is ∙ tag.0 in cc)
 
-pub no_label : (round : ℕ) (key : List ℕ) (of inside : Data) → key ≡ codes "label" → ((l : List ℕ) → IsLabel l → of ≡ string l → ⊥) → Tag round key of inside → ⊥
-no_label round key of inside is nothing (numbered j t same at low below) = absurd (let e = sym is ∙ same in cc)
-no_label round key of inside is nothing (labelled l t same at label below) = nothing l label at
+pub no_label_under : (key : List ℕ) (of : Data) → key ≡ codes "label" → ((l : List ℕ) → IsLabel l → of ≡ string l → ⊥) → (tag : Tag) → IsTag key of tag → ⊥
+no_label_under key of is nothing (Numbered j) tag = absurd (let e = sym is ∙ tag.0 in cc)
+no_label_under key of is nothing (Labelled l) tag = nothing l tag.1 tag.2
 
-pub no_inside : (round : ℕ) (key : List ℕ) (of inside : Data) → ((t : TreeV) → IsShown (round + 1) inside t → ⊥) → Tag round key of inside → ⊥
-no_inside round key of inside nothing (numbered j t same at low below) = nothing t below
-no_inside round key of inside nothing (labelled l t same at label below) = nothing t below
+pub no_tag_under : (key : List ℕ) (of : Data) → (key ≡ codes "alt" → ⊥) → (key ≡ codes "label" → ⊥) → (tag : Tag) → IsTag key of tag → ⊥
+no_tag_under key of no_alt no_label (Numbered j) tag = no_alt tag.0
+no_tag_under key of no_alt no_label (Labelled l) tag = no_label tag.0
 
-pub no_key : (round : ℕ) (key : List ℕ) (of inside : Data) → (key ≡ codes "alt" → ⊥) → (key ≡ codes "label" → ⊥) → Tag round key of inside → ⊥
-no_key round key of inside no_alt no_label (numbered j t same at low below) = no_alt same
-no_key round key of inside no_alt no_label (labelled l t same at label below) = no_label same
+-- ---- the tree of a tag and of what stands beside it
 
-pub labelled_shown : (round : ℕ) (of inside : Data) (l : List ℕ) (t : TreeV) (r : Result TreeV JsonFault) → IsLabel l → of ≡ string l → IsShown (round + 1) inside t
-    → IfOk r (λ whole. whole ≡ named l t) → IfOk r (IsShown round (tagged (codes "label") of inside))
-labelled_shown round of inside l t (Ok whole) label at below is =
+pub shown_with_tag : (round : ℕ) (key : List ℕ) (of inside : Data) (tag : Tag) (t : TreeV) → IsTag key of tag → IsShown (round + 1) inside t → IsShown round (tagged key of inside) (with_tag tag t)
+shown_with_tag round key of inside (Numbered j) t is below =
     let next = subst (λ n. IsShown n inside t) (add-one round) below in
-    subst (IsShown round (tagged (codes "label") of inside)) (sym is) (record {
+    record {
+      fits = (is.1, next.fits);
+      parts = next.parts;
+      shown = ap (λ k. tagged k of inside) is.0 ∙ ap (λ o. tagged (codes "alt") o inside) is.2 ∙ ap (λ i. tagged (codes "alt") (number (unsigned j)) i) next.shown;
+    }
+shown_with_tag round key of inside (Labelled l) t is below =
+    let next = subst (λ n. IsShown n inside t) (add-one round) below in
+    record {
       fits = next.fits;
-      parts = (label, next.parts);
-      shown = ap (λ o. tagged (codes "label") o inside) at ∙ ap (λ i. tagged (codes "label") (string l) i) next.shown;
-    })
-labelled_shown round of inside l t (Err e) label at below is = tt
+      parts = (is.1, next.parts);
+      shown = ap (λ k. tagged k of inside) is.0 ∙ ap (λ o. tagged (codes "label") o inside) is.2 ∙ ap (λ i. tagged (codes "label") (string l) i) next.shown;
+    }
+
+pub tagged_shown : (round : ℕ) (ms : Members) (key : List ℕ) (of inside : Data) → object ms ≡ tagged key of inside → (tag : Tag) (t : TreeV) (r : Result TreeV JsonFault) → IsTag key of tag → IsShown (round + 1) inside t
+    → IfOk r (λ whole. whole ≡ with_tag tag t) → IfOk r (IsShown round (object ms))
+tagged_shown round ms key of inside known tag t (Ok whole) is below made =
+    subst (IsShown round (object ms)) (sym made) (subst (λ d. IsShown round d (with_tag tag t)) (sym known) (shown_with_tag round key of inside tag t is below))
+tagged_shown round ms key of inside known tag t (Err e) is below made = tt

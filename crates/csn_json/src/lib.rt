@@ -5,6 +5,7 @@ pub mod examples;
 mod fault;
 pub mod laws;
 mod read;
+mod tag;
 mod write;
 
 pub use fault::JsonFault;

@@ -1,21 +1,20 @@
-ghost use Rattle.std.specs.Prelude.{◌≡◌, ◌+◌, ◌↔◌, ◌≤◌, ◌<◌, ◌++◌, ◌∷◌, [], ℕ, List, codes, length, map, IsTrue, IfSome, IfNone, IfOk, IfErr, OnOk};
+ghost use Rattle.std.specs.Prelude.{◌≡◌, ◌+◌, ◌↔◌, ◌≤◌, ◌<◌, ◌++◌, ◌∷◌, [], ℕ, List, length, map, IsTrue, IfSome, IfNone, IfOk, IfErr, OnOk};
 ghost use Rattle.csn_bits.specs.Line.{upper};
 ghost use Rattle.csn_bits.specs.declared.feed.TheConstants.{MOST_LINE};
-ghost use Rattle.csn_desc.specs.TreeV.{TreeV, Trees, trees_of, named};
-ghost use Rattle.csn_desc.specs.Label.{IsLabel};
-ghost use Rattle.csn_desc.specs.declared.desc.TheConstants.{MOST_NODES};
+ghost use Rattle.csn_desc.specs.TreeV.{TreeV, Trees, trees_of};
 ghost use Rattle.csn_desc.specs.declared.tree.TheConstants.{MOST_TREES};
 ghost use Rattle.csn_treetext.specs.declared.bounds.TheConstants.{MOST_LEVELS};
-ghost use Rattle.serde_json.specs.Data.{Data, number, object, string, unsigned};
+ghost use Rattle.serde_json.specs.Data.{Data, object};
 ghost use Rattle.serde_json.specs.View.{view, items_view, members_view};
 ghost use Rattle.csn_json.specs.JsonTree.{tagged};
 ghost use Rattle.csn_json.specs.JsonText.{JsonText, IsFaultOf};
 ghost use Rattle.csn_json.specs.Reading.{IsWritten, IsShown, AreShown, Refuses, values_in, values_in_items, values_in_members};
 
 use crate::fault::JsonFault;
+use crate::tag::{tag_of, with_tag};
 use csn_bits::{Bits, BitsFault, MOST_LINE};
-use csn_desc::{Label, LabelFault, Rows, Shape, Tree};
-use csn_treetext::{GREATEST_ALTERNATIVE, MOST_LEVELS};
+use csn_desc::{Rows, Shape, Tree};
+use csn_treetext::MOST_LEVELS;
 use serde_json::{Map, Value};
 use std::alloc::Global;
 
@@ -99,51 +98,9 @@ fn tagged_of(alloc: Global, members: &Map<String, Value>, round: u32) -> Result<
     let Some((key, of, inside)) = parts_of(members) else {
         return Err(JsonFault::NotTree);
     };
-    match key {
-        "alt" => numbered_of(alloc, of, inside, round),
-        "label" => labelled_of(alloc, of, inside, round),
-        _ => Err(JsonFault::NotTree),
-    }
-}
-
-// The alternative that a number and the value of its tree show.
-#[cycle(tree)]
-fn numbered_of(alloc: Global, of: &Value, inside: &Value, round: u32) -> Result<Tree, JsonFault>
-    requires round { round < MOST_LEVELS }
-    requires few { values_in (view inside.now) ≤ MOST_TREES + 1 }
-    ensures ok { IfOk result (λ tree. IsShown round (tagged (codes "alt") (view of.now) (view inside.now)) tree) }
-    ensures refused { IfErr result (λ fault. Refuses fault ((t : TreeV)
-        → IsShown round (tagged (codes "alt") (view of.now) (view inside.now)) t → ⊥)) }
-{
-    let number = alternative_of(of)?;
+    let tag = tag_of(alloc, key, of)?;
     let tree = tree_of(alloc, inside, round + 1)?;
-    Ok(Tree {
-        shape: Shape::Alt(number, Box::new(alloc, tree)?),
-    })
-}
-
-// The labelled part that a label and the value of its tree show.
-#[cycle(tree)]
-fn labelled_of(alloc: Global, of: &Value, inside: &Value, round: u32) -> Result<Tree, JsonFault>
-    requires round { round < MOST_LEVELS }
-    requires few { values_in (view inside.now) ≤ MOST_TREES + 1 }
-    ensures ok { IfOk result (λ tree. IsShown round (tagged (codes "label") (view of.now) (view inside.now)) tree) }
-    ensures refused { IfErr result (λ fault. Refuses fault ((t : TreeV)
-        → IsShown round (tagged (codes "label") (view of.now) (view inside.now)) t → ⊥)) }
-{
-    let label = label_of(alloc, of)?;
-    let tree = tree_of(alloc, inside, round + 1)?;
-    labelled(alloc, label, tree)
-}
-
-// A labelled part.
-fn labelled(alloc: Global, label: Label, tree: Tree) -> Result<Tree, JsonFault>
-    ensures ok { IfOk result (λ whole. whole ≡ named label tree) }
-    ensures memory { IfErr result (λ fault. fault ≡ JsonFault.NoMemory) }
-{
-    Ok(Tree {
-        shape: Shape::Named(label, Box::new(alloc, tree)?),
-    })
+    with_tag(alloc, tag, tree)
 }
 
 // The key, what stands under it, and what stands under `tree`, of an object that has those two members.
@@ -186,28 +143,4 @@ fn is_upper(line: &[u8]) -> bool
     ensures { IsTrue result ↔ (map upper line.now ≡ line.now) }
 {
     !line.iter().any(|byte| matches!(byte, b'a'..=b'f'))
-}
-
-// The number of an alternative.
-fn alternative_of(value: &Value) -> Result<u16, JsonFault>
-    ensures ok { IfOk result (λ n. (n < MOST_NODES) × (view value.now ≡ number (unsigned n))) }
-    ensures refused { IfErr result (λ fault. Refuses fault ((n : ℕ) → n < MOST_NODES → view value.now ≡ number (unsigned n) → ⊥)) }
-{
-    match value.as_u64() {
-        Some(number) if number <= u64::from(GREATEST_ALTERNATIVE) => Ok(number as u16),
-        _ => Err(JsonFault::NotTree),
-    }
-}
-
-// The label that a string spells.
-fn label_of(alloc: Global, value: &Value) -> Result<Label, JsonFault>
-    ensures ok { IfOk result (λ label. IsLabel label × (view value.now ≡ string label)) }
-    ensures refused { IfErr result (λ fault. Refuses fault ((l : List ℕ) → IsLabel l → view value.now ≡ string l → ⊥)) }
-{
-    let words = value.as_str().ok_or(JsonFault::NotTree)?;
-    match Label::new(alloc, words.as_bytes()) {
-        Ok(label) => Ok(label),
-        Err(LabelFault::BadLabel) => Err(JsonFault::NotTree),
-        Err(LabelFault::NoMemory) => Err(JsonFault::NoMemory),
-    }
 }

@@ -1,12 +1,11 @@
-use Rattle.std.proofs.Common.{◌≡◌, ◌+◌, ◌∷◌, [], length, take, codes, IfOk, IfErr, refl, ap, sym, ◌∙◌, subst, arith, rules, inl, inr, length-append}
-use Rattle.csn_desc.specs.TreeV.{TreeV, trees_of}
+use Rattle.std.proofs.Common.{◌≡◌, ◌+◌, ◌∷◌, [], length, take, ap, sym, ◌∙◌, subst, arith, rules, inl, inr, length-append}
+use Rattle.csn_desc.specs.TreeV.{trees_of}
 use Rattle.serde_json.specs.Data.{boolean, number, string}
 use Rattle.serde_json.specs.View.{view, number_view, items_view, members_view}
 use Rattle.serde_json.specs.declared.value.Value.{the_lemmas}
 use Rattle.serde_json.proofs.Views.{view-Array}
-use Rattle.csn_json.specs.Reading.{IsShown, AreShown, Refuses, values_in, values_in_items}
-use Rattle.csn_json.specs.JsonTree.{tagged}
-use Rattle.csn_json.proofs.Refusals.{passed, memory_alone, passed_memory, no_room, no_truth, no_number, line_of, row_of, tag_of, known_tag, tag_refused, no_alternative, no_label, no_inside, no_key, labelled_shown}
+use Rattle.csn_json.specs.Reading.{IsShown, AreShown, values_in, values_in_items}
+use Rattle.csn_json.proofs.Refusals.{passed, memory_alone, passed_memory, no_room, no_truth, no_number, line_of, row_of, members_of, member_refused, tagged_shown}
 use Rattle.csn_json.proofs.Rows.{next_shown, item_shown, few_items, few_in_item}
 use Rattle.csn_json.proofs.read.+tree.Goals as goal
 
@@ -52,76 +51,31 @@ rows_of-returns-in_err-push_tree-clause-refused t c =
 
 pub tagged_of-returns-in_default-clause-refused : goal.tagged_of-returns-in_default-clause-refused
 tagged_of-returns-in_default-clause-refused t c = λ t' is.
-    let found = tag_of c.args.round (members_view c.args.members.now.entries) t' is in
+    let found = members_of c.args.round (members_view c.args.members.now.entries) t' is in
     c.in_default.ensures.none found.0 found.1 found.2 found.3
 
-pub tagged_of-returns-in_default-key-clause-refused : goal.tagged_of-returns-in_default-key-clause-refused
-tagged_of-returns-in_default-key-clause-refused t c = λ t' is.
-    no_key c.args.round c.in-Some.key.now (view c.in-Some.of.now) (view c.in-Some.inside.now) c.in_default-key.not-alt c.in_default-key.not-label
-    (known_tag c.args.round (members_view c.args.members.now.entries) c.in-Some.key.now (view c.in-Some.of.now) (view c.in-Some.inside.now) c.in-Some.ensures.some t' is)
+pub tagged_of-returns-in_err-tag-clause-refused : goal.tagged_of-returns-in_err-tag-clause-refused
+tagged_of-returns-in_err-tag-clause-refused t c =
+    member_refused c.args.round (members_view c.args.members.now.entries) c.in-Some.key.now (view c.in-Some.of.now) (view c.in-Some.inside.now) c.in-Some.ensures.some
+    c.from_residual.result c.in_err-tag.field-0.0 c.from_residual.ensures.1 (λ nothing found. nothing found.tag found.is_tag) c.in_err-tag.ensures.refused
 
-pub tagged_of-numbered_of-requires : goal.tagged_of-numbered_of-requires
-tagged_of-numbered_of-requires t c =
+pub tagged_of-tree_of-requires : goal.tagged_of-tree_of-requires
+tagged_of-tree_of-requires t c =
     let counts = ap values_in c.in-Some.ensures.some in
-    (omega (arith, counts, c.decreases), (c.requires.round, omega (arith, counts, c.requires.few)))
+    (omega (arith, counts, c.decreases), (omega (arith, c.requires.round), omega (arith, counts, c.requires.few)))
 
-pub tagged_of-returns-in-alt-clause-ok : goal.tagged_of-returns-in-alt-clause-ok
-tagged_of-returns-in-alt-clause-ok t c =
-    let known = c.in-Some.ensures.some ∙ ap (λ key. tagged key (view c.in-Some.of.now) (view c.in-Some.inside.now)) c.in-alt.is in
-    subst (λ d. IfOk c.numbered_of.result (IsShown c.args.round d)) (sym known) c.numbered_of.ensures.ok
+pub tagged_of-returns-in_err-tree-clause-refused : goal.tagged_of-returns-in_err-tree-clause-refused
+tagged_of-returns-in_err-tree-clause-refused t c =
+    member_refused c.args.round (members_view c.args.members.now.entries) c.in-Some.key.now (view c.in-Some.of.now) (view c.in-Some.inside.now) c.in-Some.ensures.some
+    c.from_residual-in_err-tree.result c.in_err-tree.field-0.0 c.from_residual-in_err-tree.ensures.1 (λ nothing found. nothing found.tree found.below) c.in_err-tree.ensures.refused
 
-pub tagged_of-returns-in-alt-clause-refused : goal.tagged_of-returns-in-alt-clause-refused
-tagged_of-returns-in-alt-clause-refused t c =
-    let known = c.in-Some.ensures.some ∙ ap (λ key. tagged key (view c.in-Some.of.now) (view c.in-Some.inside.now)) c.in-alt.is in
-    subst (λ d. IfErr c.numbered_of.result (λ fault. Refuses fault ((t : TreeV) → IsShown c.args.round d t → ⊥))) (sym known) c.numbered_of.ensures.refused
-
-pub tagged_of-labelled_of-requires : goal.tagged_of-labelled_of-requires
-tagged_of-labelled_of-requires t c =
-    let counts = ap values_in c.in-Some.ensures.some in
-    (omega (arith, counts, c.decreases), (c.requires.round, omega (arith, counts, c.requires.few)))
-
-pub tagged_of-returns-in-label-clause-ok : goal.tagged_of-returns-in-label-clause-ok
-tagged_of-returns-in-label-clause-ok t c =
-    let known = c.in-Some.ensures.some ∙ ap (λ key. tagged key (view c.in-Some.of.now) (view c.in-Some.inside.now)) c.in-label.is in
-    subst (λ d. IfOk c.labelled_of.result (IsShown c.args.round d)) (sym known) c.labelled_of.ensures.ok
-
-pub tagged_of-returns-in-label-clause-refused : goal.tagged_of-returns-in-label-clause-refused
-tagged_of-returns-in-label-clause-refused t c =
-    let known = c.in-Some.ensures.some ∙ ap (λ key. tagged key (view c.in-Some.of.now) (view c.in-Some.inside.now)) c.in-label.is in
-    subst (λ d. IfErr c.labelled_of.result (λ fault. Refuses fault ((t : TreeV) → IsShown c.args.round d t → ⊥))) (sym known) c.labelled_of.ensures.refused
-
--- ---- an alternative
-
-pub numbered_of-tree_of-requires : goal.numbered_of-tree_of-requires
-numbered_of-tree_of-requires t c = (omega (arith, c.decreases), (omega (arith, c.requires.round), c.requires.few))
-
-pub numbered_of-returns-in_err-number-clause-refused : goal.numbered_of-returns-in_err-number-clause-refused
-numbered_of-returns-in_err-number-clause-refused t c =
-    tag_refused c.args.round _ (codes "alt") (view c.args.of.now) (view c.args.inside.now) refl c.from_residual.result c.in_err-number.field-0.0 c.from_residual.ensures.1 (no_alternative _ _ _ _ refl) c.in_err-number.ensures.refused
-
-pub numbered_of-returns-in_err-tree-clause-refused : goal.numbered_of-returns-in_err-tree-clause-refused
-numbered_of-returns-in_err-tree-clause-refused t c =
-    tag_refused c.args.round _ (codes "alt") (view c.args.of.now) (view c.args.inside.now) refl c.from_residual-in_err-tree.result c.in_err-tree.field-0.0 c.from_residual-in_err-tree.ensures.1 (no_inside _ _ _ _) c.in_err-tree.ensures.refused
-
--- ---- a labelled part
-
-pub labelled_of-tree_of-requires : goal.labelled_of-tree_of-requires
-labelled_of-tree_of-requires t c = (omega (arith, c.decreases), (omega (arith, c.requires.round), c.requires.few))
-
-pub labelled_of-returns-in_err-label-clause-refused : goal.labelled_of-returns-in_err-label-clause-refused
-labelled_of-returns-in_err-label-clause-refused t c =
-    tag_refused c.args.round _ (codes "label") (view c.args.of.now) (view c.args.inside.now) refl c.from_residual.result c.in_err-label.field-0.0 c.from_residual.ensures.1 (no_label _ _ _ _ refl) c.in_err-label.ensures.refused
-
-pub labelled_of-returns-in_err-tree-clause-refused : goal.labelled_of-returns-in_err-tree-clause-refused
-labelled_of-returns-in_err-tree-clause-refused t c =
-    tag_refused c.args.round _ (codes "label") (view c.args.of.now) (view c.args.inside.now) refl c.from_residual-in_err-tree.result c.in_err-tree.field-0.0 c.from_residual-in_err-tree.ensures.1 (no_inside _ _ _ _) c.in_err-tree.ensures.refused
-
-pub labelled_of-returns-clause-ok : goal.labelled_of-returns-clause-ok
-labelled_of-returns-clause-ok t c =
-    labelled_shown c.args.round (view c.args.of.now) (view c.args.inside.now) c.in_ok-label.label c.in_ok-tree.tree c.labelled.result c.in_ok-label.ensures.ok.0 c.in_ok-label.ensures.ok.1 c.in_ok-tree.ensures.ok c.labelled.ensures.ok
-
-pub labelled_of-returns-clause-refused : goal.labelled_of-returns-clause-refused
-labelled_of-returns-clause-refused t c = memory_alone _ c.labelled.result c.labelled.ensures.memory
+pub tagged_of-returns : goal.tagged_of-returns
+tagged_of-returns t c = record {
+  ok =
+      tagged_shown c.args.round (members_view c.args.members.now.entries) c.in-Some.key.now (view c.in-Some.of.now) (view c.in-Some.inside.now) c.in-Some.ensures.some
+      c.in_ok-tag.tag c.in_ok-tree.tree c.with_tag.result c.in_ok-tag.ensures.ok c.in_ok-tree.ensures.ok c.with_tag.ensures.ok;
+  refused = memory_alone _ c.with_tag.result c.with_tag.ensures.memory;
+}
 
 -- ---- a value
 

@@ -13,12 +13,6 @@ decreases-rows_of l = 3 * values_in_items (items_view l.values.now.items) + 1
 abbrev pub decreases-tagged_of : goal.decreases-tagged_of
 decreases-tagged_of l = 3 * values_in_members (members_view l.members.now.entries) + 2
 
-abbrev pub decreases-numbered_of : goal.decreases-numbered_of
-decreases-numbered_of l = 3 * values_in (view l.inside.now) + 1
-
-abbrev pub decreases-labelled_of : goal.decreases-labelled_of
-decreases-labelled_of l = 3 * values_in (view l.inside.now) + 1
-
 -- the trees so far are those that the values so far show
 abbrev pub invariant-rows_of-loop-value : goal.invariant-rows_of-loop-value
 invariant-rows_of-loop-value l =
