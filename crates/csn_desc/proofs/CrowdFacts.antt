@@ -9,7 +9,7 @@ use Rattle.csn_desc.specs.Formed.{is_counted, shows_earlier, with_seen}
 use Rattle.csn_desc.specs.Overfull.{PartSees, part_here, part_later}
 use Rattle.csn_desc.specs.Laid.{Laid, PartsLaid, laid, laid_end, laid_next}
 use Rattle.csn_desc.specs.Crowds.{Below, below_here, below_part, Amounts, Crowded, Counting, Counts, NoneCrowded, FirstCrowded, CountingAmong, PartsCount, BelowPart, NoneCrowdedAmong, IsFirstAmong, FirstCrowdedAmong}
-use Rattle.csn_desc.proofs.WellFormed.{laid_behind, parts_behind}
+use Rattle.csn_desc.proofs.WellFormed.{laid_behind, laid_deep, parts_behind}
 use Rattle.csn_desc.proofs.Entering.{get_within}
 
 module _ (nodes : List Node) where
@@ -327,10 +327,7 @@ module _ (nodes : List Node) where
       laid_here {i = i} (laid n at deep head has parts) = get_within nodes i n at
 
   pub counts_deep : {i before deep : ℕ} → Counts nodes i before deep → deep < 64
-  counts_deep c = laid_deep c.1.laid
-    where
-      laid_deep : {seen : List ℕ} {round i end : ℕ} → Laid nodes seen round i end → round < 64
-      laid_deep (laid n at deep head has parts) = deep
+  counts_deep c = laid_deep nodes c.1.laid
 
   abbrev pub NodeGoesOn : Node → ℕ → ℕ → ℕ → ℕ → Type 0
   NodeGoesOn n start deep done before = GoesOn (parts_of n) (shows_earlier n) start deep done before

@@ -24,6 +24,9 @@ module _ (nodes : List Node) where
   pub laid_behind : {seen : List ℕ} {round i end : ℕ} → Laid nodes seen round i end → i < end
   laid_behind h = span_grows nodes (laid_spans h)
 
+  pub laid_deep : {seen : List ℕ} {round i end : ℕ} → Laid nodes seen round i end → round < 64
+  laid_deep (laid n at deep head has parts) = deep
+
   pub parts_behind : {shows : Bool} {seen : List ℕ} {round at end : ℕ} {parts : List ℕ} → PartsLaid nodes shows seen round parts at end → at ≤ end
   parts_behind h = parts_span_grow nodes (parts_laid_span h)
 
@@ -144,12 +147,9 @@ module _ (nodes : List Node) where
       record {
         heads = λ i n seen at sees. head_is n at (seeing all sees).is;
         parts = λ i n at. has_parts i n all (omega arith) (slice_get_within nodes i n at) at;
-        deep = λ i round h. round_is (inside all h).is;
+        deep = λ i round h. laid_deep (inside all h).is;
       }
     where
       head_is : {seen : List ℕ} {round i end : ℕ} (n : Node) → slice_get nodes i ≡ Some n → Laid nodes seen round i end → IsHead nodes seen (head_of n)
       head_is {seen} n at (laid m is deep head has parts) =
           let same : m ≡ n = cc (at, is) in let P : Node → Type 0 = λ k. IsHead nodes seen (head_of k) in subst P same head
-
-      round_is : {seen : List ℕ} {round i end : ℕ} → Laid nodes seen round i end → round < 64
-      round_is (laid m is deep head has parts) = deep
