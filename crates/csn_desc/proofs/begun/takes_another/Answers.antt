@@ -1,5 +1,5 @@
 -- Nodes that may have many parts always take one more.
-use Rattle.std.proofs.Common.{ℕ, ◌≡◌, ◌+◌, ◌<◌, ◌↔◌, Bool, true, false, not, IsTrue, List, [], ◌∷◌, length, refl, sym, subst, arith, if◌then◌else◌}
+use Rattle.std.proofs.Common.{ℕ, ◌+◌, ◌<◌, Bool, List, [], length, refl, sym, subst, arith, if◌then◌else◌}
 use Rattle.csn_desc.specs.declared.node.Node.{Node}
 use Rattle.csn_desc.specs.declared.node.Node.TheVariants.{Seq, Choice, Trunc}
 use Rattle.csn_desc.specs.Nodes.{head_of, parts_of}
@@ -18,11 +18,6 @@ takes_choice begun parts = (length (if begun then parts else []) + 2, omega arit
 takes_trunc : (begun : Bool) (parts : List ℕ) → Takes begun (Trunc parts)
 takes_trunc begun parts = (length (if begun then parts else []) + 1, omega arith, omega arith)
 
--- one that has one part takes it where none was entered
-takes_one : (begun : Bool) (part : ℕ) → IsTrue (not begun) ↔ ((parts : ℕ) × (length (if begun then part ∷ [] else []) < parts) × (parts ≡ 1))
-takes_one true part = ((λ h. absurd (cc)), (λ h. let more = h.1 in let one = h.2 in absurd (omega arith)))
-takes_one false part = ((λ h. (1, omega arith, refl)), (λ h. refl))
-
 pub returns-in-Seq : goal.returns-in-Seq
 returns-in-Seq c =
     let P : Node → Type 0 = λ n. Takes c.args.begun n in
@@ -37,23 +32,3 @@ pub returns-in-Trunc : goal.returns-in-Trunc
 returns-in-Trunc c =
     let P : Node → Type 0 = λ n. Takes c.args.begun n in
     (λ _. subst P (sym c.in-Trunc.is) (takes_trunc c.args.begun c.in-Trunc.field-0), λ _. refl)
-
-pub returns-in-Times : goal.returns-in-Times
-returns-in-Times c =
-    let P : Node → Type 0 = λ n. IsTrue (not c.args.begun) ↔ Takes c.args.begun n in
-    subst P (sym c.in-Times.is) (takes_one c.args.begun c.in-Times.part)
-
-pub returns-in-Many : goal.returns-in-Many
-returns-in-Many c =
-    let P : Node → Type 0 = λ n. IsTrue (not c.args.begun) ↔ Takes c.args.begun n in
-    subst P (sym c.in-Many.is) (takes_one c.args.begun c.in-Many.field-0)
-
-pub returns-in-Window : goal.returns-in-Window
-returns-in-Window c =
-    let P : Node → Type 0 = λ n. IsTrue (not c.args.begun) ↔ Takes c.args.begun n in
-    subst P (sym c.in-Window.is) (takes_one c.args.begun c.in-Window.part)
-
-pub returns-in-Named : goal.returns-in-Named
-returns-in-Named c =
-    let P : Node → Type 0 = λ n. IsTrue (not c.args.begun) ↔ Takes c.args.begun n in
-    subst P (sym c.in-Named.is) (takes_one c.args.begun c.in-Named.part)
