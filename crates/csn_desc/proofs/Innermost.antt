@@ -55,8 +55,8 @@ node_at_index [] i n within is = absurd (omega (arith, within))
 node_at_index (m ∷ nodes) zero n within is = ap Some (sym is)
 node_at_index (m ∷ nodes) (suc i) n within is = node_at_index nodes i n (omega (arith, within)) is
 
--- the last number of a list that was read
-pub last_read : {seen items : List ℕ} {i : ℕ} → seen ≡ items → Some i ≡ slice_get seen (length seen - 1) → slice_get items (length items - 1) ≡ Some i
+-- the last number of a list that was read, where there is one
+pub last_read : {seen items : List ℕ} {last : Option ℕ} → seen ≡ items → last ≡ slice_get seen (length seen - 1) → slice_get items (length items - 1) ≡ last
 last_read same at = sym (ap (λ l. slice_get l (length l - 1)) same) ∙ sym at
 
 -- ---- a node is left

@@ -1,21 +1,24 @@
 -- What stands where a node is entered.
-use Rattle.std.proofs.Common.{◌≡◌, ℕ, suc, ◌<◌, ◌-◌, List, [], ◌∷◌, ◌++◌, ◌≤◌, length, reverse, take, refl, sym, ◌∙◌, ap, subst, arith, add-one, Some, option_to_list, Result, Err}
-use Rattle.std.specs.Prelude.{slice_get, ⊤}
+use Rattle.std.proofs.Common.{◌≡◌, ◌↔◌, ℕ, suc, ◌<◌, ◌==◌, Bool, false, List, [], ◌∷◌, ◌++◌, ◌-◌, ◌≤◌, length, reverse, take, refl, sym, ◌∙◌, ap, subst, arith, add-one, option_to_list, Result, Ok, Err}
+use Rattle.std.specs.Prelude.{⊤}
 use Rattle.std.proofs.lemmas.Bool.{eqb-true}
 use Rattle.csn_desc.specs.declared.builder.DescFault.{DescFault}
-use Rattle.csn_desc.specs.declared.builder.DescFault.TheVariants.{TooManyNodes, TooDeep, TooManyVals}
+use Rattle.csn_desc.specs.declared.builder.DescFault.TheVariants.{TooManyNodes, TooDeep, TooManyVals, NoMemory}
 use Rattle.csn_desc.specs.declared.node.Node.{Node}
 use Rattle.csn_desc.specs.Building.{BuilderV, Takes, entered, node_of, part_begun}
 use Rattle.csn_desc.specs.Standing.{Stands}
-use Rattle.csn_desc.proofs.Innermost.{top_is, top_few, enters_last, entered_last, ok_holds, err_holds, long_reverse, not_full}
+use Rattle.csn_desc.proofs.Innermost.{top_is, top_few, last_read, enters_last, entered_last, ok_holds, err_holds, long_reverse, not_full}
 use Rattle.csn_desc.proofs.builder.DescBuilder.enter.Goals as goal
+
+-- those that were not left are fewer than they may be, in either order
+has_room : (items : List ℕ) {full : Bool} → length items ≤ 64 → full ≡ (length items == 64) → full ≡ false → length (reverse items) < 64
+has_room items fits is below = omega (arith, not_full (length items) 64 fits (sym is ∙ below), long_reverse items)
 
 pub push_part-requires-clause-above : goal.push_part-requires-clause-above
 push_part-requires-clause-above c = λ i is.
     let items = c.self.inside.around.items in
     let nodes = c.self.inside.nodes.items in
-    let at : slice_get items (length items - 1) ≡ Some i =
-    sym (ap (λ l. slice_get l (length l - 1)) c.deref.ensures.0) ∙ sym c.last.ensures.value ∙ sym c.copied-above.ensures ∙ is in
+    let at = last_read c.deref.ensures.0 (c.copied-above.ensures ∙ c.last.ensures.value) ∙ is in
     let few : length nodes < 16384 = omega (arith, c.if-len.false, c.len.ensures) in
     let P : List ℕ → Type 0 = λ l. Stands nodes l in
     top_few nodes i (reverse (take (length items - 1) items)) (subst P (top_is items i at) c.self.invariant) few
@@ -31,11 +34,9 @@ invariant_of-self-2 c =
     let items = c.self.inside.around.items in
     let nodes = c.self.inside.nodes.items in
     let above = c.copied-above.result in
-    let at : slice_get items (length items - 1) ≡ above =
-    sym (ap (λ l. slice_get l (length l - 1)) c.deref.ensures.0) ∙ sym c.last.ensures.value ∙ sym c.copied-above.ensures in
+    let at = last_read c.deref.ensures.0 (c.copied-above.ensures ∙ c.last.ensures.value) in
     let few : length nodes < 16384 = omega (arith, c.if-len.false, c.len.ensures) in
-    let room : length items < 64 = not_full (length items) 64 c.is_full.ensures.fits (sym c.is_full.ensures.value ∙ c.if-is_full.false) in
-    let deep : length (reverse items) < 64 = omega (arith, long_reverse items) in
+    let deep = has_room items c.is_full.ensures.fits c.is_full.ensures.value c.if-is_full.false in
     let P : BuilderV → Type 0 = λ b. Takes b c.args.head in
     let stands = enters_last c.self.inside.reading nodes items above c.args.head c.self.invariant few deep (subst P (sym c.self.view_is) c.requires) at in
     let done = ok_holds c.push_part.result (sym c.is_err.ensures.value ∙ c.if-is_err.false) c.push_part.ensures.ok in
@@ -50,164 +51,89 @@ invariant_of-self-2 c =
     let R : List ℕ → Type 0 = λ l. Stands c.push_part.new.nodes.items (reverse l) in
     subst R (sym around_are) (subst Q (sym nodes_are) stands)
 
--- ---- why a node is not entered
+-- ---- what an answer says of how many nodes there are, and how many of them were not left
 
-abbrev IsNotMany : Result ℕ DescFault → Type 0
-IsNotMany (Err TooManyNodes) = ⊥
-IsNotMany _ = ⊤
+record Tells (answer : Result ℕ DescFault) (b : BuilderV) : Type 0 where
+  many : (answer ≡ Err TooManyNodes) ↔ (16384 ≤ length b.nodes)
+  deep : (answer ≡ Err TooDeep) ↔ ((length b.nodes < 16384) × (64 ≤ length b.around))
+  vals : (node : ℕ) → answer ≡ Err (TooManyVals node) → ⊥
 
-abbrev IsNotDeep : Result ℕ DescFault → Type 0
-IsNotDeep (Err TooDeep) = ⊥
-IsNotDeep _ = ⊤
+tells_many : {inside b : BuilderV} → inside ≡ b → 16384 ≤ length inside.nodes → Tells (Err TooManyNodes) b
+tells_many is full =
+    let P : BuilderV → Type 0 = λ b. Tells (Err TooManyNodes) b in
+    subst P is (record {
+      many = ((λ told. full), (λ h. refl));
+      deep = ((λ told. absurd (cc)), (λ h. absurd (omega (arith, full, h.0))));
+      vals = λ node told. cc;
+    })
 
-abbrev IsNotVals : Result ℕ DescFault → Type 0
-IsNotVals (Err (TooManyVals node)) = ⊥
-IsNotVals _ = ⊤
+tells_deep : {inside b : BuilderV} → inside ≡ b → length inside.nodes < 16384 → 64 ≤ length inside.around → Tells (Err TooDeep) b
+tells_deep is few deep =
+    let P : BuilderV → Type 0 = λ b. Tells (Err TooDeep) b in
+    subst P is (record {
+      many = ((λ told. absurd (cc)), (λ h. absurd (omega (arith, few, h))));
+      deep = ((λ told. (few, deep)), (λ h. refl));
+      vals = λ node told. cc;
+    })
 
-not_many : (r : Result ℕ DescFault) → IsNotMany r → r ≡ Err TooManyNodes → ⊥
-not_many r other is = subst IsNotMany is other
+-- a node is entered, or there is no memory for it
+abbrev IsOther : Result ℕ DescFault → Type 0
+IsOther (Ok number) = ⊤
+IsOther (Err NoMemory) = ⊤
+IsOther _ = ⊥
 
-not_deep : (r : Result ℕ DescFault) → IsNotDeep r → r ≡ Err TooDeep → ⊥
-not_deep r other is = subst IsNotDeep is other
+tells_neither : (answer : Result ℕ DescFault) → IsOther answer → {inside b : BuilderV} → inside ≡ b → length inside.nodes < 16384 → length inside.around < 64 → Tells answer b
+tells_neither answer other is few room =
+    let P : BuilderV → Type 0 = λ b. Tells answer b in
+    subst P is (record {
+      many = ((λ told. absurd (subst IsOther told other)), (λ h. absurd (omega (arith, few, h))));
+      deep = ((λ told. absurd (subst IsOther told other)), (λ h. absurd (omega (arith, room, h.1))));
+      vals = λ node told. subst IsOther told other;
+    })
 
-not_vals : (node : ℕ) (r : Result ℕ DescFault) → IsNotVals r → r ≡ Err (TooManyVals node) → ⊥
-not_vals node r other is = subst IsNotVals is other
+pub returns-then-len : goal.returns-then-len
+returns-then-len c =
+    let tells = tells_many c.self.view_is (omega (arith, c.if-len.true, c.len.ensures)) in
+    record { number = tt; entered = tt; room = tt; many = tells.many; deep = tells.deep; vals = tells.vals; refused = refl }
 
-pub returns-then-len-clause-number : goal.returns-then-len-clause-number
-returns-then-len-clause-number c = tt
-
-pub returns-then-len-clause-entered : goal.returns-then-len-clause-entered
-returns-then-len-clause-entered c = tt
-
-pub returns-then-len-clause-room : goal.returns-then-len-clause-room
-returns-then-len-clause-room c = tt
-
-pub returns-then-len-clause-vals : goal.returns-then-len-clause-vals
-returns-then-len-clause-vals c = λ node. not_vals node _ tt
-
-pub returns-then-len-clause-many : goal.returns-then-len-clause-many
-returns-then-len-clause-many c =
-    let P : BuilderV → Type 0 = λ b. 16384 ≤ length b.nodes in
-    let many : 16384 ≤ length c.args.self.now.nodes = subst P c.self.view_is (omega (arith, c.if-len.true, c.len.ensures)) in
-    ((λ is. many), (λ full. refl))
-
-pub returns-then-len-clause-deep : goal.returns-then-len-clause-deep
-returns-then-len-clause-deep c =
-    let P : BuilderV → Type 0 = λ b. 16384 ≤ length b.nodes in
-    let many : 16384 ≤ length c.args.self.now.nodes = subst P c.self.view_is (omega (arith, c.if-len.true, c.len.ensures)) in
-    ((λ is. absurd (not_deep _ tt is)), (λ h. absurd (omega (arith, many, h.0))))
-
-pub returns-then-len-clause-refused : goal.returns-then-len-clause-refused
-returns-then-len-clause-refused c = refl
-
-pub returns-then-is_full-clause-number : goal.returns-then-is_full-clause-number
-returns-then-is_full-clause-number c = tt
-
-pub returns-then-is_full-clause-entered : goal.returns-then-is_full-clause-entered
-returns-then-is_full-clause-entered c = tt
-
-pub returns-then-is_full-clause-room : goal.returns-then-is_full-clause-room
-returns-then-is_full-clause-room c = tt
-
-pub returns-then-is_full-clause-vals : goal.returns-then-is_full-clause-vals
-returns-then-is_full-clause-vals c = λ node. not_vals node _ tt
-
-pub returns-then-is_full-clause-many : goal.returns-then-is_full-clause-many
-returns-then-is_full-clause-many c =
-    let P : BuilderV → Type 0 = λ b. length b.nodes < 16384 in
-    let few : length c.args.self.now.nodes < 16384 = subst P c.self.view_is (omega (arith, c.if-len.false, c.len.ensures)) in
-    ((λ is. absurd (not_many _ tt is)), (λ many. absurd (omega (arith, few, many))))
-
-pub returns-then-is_full-clause-deep : goal.returns-then-is_full-clause-deep
-returns-then-is_full-clause-deep c =
+pub returns-then-is_full : goal.returns-then-is_full
+returns-then-is_full c =
     let items = c.self.inside.around.items in
-    let P : BuilderV → Type 0 = λ b. (length b.nodes < 16384) × (64 ≤ length b.around) in
-    let deep : 64 ≤ length (reverse items) = omega (arith, long_reverse items, eqb-true (length items) 64 (sym c.is_full.ensures.value ∙ c.if-is_full.true)) in
-    let both = subst P c.self.view_is (omega (arith, c.if-len.false, c.len.ensures), deep) in
-    ((λ is. both), (λ h. refl))
+    let full = eqb-true (length items) 64 (sym c.is_full.ensures.value ∙ c.if-is_full.true) in
+    let tells = tells_deep c.self.view_is (omega (arith, c.if-len.false, c.len.ensures)) (omega (arith, long_reverse items, full)) in
+    record { number = tt; entered = tt; room = tt; many = tells.many; deep = tells.deep; vals = tells.vals; refused = refl }
 
-pub returns-then-is_full-clause-refused : goal.returns-then-is_full-clause-refused
-returns-then-is_full-clause-refused c = refl
-
-pub returns-then-is_err-clause-number : goal.returns-then-is_err-clause-number
-returns-then-is_err-clause-number c = tt
-
-pub returns-then-is_err-clause-entered : goal.returns-then-is_err-clause-entered
-returns-then-is_err-clause-entered c = tt
-
-pub returns-then-is_err-clause-room : goal.returns-then-is_err-clause-room
-returns-then-is_err-clause-room c = tt
-
-pub returns-then-is_err-clause-vals : goal.returns-then-is_err-clause-vals
-returns-then-is_err-clause-vals c = λ node. not_vals node _ tt
-
-pub returns-then-is_err-clause-many : goal.returns-then-is_err-clause-many
-returns-then-is_err-clause-many c =
-    let items = c.self.inside.around.items in
-    let P : BuilderV → Type 0 = λ b. (length b.nodes < 16384) × (length b.around < 64) in
-    let room : length items < 64 = not_full (length items) 64 c.is_full.ensures.fits (sym c.is_full.ensures.value ∙ c.if-is_full.false) in
-    let both = subst P c.self.view_is (omega (arith, c.if-len.false, c.len.ensures), omega (arith, room, long_reverse items)) in
-    ((λ is. absurd (not_many _ tt is)), (λ many. absurd (omega (arith, both.0, many))))
-
-pub returns-then-is_err-clause-deep : goal.returns-then-is_err-clause-deep
-returns-then-is_err-clause-deep c =
-    let items = c.self.inside.around.items in
-    let P : BuilderV → Type 0 = λ b. (length b.nodes < 16384) × (length b.around < 64) in
-    let room : length items < 64 = not_full (length items) 64 c.is_full.ensures.fits (sym c.is_full.ensures.value ∙ c.if-is_full.false) in
-    let both = subst P c.self.view_is (omega (arith, c.if-len.false, c.len.ensures), omega (arith, room, long_reverse items)) in
-    ((λ is. absurd (not_deep _ tt is)), (λ h. absurd (omega (arith, both.1, h.1))))
-
-pub returns-then-is_err-clause-refused : goal.returns-then-is_err-clause-refused
-returns-then-is_err-clause-refused c =
+pub returns-then-is_err : goal.returns-then-is_err
+returns-then-is_err c =
+    let room = has_room c.self.inside.around.items c.is_full.ensures.fits c.is_full.ensures.value c.if-is_full.false in
+    let tells = tells_neither (Err NoMemory) tt c.self.view_is (omega (arith, c.if-len.false, c.len.ensures)) room in
     let same = err_holds c.push_part.result (sym c.is_err.ensures.value ∙ c.if-is_err.true) c.push_part.ensures.err in
-    ap (λ nodes. record { reading = c.self.inside.reading; nodes = nodes; around = reverse c.self.inside.around.items }) same ∙ c.self.view_is
+    record {
+      number = tt;
+      entered = tt;
+      room = tt;
+      many = tells.many;
+      deep = tells.deep;
+      vals = tells.vals;
+      refused = ap (λ nodes. record { reading = c.self.inside.reading; nodes = nodes; around = reverse c.self.inside.around.items }) same ∙ c.self.view_is;
+    }
 
 -- ---- it is entered
 
-pub returns-clause-refused : goal.returns-clause-refused
-returns-clause-refused c = tt
-
-pub returns-clause-vals : goal.returns-clause-vals
-returns-clause-vals c = λ node. not_vals node _ tt
-
-pub returns-clause-number : goal.returns-clause-number
-returns-clause-number c =
-    let P : BuilderV → Type 0 = λ b. c.len-number.result ≡ length b.nodes in
-    subst P c.self.view_is (omega (arith, c.len-number.ensures))
-
-pub returns-clause-room : goal.returns-clause-room
-returns-clause-room c =
-    let items = c.self.inside.around.items in
-    let P : BuilderV → Type 0 = λ b. (length b.nodes < 16384) × (length b.around < 64) in
-    let room : length items < 64 = not_full (length items) 64 c.is_full.ensures.fits (sym c.is_full.ensures.value ∙ c.if-is_full.false) in
-    let both = subst P c.self.view_is (omega (arith, c.if-len.false, c.len.ensures), omega (arith, room, long_reverse items)) in
-    both
-
-pub returns-clause-many : goal.returns-clause-many
-returns-clause-many c =
-    let items = c.self.inside.around.items in
-    let P : BuilderV → Type 0 = λ b. (length b.nodes < 16384) × (length b.around < 64) in
-    let room : length items < 64 = not_full (length items) 64 c.is_full.ensures.fits (sym c.is_full.ensures.value ∙ c.if-is_full.false) in
-    let both = subst P c.self.view_is (omega (arith, c.if-len.false, c.len.ensures), omega (arith, room, long_reverse items)) in
-    ((λ is. absurd (not_many _ tt is)), (λ many. absurd (omega (arith, both.0, many))))
-
-pub returns-clause-deep : goal.returns-clause-deep
-returns-clause-deep c =
-    let items = c.self.inside.around.items in
-    let P : BuilderV → Type 0 = λ b. (length b.nodes < 16384) × (length b.around < 64) in
-    let room : length items < 64 = not_full (length items) 64 c.is_full.ensures.fits (sym c.is_full.ensures.value ∙ c.if-is_full.false) in
-    let both = subst P c.self.view_is (omega (arith, c.if-len.false, c.len.ensures), omega (arith, room, long_reverse items)) in
-    ((λ is. absurd (not_deep _ tt is)), (λ h. absurd (omega (arith, both.1, h.1))))
-
-pub returns-clause-entered : goal.returns-clause-entered
-returns-clause-entered c =
+pub returns : goal.returns
+returns c =
     let items = c.self.inside.around.items in
     let nodes = c.self.inside.nodes.items in
-    let above = c.copied-above.result in
-    let at : slice_get items (length items - 1) ≡ above =
-    sym (ap (λ l. slice_get l (length l - 1)) c.deref.ensures.0) ∙ sym c.last.ensures.value ∙ sym c.copied-above.ensures in
+    let few : length nodes < 16384 = omega (arith, c.if-len.false, c.len.ensures) in
+    let room = has_room items c.is_full.ensures.fits c.is_full.ensures.value c.if-is_full.false in
+    let tells = tells_neither (Ok c.len-number.result) tt c.self.view_is few room in
     let done = ok_holds c.push_part.result (sym c.is_err.ensures.value ∙ c.if-is_err.false) c.push_part.ensures.ok in
-    let P : BuilderV → Type 0 = λ b. record { reading = c.self.inside.reading; nodes = c.push_part.new.nodes.items; around = reverse c.push.new.self.items } ≡ entered c.args.head b in
-    subst P c.self.view_is
-    (entered_last c.self.inside.reading nodes items above c.args.head c.begun_node-node.result c.len-number.result c.push_part.new.nodes.items c.push.new.self.items
-    (omega (arith, c.len-number.ensures)) at c.begun_node-node.ensures done c.push.ensures.items)
+    let long : c.len-number.result ≡ length nodes = omega (arith, c.len-number.ensures) in
+    let is_entered =
+    entered_last c.self.inside.reading nodes items c.copied-above.result c.args.head c.begun_node-node.result c.len-number.result c.push_part.new.nodes.items c.push.new.self.items
+    long (last_read c.deref.ensures.0 (c.copied-above.ensures ∙ c.last.ensures.value)) c.begun_node-node.ensures done c.push.ensures.items in
+    let P : BuilderV → Type 0 = λ b. (c.len-number.result ≡ length b.nodes)
+    × (record { reading = c.self.inside.reading; nodes = c.push_part.new.nodes.items; around = reverse c.push.new.self.items } ≡ entered c.args.head b)
+    × ((length b.nodes < 16384) × (length b.around < 64)) in
+    let made = subst P c.self.view_is (long, is_entered, (few, room)) in
+    record { number = made.0; entered = made.1; room = made.2; many = tells.many; deep = tells.deep; vals = tells.vals; refused = tt }
