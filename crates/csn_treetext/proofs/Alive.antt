@@ -31,6 +31,9 @@ use Rattle.csn_treetext.proofs.LeafSteps.{AreOctets-push}
 
 -- ---- a tree that has begun can end
 
+as_begun : {version : Version} {a b : List ℕ} → a ≡ b → BeginsText version a → BeginsText version b
+as_begun {version} same is = subst (λ l. BeginsText version l) same is
+
 -- where the text of a tree begins with some bytes, these begin a text behind what stands before the tree
 pub ends : (version : Version) (stack : List Frame) (t : TreeV) (x y : List ℕ) → IsStack stack → IsTree (length stack) t → text_of version t ≡ x ++ y → BeginsText version (before version stack ++ x)
 ends version [] t x y h is text = (t, y, record { fits = is.fits; parts = is.parts; spelled = sym text })
@@ -42,11 +45,8 @@ ends version (Row ts ∷ stack) t x y h is text =
     ap (λ l. 91 ∷ (l ++ 93 ∷ []))
     (spaced-push version ts t ∙ ap (λ l. spaced version ts ++ l) text ∙ sym (append_assoc (spaced version ts) x y))
     ∙ ap (λ l. 91 ∷ l) (append_assoc (spaced version ts ++ x) y (93 ∷ [])) in
-    begins_as version (sym (append_assoc (before version stack) (91 ∷ spaced version ts) x))
+    as_begun (sym (append_assoc (before version stack) (91 ∷ spaced version ts) x))
     (ends version stack (row (trees_of trees)) (91 ∷ (spaced version ts ++ x)) (y ++ 93 ∷ []) h.2 whole spelled_row)
-  where
-    begins_as : (version : Version) {a b : List ℕ} → a ≡ b → BeginsText version a → BeginsText version b
-    begins_as version same is = subst (λ l. BeginsText version l) same is
 ends version (Alt j ∷ stack) t x y h is text =
     let spelled_alt : text_of version (alt j t) ≡ (35 ∷ (decimal j ++ 58 ∷ x)) ++ y =
     ap (λ l. 35 ∷ (decimal j ++ 58 ∷ l)) text ∙ ap (λ l. 35 ∷ l) (sym (append_assoc (decimal j) (58 ∷ x) y)) in
@@ -144,9 +144,6 @@ behind_begins version (Named l ∷ stack) h has = absurd has
 behind_begins version (Row ts ∷ stack) h has =
     let k = h.0 in
     ends version stack (row (trees_of ts)) (91 ∷ row_text version (trees_of ts)) (93 ∷ []) h.2 (row_is_tree (length stack) ts (omega arith) h.1) refl
-
-as_begun : {version : Version} {a b : List ℕ} → a ≡ b → BeginsText version a → BeginsText version b
-as_begun {version} same is = subst (λ l. BeginsText version l) same is
 
 name_begins : (version : Version) (stack : List Frame) (l x y : List ℕ) → IsStack stack → length stack < MOST_ROUND → IsLabel l → l ++ 62 ∷ 61 ∷ 46 ∷ [] ≡ x ++ y → BeginsText version (before version stack ++ 60 ∷ x)
 name_begins version stack l x y h low is text =

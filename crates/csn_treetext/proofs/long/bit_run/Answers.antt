@@ -1,4 +1,4 @@
-use Rattle.std.proofs.Common.{◌+◌, sym, subst, arith, inr}
+use Rattle.std.proofs.Common.{◌+◌, sym, subst, arith, inl, inr}
 use Rattle.csn_treetext.specs.declared.version.Version.TheVariants.{First}
 use Rattle.csn_treetext.specs.reader.Mode.{Bare}
 use Rattle.csn_treetext.specs.reader.Machine.{state}
@@ -17,23 +17,13 @@ loop-bit-preserved c =
           (bit_more c.args.text.now c.loop-bit.end c.loop-bit.bits c.in-Some.bit stack (comes stack e) low is small (omega (arith, c.loop-bit-test.true, c.len.ensures.count))),
     )
 
-pub returns-in-None-clause-comes : goal.returns-in-None-clause-comes
-returns-in-None-clause-comes c = c.loop-bit.invariant.2
+pub returns-in-None : goal.returns-in-None
+returns-in-None c = record { comes = c.loop-bit.invariant.2; stops = inr c.in-None.ensures.none; from = c.loop-bit.invariant.0; within = c.loop-bit.invariant.1 }
 
-pub returns-in-None-clause-stops : goal.returns-in-None-clause-stops
-returns-in-None-clause-stops c = inr c.in-None.ensures.none
-
-pub returns-in-None-clause-from : goal.returns-in-None-clause-from
-returns-in-None-clause-from c = c.loop-bit.invariant.0
-
-pub returns-in-None-clause-within : goal.returns-in-None-clause-within
-returns-in-None-clause-within c = c.loop-bit.invariant.1
-
-pub returns-clause-comes : goal.returns-clause-comes
-returns-clause-comes c = c.loop-bit.invariant.2
-
-pub returns-clause-from : goal.returns-clause-from
-returns-clause-from c = c.loop-bit.invariant.0
-
-pub returns-clause-within : goal.returns-clause-within
-returns-clause-within c = c.loop-bit.invariant.1
+pub returns : goal.returns
+returns c = record {
+  comes = c.loop-bit.invariant.2;
+  stops = inl (omega (arith, c.loop-bit-test.false, c.len.ensures.count, c.len.ensures.within));
+  from = c.loop-bit.invariant.0;
+  within = c.loop-bit.invariant.1;
+}

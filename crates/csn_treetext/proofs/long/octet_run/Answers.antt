@@ -1,4 +1,4 @@
-use Rattle.std.proofs.Common.{◌≡◌, ◌<◌, ◌+◌, ◌*◌, ◌++◌, ◌∷◌, [], None, length, sym, ap, ◌∙◌, subst, arith, inr}
+use Rattle.std.proofs.Common.{◌≡◌, ◌<◌, ◌+◌, ◌*◌, ◌++◌, ◌∷◌, [], None, length, sym, ap, ◌∙◌, subst, arith, inl, inr}
 use Rattle.std.proofs.lemmas.List.{length_push}
 use Rattle.csn_treetext.specs.declared.bounds.TheConstants.{MOST_OCTETS}
 use Rattle.csn_treetext.specs.declared.version.Version.TheVariants.{Second}
@@ -23,29 +23,12 @@ loop-octet-preserved c =
           (octet_more c.args.text.now c.loop-octet.end c.loop-octet.octets.items high other stack (comes stack e) low first second room),
     )
 
-pub returns-in-None-clause-comes : goal.returns-in-None-clause-comes
-returns-in-None-clause-comes c = c.loop-octet.invariant.3
+pub returns-in-None : goal.returns-in-None
+returns-in-None c =
+    let (begins, within, few, comes) = c.loop-octet.invariant in
+    record { comes = comes; stops = inr c.in-None.ensures.none; from = begins; within = within; few = few }
 
-pub returns-in-None-clause-stops : goal.returns-in-None-clause-stops
-returns-in-None-clause-stops c = inr c.in-None.ensures.none
-
-pub returns-in-None-clause-from : goal.returns-in-None-clause-from
-returns-in-None-clause-from c = c.loop-octet.invariant.0
-
-pub returns-in-None-clause-within : goal.returns-in-None-clause-within
-returns-in-None-clause-within c = c.loop-octet.invariant.1
-
-pub returns-in-None-clause-few : goal.returns-in-None-clause-few
-returns-in-None-clause-few c = c.loop-octet.invariant.2
-
-pub returns-clause-comes : goal.returns-clause-comes
-returns-clause-comes c = c.loop-octet.invariant.3
-
-pub returns-clause-from : goal.returns-clause-from
-returns-clause-from c = c.loop-octet.invariant.0
-
-pub returns-clause-within : goal.returns-clause-within
-returns-clause-within c = c.loop-octet.invariant.1
-
-pub returns-clause-few : goal.returns-clause-few
-returns-clause-few c = c.loop-octet.invariant.2
+pub returns : goal.returns
+returns c =
+    let (begins, within, few, comes) = c.loop-octet.invariant in
+    record { comes = comes; stops = inl (omega (arith, c.loop-octet-test.false)); from = begins; within = within; few = few }
