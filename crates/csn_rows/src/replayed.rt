@@ -8,7 +8,7 @@ use crate::failing::{Call, ran_in_pieces};
 use crate::tests::{expect, words_of};
 use csn_bits::NoMemory;
 use csn_catalogue::Entry;
-use csn_replay::{BitsWatcher, EntryWatcher, Go, Kind, RefusedWatcher, Seen};
+use csn_replay::{BitsWatcher, EntryWatcher, Go, Kind, RefusedWatcher, Seen, Told, close, tell};
 use std::cell::Cell;
 use std::process::Abort;
 use std::rc::Rc;
@@ -222,6 +222,54 @@ fn a_watcher_is_dropped_once(rt: HostRuntime) -> Result<(), Fail> {
         let ran = run_watched(alloc, &words, BTreeMap::new(alloc), input, watchers)?;
         expect(&rt, &ran, text.as_bytes(), status, "drops");
         assert_eq!(rt; drops.get(), 1);
+    }
+    Ok(())
+}
+
+/// However the calls of the library end, and also where the count comes to the greatest number.
+#[test]
+fn a_watcher_is_dropped_once_on_every_end(rt: HostRuntime) -> Result<(), Fail> {
+    let alloc = rt.alloc();
+    let seen = Seen {
+        entry: Entry::Si1,
+        bits: 8,
+        ok: true,
+    };
+    for (start, until, failing, told, closed, text) in [
+        (0, 8, 9, Told::Ok, Told::Ok, "bits 8\n"),
+        (0, 9, 9, Told::Ok, Told::Ok, "bits 8\n"),
+        (
+            u64::MAX - 1,
+            u64::MAX,
+            9,
+            Told::Ok,
+            Told::Ok,
+            "bits 18446744073709551615\n",
+        ),
+        (0, 8, 0, Told::WriteFault, Told::Ok, ""),
+        (0, 8, 1, Told::WriteFault, Told::Ok, "bit"),
+        (0, 9, 1, Told::Ok, Told::WriteFault, "bit"),
+    ] {
+        let drops = Rc::new(alloc, Cell::new(0))?;
+        let mut out = MemSink::new(alloc, 3, vec![in alloc; failing]?);
+        let mut watchers: Vec<Box<dyn Watcher>> = Vec::new(alloc);
+        watchers.push(Box::new(
+            alloc,
+            Counting {
+                count: start,
+                until,
+                reports: true,
+                drops: drops.clone()?,
+            },
+        )?)?;
+        let answers = [
+            tell(alloc, &mut watchers, &seen, &mut out),
+            close(alloc, watchers, &mut out),
+        ];
+        assert_eq!(rt;
+            (answers, drops.get(), out.taken()),
+            ([told, closed], 1, text.as_bytes())
+        );
     }
     Ok(())
 }

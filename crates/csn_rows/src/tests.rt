@@ -294,33 +294,21 @@ fn limits_are_kept(rt: HostRuntime) -> Result<(), Fail> {
     Ok(())
 }
 
+/// What a block of the greatest length goes on with, one behind the other, and what `show` writes for it then.
+const LONG_LINES: &[(&[u8], &[u8], &str)] = &[
+    (b"", b"no 8 bit\n", "a block of the greatest length"),
+    (b"00", b"bad 4\n", "a long block"),
+    (b"G", b"bad 1 131074\n", "a long block with a bad digit"),
+];
+
 #[test]
 fn limits_of_lines_are_kept(rt: HostRuntime) -> Result<(), Fail> {
     let alloc = rt.alloc();
     let mut line = vec![in alloc; b'0'; 131_072]?;
-    let text = b"no 8 bit\n";
-    expect_shown(
-        &rt,
-        alloc,
-        FIELDS,
-        &line,
-        text,
-        1,
-        "a block of the greatest length",
-    )?;
-    line.extend_from_slice(b"00")?;
-    expect_shown(&rt, alloc, FIELDS, &line, b"bad 4\n", 1, "a long block")?;
-    line.push(b'G')?;
-    let text = b"bad 1 131074\n";
-    expect_shown(
-        &rt,
-        alloc,
-        FIELDS,
-        &line,
-        text,
-        1,
-        "a long block with a bad digit",
-    )?;
+    for (more, text, what) in LONG_LINES {
+        line.extend_from_slice(more)?;
+        expect_shown(&rt, alloc, FIELDS, &line, text, 1, what)?;
+    }
     Ok(())
 }
 

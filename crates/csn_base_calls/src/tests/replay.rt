@@ -1,64 +1,12 @@
-ghost use Rattle.csn_replay.specs.declared.seen.Kind.TheVariants.{Length};
-
-use csn_bits::NoMemory;
 use csn_catalogue::Entry;
 use csn_io::MemSink;
 use csn_replay::{
-    BitsWatcher, Capture, CaptureHead, EntryWatcher, Go, Kind, RefusedWatcher, Seen, Told, Watcher,
-    close, read_capture, tell,
+    BitsWatcher, Capture, CaptureHead, EntryWatcher, RefusedWatcher, Seen, Told, Watcher, close,
+    read_capture, tell,
 };
 use std::alloc::Global;
-use std::cell::Cell;
 use std::process::Abort;
-use std::rc::Rc;
 use std::test::Fail;
-
-/// Counts bits from some number on, and how often watchers like it were dropped.
-struct Counting {
-    count: u64,
-    until: u64,
-    drops: Rc<Cell<u32>>,
-}
-
-impl Drop for Counting {
-    fn drop(self) {
-        let Counting {
-            count: _,
-            until: _,
-            drops,
-        } = self;
-        drops.set(drops.get().saturating_add(1));
-    }
-}
-
-impl Watcher for Counting {
-    ghost watched = { λ w. record { kind = Length; count = w.count; until = w.until } };
-
-    fn kind(&self) -> Kind {
-        Kind::Length
-    }
-
-    fn count(&self) -> u64 {
-        self.count
-    }
-
-    fn until(&self) -> u64 {
-        self.until
-    }
-
-    fn see(&mut self, seen: &Seen) -> Go {
-        self.count = self.count.saturating_add(u64::from(seen.bits));
-        if self.count >= self.until {
-            Go::Done
-        } else {
-            Go::Stay
-        }
-    }
-
-    fn report_line(&self, alloc: Global) -> Result<Vec<u8>, NoMemory> {
-        Ok(format!(in alloc; "bits {}", self.count)?.into_bytes())
-    }
-}
 
 fn seen(entry: Entry, bits: u32, ok: bool) -> Seen {
     Seen { entry, bits, ok }
@@ -170,46 +118,5 @@ fn watchers_of_one_kind_count_apart(rt: HostRuntime) -> Result<(), Fail> {
     ];
     let end = "bits 9\nbits 97\nentry si1 3\nentry ia 0\n";
     expect_told(&rt, alloc, watchers, &rows, end);
-    Ok(())
-}
-
-#[test]
-fn a_watcher_is_dropped_once_on_every_end(rt: HostRuntime) -> Result<(), Fail> {
-    let alloc = rt.alloc();
-    for (start, until, failing, told, closed, text) in [
-        (0, 8, 9, Told::Ok, Told::Ok, "bits 8\n"),
-        (0, 9, 9, Told::Ok, Told::Ok, "bits 8\n"),
-        (
-            u64::MAX - 1,
-            u64::MAX,
-            9,
-            Told::Ok,
-            Told::Ok,
-            "bits 18446744073709551615\n",
-        ),
-        (0, 8, 0, Told::WriteFault, Told::Ok, ""),
-        (0, 8, 1, Told::WriteFault, Told::Ok, "bit"),
-        (0, 9, 1, Told::Ok, Told::WriteFault, "bit"),
-    ] {
-        let drops = Rc::new(alloc, Cell::new(0))?;
-        let mut out = MemSink::new(alloc, 3, vec![in alloc; failing]?);
-        let mut watchers: Vec<Box<dyn Watcher>> = Vec::new(alloc);
-        watchers.push(Box::new(
-            alloc,
-            Counting {
-                count: start,
-                until,
-                drops: drops.clone()?,
-            },
-        )?)?;
-        let answers = [
-            tell(alloc, &mut watchers, &seen(Entry::Si1, 8, true), &mut out),
-            close(alloc, watchers, &mut out),
-        ];
-        assert_eq!(rt;
-            (answers, drops.get(), out.taken()),
-            ([told, closed], 1, text.as_bytes())
-        );
-    }
     Ok(())
 }
