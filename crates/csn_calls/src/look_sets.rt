@@ -174,16 +174,6 @@ fn have_sets<R: Abort>(rt: &R, desc: &Desc, look: &Look, reach: &Reach, cases: &
     }
 }
 
-#[test]
-fn nodes_have_their_sets(rt: HostRuntime) -> Result<(), Fail> {
-    let desc = every_kind(rt.alloc())?;
-    let look = Look::new(rt.alloc(), &desc)?;
-    let reach = Reach::new(rt.alloc(), &desc, &look)?;
-    have_sets(&rt, &desc, &look, &reach, FIRM);
-    have_sets(&rt, &desc, &look, &reach, NOT_FIRM.as_slice());
-    Ok(())
-}
-
 /// Whether a set has 0, 1 and the end.
 fn signs_of(set: SymbolSet) -> (bool, bool, bool) {
     (set.has(Sign::Zero), set.has(Sign::One), set.has(Sign::End))
@@ -222,10 +212,12 @@ fn have_signs<R: Abort>(rt: &R, desc: &Desc, look: &Look, reach: &Reach, cases: 
 }
 
 #[test]
-fn signs_follow_and_come_first(rt: HostRuntime) -> Result<(), Fail> {
+fn nodes_have_their_sets_and_signs(rt: HostRuntime) -> Result<(), Fail> {
     let desc = every_kind(rt.alloc())?;
     let look = Look::new(rt.alloc(), &desc)?;
     let reach = Reach::new(rt.alloc(), &desc, &look)?;
+    have_sets(&rt, &desc, &look, &reach, FIRM);
+    have_sets(&rt, &desc, &look, &reach, NOT_FIRM.as_slice());
     have_signs(&rt, &desc, &look, &reach, SIGNS);
     Ok(())
 }
