@@ -2,8 +2,8 @@
 
 ghost use Rattle.std.specs.Prelude.{◌≡◌, ◌↔◌, ◌<◌, ◌≤◌, ◌⊎◌, ℕ, suc, false, IsTrue, length, take, slice_get, Some};
 ghost use Rattle.csn_desc.specs.Formed.{IsDescription};
-ghost use Rattle.csn_desc.specs.declared.node.Node.TheVariants.{Seq, Choice, Trunc};
-ghost use Rattle.csn_compat.specs.Takes.{is_label_or_choice, is_label_or_rest, IsAnyBits, Takes, NodeTakes, PartsTake, LeadTake};
+ghost use Rattle.csn_desc.specs.declared.node.Node.TheVariants.{Seq, Choice};
+ghost use Rattle.csn_compat.specs.Takes.{is_label_or_choice, is_label_or_rest, IsAnyBits, Takes, NodeTakes, PartsTake};
 ghost use Rattle.csn_compat.specs.Places.{pairs_behind, FirstTaken, LastTaken, AreShown, HasRoom};
 
 use crate::leaf::leaf_is_taken;
@@ -59,7 +59,13 @@ fn kind_is_taken(was: &Desc, now: &Desc, i: u16, old: &Node, new: &Node, pairs: 
             sequence_is_taken(was, now, i, parts, others, pairs)
         }
         (Node::Trunc(parts), Node::Trunc(others)) => {
-            truncation_is_taken(was, now, i, parts, others, pairs)
+            if parts.len() > others.len() {
+                return false;
+            }
+            let before = pairs.len();
+            let taken = first_are_taken(was, now, i, parts, others, parts.len(), pairs);
+            pairs.truncate(before);
+            taken
         }
         (Node::Many(part), Node::Many(other)) => takes(was, now, *part, *other, pairs),
         (
@@ -146,33 +152,6 @@ fn sequence_is_taken(
     let before = pairs.len();
     let taken = first_are_taken(was, now, i, parts, others, others.len() - 1, pairs)
         && last_is_taken(was, now, i, parts, others, pairs);
-    pairs.truncate(before);
-    taken
-}
-
-/// Whether the parts of a new truncation take those of the old one `i`, each the one at its place.
-#[cycle(takes)]
-fn truncation_is_taken(
-    was: &Desc,
-    now: &Desc,
-    i: u16,
-    parts: &Parts,
-    others: &Parts,
-    pairs: &mut Pairs,
-) -> bool
-    requires old { IsDescription was.now }
-    requires new { IsDescription now.now }
-    requires room { HasRoom was.now.nodes pairs.old.items i }
-    requires parts { slice_get was.now.nodes i ≡ Some (Trunc parts.now) }
-    requires others { (j : ℕ) × (slice_get now.now.nodes j ≡ Some (Trunc others.now)) }
-    ensures takes { IsTrue result ↔ LeadTake was.now now.now parts.now others.now pairs.old.items }
-    ensures kept { pairs.new.items ≡ pairs.old.items }
-{
-    if parts.len() > others.len() {
-        return false;
-    }
-    let before = pairs.len();
-    let taken = first_are_taken(was, now, i, parts, others, parts.len(), pairs);
     pairs.truncate(before);
     taken
 }

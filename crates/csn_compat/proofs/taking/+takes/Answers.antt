@@ -1,5 +1,5 @@
 -- Each function says what its case of the definition says; the parts stand behind their node.
-use Rattle.std.proofs.Common.{◌≡◌, ℕ, suc, ◌-◌, true, List, length, refl, sym, ◌∙◌, ap, subst, arith, inl, inr, Some, eqb-true, get_or, add-one}
+use Rattle.std.proofs.Common.{◌≡◌, ℕ, suc, ◌-◌, true, false, List, length, refl, sym, ◌∙◌, ap, subst, arith, inl, inr, Some, eqb-true, get_or, add-one}
 use Rattle.std.specs.Prelude.{slice_get}
 use Rattle.std.proofs.lemmas.Option.{slice_get_within, slice_get-get_or}
 use Rattle.std.proofs.lemmas.Bool.{eq-eqb, false≢true, true≢false}
@@ -229,18 +229,6 @@ sequence_is_taken-returns-clause-takes t c =
           seq_refused args.was.now args.now.now args.parts.now args.others.now args.pairs.now.items count c.if-first_are_taken.taken c.first_are_taken.result c.first_are_taken.result long w.taken-is w.if-first_are_taken.false w.if-first_are_taken.false c.first_are_taken.ensures.takes
     ]
 
--- ---- a truncation
-
-pub truncation_is_taken-returns-then-len-clause-takes : goal.truncation_is_taken-returns-then-len-clause-takes
-truncation_is_taken-returns-then-len-clause-takes t c = (
-  λ e. absurd (false≢true e),
-  λ h. absurd (lead_too_long c.args.was.now c.args.now.now c.args.parts.now c.args.others.now c.args.pairs.now.items (omega (arith, c.len.ensures.len, c.len-2.ensures.len, c.if-len.true)) h),
-)
-
-pub truncation_is_taken-returns-clause-takes : goal.truncation_is_taken-returns-clause-takes
-truncation_is_taken-returns-clause-takes t c =
-    lead_decided c.args.was.now c.args.now.now c.args.parts.now c.args.others.now c.args.pairs.now.items c.len-3.result c.first_are_taken-taken.result c.len-3.ensures.len (omega (arith, c.len.ensures.len, c.len-2.ensures.len, c.if-len.false)) c.first_are_taken-taken.ensures.takes
-
 -- ---- the kinds that are compared
 
 pub kind_is_taken-takes-requires : goal.kind_is_taken-takes-requires
@@ -263,10 +251,25 @@ kind_is_taken-returns-in-Seq-Seq-clause-takes t c j =
     let says = c.sequence_is_taken.ensures.takes in
     along_nodes c.args.was.now c.args.now.now c.args.i j c.sequence_is_taken.result c.in-Seq-Seq.is-0 c.in-Seq-Seq.is-1 (λ e. takes_seq (says.0 e), λ h. says.1 (of_seq c.args.was.now c.args.now.now h))
 
-pub kind_is_taken-returns-in-Trunc-Trunc-clause-takes : goal.kind_is_taken-returns-in-Trunc-Trunc-clause-takes
-kind_is_taken-returns-in-Trunc-Trunc-clause-takes t c j =
-    let says = c.truncation_is_taken.ensures.takes in
-    along_nodes c.args.was.now c.args.now.now c.args.i j c.truncation_is_taken.result c.in-Trunc-Trunc.is-0 c.in-Trunc-Trunc.is-1 (λ e. takes_trunc (says.0 e), λ h. says.1 (of_trunc c.args.was.now c.args.now.now h))
+pub kind_is_taken-first_are_taken-taken-requires : goal.kind_is_taken-first_are_taken-taken-requires
+kind_is_taken-first_are_taken-taken-requires t c =
+    let parts = c.requires.old ∙ ap (λ n. Some n) c.in-Trunc-Trunc.is-0 in
+    let others = c.requires.new.1 ∙ ap (λ n. Some n) c.in-Trunc-Trunc.is-1 in
+    (omega (arith, c.decreases), (c.requires.was, (c.requires.now, (c.requires.room, (inr parts, ((c.requires.new.0, inr others), (omega (arith, c.len-in-Trunc-Trunc-2.ensures.len), omega (arith, c.len-in-Trunc-Trunc-2.ensures.len, c.len.ensures.len, c.len-in-Trunc-Trunc.ensures.len, c.if-len.false))))))))
+
+pub kind_is_taken-returns-then-len-clause-takes : goal.kind_is_taken-returns-then-len-clause-takes
+kind_is_taken-returns-then-len-clause-takes t c j =
+    along_nodes c.args.was.now c.args.now.now c.args.i j false c.in-Trunc-Trunc.is-0 c.in-Trunc-Trunc.is-1 (
+      λ e. absurd (false≢true e),
+      λ h. absurd (lead_too_long c.args.was.now c.args.now.now c.in-Trunc-Trunc.parts c.in-Trunc-Trunc.others c.args.pairs.now.items (omega (arith, c.len.ensures.len, c.len-in-Trunc-Trunc.ensures.len, c.if-len.true)) (of_trunc c.args.was.now c.args.now.now h)),
+    )
+
+pub kind_is_taken-returns-else-len-clause-takes : goal.kind_is_taken-returns-else-len-clause-takes
+kind_is_taken-returns-else-len-clause-takes t c j =
+    let says =
+    lead_decided c.args.was.now c.args.now.now c.in-Trunc-Trunc.parts c.in-Trunc-Trunc.others c.args.pairs.now.items c.len-in-Trunc-Trunc-2.result c.first_are_taken-taken.result c.len-in-Trunc-Trunc-2.ensures.len
+    (omega (arith, c.len.ensures.len, c.len-in-Trunc-Trunc.ensures.len, c.if-len.false)) c.first_are_taken-taken.ensures.takes in
+    along_nodes c.args.was.now c.args.now.now c.args.i j c.first_are_taken-taken.result c.in-Trunc-Trunc.is-0 c.in-Trunc-Trunc.is-1 (λ e. takes_trunc (says.0 e), λ h. says.1 (of_trunc c.args.was.now c.args.now.now h))
 
 pub kind_is_taken-returns-in-Many-Many-clause-takes : goal.kind_is_taken-returns-in-Many-Many-clause-takes
 kind_is_taken-returns-in-Many-Many-clause-takes t c j =

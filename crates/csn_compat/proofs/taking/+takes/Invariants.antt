@@ -18,9 +18,6 @@ decreases-some_takes l = 40000 * (length l.was.now.nodes - l.i) + 2 * (length l.
 abbrev pub decreases-sequence_is_taken : goal.decreases-sequence_is_taken
 decreases-sequence_is_taken l = 40000 * (length l.was.now.nodes - l.i) + 1
 
-abbrev pub decreases-truncation_is_taken : goal.decreases-truncation_is_taken
-decreases-truncation_is_taken l = 40000 * (length l.was.now.nodes - l.i) + 1
-
 abbrev pub decreases-first_are_taken : goal.decreases-first_are_taken
 decreases-first_are_taken l = 40000 * (length l.was.now.nodes - l.i)
 
