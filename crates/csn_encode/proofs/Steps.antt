@@ -103,6 +103,9 @@ module _ (d : DescV) where
         is_formed = formed_inside s.is_formed;
       }
 
+  pub some_in_window : {i round : ℕ} {draft : Draft} → ((v : Values) × StandsAtPart d i round v draft) → (v : Values) × Stands d i (round + 1) v draft
+  some_in_window (v, s) = (v, stands_in_window s)
+
   -- ---- below a step
 
   pub adds_below : {i : ℕ} {v : Values} {t : TreeV} {old stepped written new : Draft} (step : ℕ) → stepped.bits ≡ old.bits → stepped.numbers.items ≡ old.numbers.items → stepped.path ≡ old.path ++ step ∷ []

@@ -1,7 +1,7 @@
 use Rattle.std.proofs.Common.{◌*◌, inl, inr, take, refl, sym, ◌∙◌, ap, arith, Some}
 use Rattle.csn_desc.specs.declared.node.Node.TheVariants.{Seq, Choice, Times, Many, Trunc, Window, Named}
 use Rattle.csn_desc.specs.TreeV.{row, alt, named, trees_of}
-use Rattle.csn_encode.proofs.Steps.{node_adds, field_keeps, times_keeps, window_keeps, stands_at_part, stands_at_parts, alternative_stands, part_within, part_behind, part_few, part_room, stands_in_window, seq_adds, trunc_adds, choice_adds, named_adds, times_adds, many_adds, window_adds}
+use Rattle.csn_encode.proofs.Steps.{node_adds, field_keeps, times_keeps, window_keeps, stands_at_part, stands_at_parts, alternative_stands, part_within, part_behind, part_few, part_room, stands_in_window, some_in_window, seq_adds, trunc_adds, choice_adds, named_adds, times_adds, many_adds, window_adds}
 use Rattle.csn_encode.proofs.Texts.{on_some, row_begins, alternative_begins, label_begins, parts_along, part_next, part_more, parts_end, turns_along, turn_next, turn_more, turns_end}
 use Rattle.csn_encode.proofs.draft.Draft.+along.Goals as goal
 
@@ -130,20 +130,16 @@ window_text-returns g t c =
     let h = c.in_ok-rest.ensures in (h.0, h.1, λ v unit n count s counted all. window_adds c.args.ground.plan.now n c.args.wanted counted all (let same = c.if-len-from.false in omega (arith, same, c.len.ensures.count, c.len-from.ensures.count)) (h.2 v (stands_in_window c.args.ground.plan.now s)))
 
 pub times_text-turns_text-requires : goal.times_text-turns_text-requires
-times_text-turns_text-requires g t c κs within =
-    (omega (arith, c.decreases), (within, (c.requires.0, c.requires.1)))
+times_text-turns_text-requires g t c κs within = (omega (arith, c.decreases), (within, c.requires))
 
 pub many_text-turns_text-requires : goal.many_text-turns_text-requires
-many_text-turns_text-requires g t c κs within =
-    (omega (arith, c.decreases), (within, (c.requires.0, c.requires.1)))
+many_text-turns_text-requires g t c κs within = (omega (arith, c.decreases), (within, c.requires))
 
 pub window_text-write_text-requires : goal.window_text-write_text-requires
-window_text-write_text-requires g t c κs within =
-    (omega (arith, c.decreases, c.requires.1.ready.few), (within, (c.requires.0, stands_in_window c.args.ground.plan.now c.requires.1)))
+window_text-write_text-requires g t c κs within = (omega (arith, c.decreases, c.requires.1.ready.few), (within, some_in_window c.args.ground.plan.now c.requires))
 
 pub named_text-write_text-requires : goal.named_text-write_text-requires
-named_text-write_text-requires g t c κs within =
-    (omega (arith, c.decreases, c.requires.1.ready.few), (within, (c.requires.0, stands_in_window c.args.ground.plan.now c.requires.1)))
+named_text-write_text-requires g t c κs within = (omega (arith, c.decreases, c.requires.1.ready.few), (within, some_in_window c.args.ground.plan.now c.requires))
 
 pub choice_text-overflow_add-round : goal.choice_text-overflow_add-round
 choice_text-overflow_add-round g t c = omega (arith, c.requires.1.ready.few)
@@ -161,12 +157,10 @@ pub turns_text-overflow_add-round : goal.turns_text-overflow_add-round
 turns_text-overflow_add-round g t c = omega (arith, c.requires.1.ready.few)
 
 pub sequence_text-parts_text-requires : goal.sequence_text-parts_text-requires
-sequence_text-parts_text-requires g t c κs within =
-    (omega (arith, c.decreases), (within, (c.requires.0, c.requires.1)))
+sequence_text-parts_text-requires g t c κs within = (omega (arith, c.decreases), (within, c.requires))
 
 pub truncation_text-parts_text-requires : goal.truncation_text-parts_text-requires
-truncation_text-parts_text-requires g t c κs within =
-    (omega (arith, c.decreases), (within, (c.requires.0, c.requires.1)))
+truncation_text-parts_text-requires g t c κs within = (omega (arith, c.decreases), (within, c.requires))
 
 pub parts_text-loop-part-init : goal.parts_text-loop-part-init
 parts_text-loop-part-init g t c =

@@ -3,7 +3,7 @@ use Rattle.csn_desc.specs.declared.node.Node.TheVariants.{Seq, Choice, Times, Ma
 use Rattle.csn_desc.specs.TreeV.{alt, named}
 use Rattle.std.proofs.lemmas.Result.{err_from_is_err_and}
 use Rattle.csn_encode.proofs.NodeKinds.{on_ok, if_misfit, passed, alike, differ, no_row, no_choice, no_named, kind_missed, viewed}
-use Rattle.csn_encode.proofs.Steps.{node_adds, node_misses, field_keeps, times_keeps, window_keeps, stands_at_part, stands_at_parts, alternative_stands, part_within, part_behind, part_few, part_room, stands_inside, stands_in_window, adds_below, misses_below, parts_begin, part_stands, part_misses, parts_more, parts_all, turns_begin, turn_misses, turns_more, turns_all, seq_adds, seq_misses, seq_wrong, trunc_adds, trunc_misses, trunc_wrong, trunc_idle, choice_adds, choice_misses, choice_none, named_adds, named_misses, named_wrong, times_adds, times_misses, times_wrong, many_adds, many_misses, window_adds, window_misses, window_wrong}
+use Rattle.csn_encode.proofs.Steps.{node_adds, node_misses, field_keeps, times_keeps, window_keeps, stands_at_part, stands_at_parts, alternative_stands, part_within, part_behind, part_few, part_room, stands_inside, stands_in_window, some_in_window, adds_below, misses_below, parts_begin, part_stands, part_misses, parts_more, parts_all, turns_begin, turn_misses, turns_more, turns_all, seq_adds, seq_misses, seq_wrong, trunc_adds, trunc_misses, trunc_wrong, trunc_idle, choice_adds, choice_misses, choice_none, named_adds, named_misses, named_wrong, times_adds, times_misses, times_wrong, many_adds, many_misses, window_adds, window_misses, window_wrong}
 use Rattle.csn_encode.proofs.draft.Draft.+write.Goals.{parts-then-len-from, parts-else-len-from}
 use Rattle.csn_encode.proofs.draft.Draft.+write.Goals as goal
 
@@ -324,16 +324,13 @@ window-returns-clause-added g t c =
     λ v unit n count s counted all. window_adds c.args.plan.now n c.args.wanted counted all (let same = c.if-found-wanted.false in omega (arith, same, c.len.ensures.count, c.len-from.ensures.count)) (c.in_ok-write.ensures.added v (stands_in_window c.args.plan.now s))
 
 pub times-turns-requires : goal.times-turns-requires
-times-turns-requires g t c κs within =
-    (omega (arith, c.decreases), (within, (c.requires.0, c.requires.1)))
+times-turns-requires g t c κs within = (omega (arith, c.decreases), (within, c.requires))
 
 pub many-turns-requires : goal.many-turns-requires
-many-turns-requires g t c κs within =
-    (omega (arith, c.decreases), (within, (c.requires.0, c.requires.1)))
+many-turns-requires g t c κs within = (omega (arith, c.decreases), (within, c.requires))
 
 pub named-below-requires : goal.named-below-requires
-named-below-requires g t c κs within =
-    (omega (arith, c.decreases), (within, (c.requires.0, c.requires.1)))
+named-below-requires g t c κs within = (omega (arith, c.decreases), (within, c.requires))
 
 pub turns-below-requires : goal.turns-below-requires
 turns-below-requires g t c κs within =
@@ -344,8 +341,7 @@ below-write-requires g t c κs within =
     (omega (arith, c.decreases, c.requires.1.ready.few), (within, (c.requires.0, stands_inside c.args.plan.now c.args.at c.requires.1 refl refl c.in_ok-push.ensures.ok)))
 
 pub window-write-requires : goal.window-write-requires
-window-write-requires g t c κs within =
-    (omega (arith, c.decreases, c.requires.1.ready.few), (within, (c.requires.0, stands_in_window c.args.plan.now c.requires.1)))
+window-write-requires g t c κs within = (omega (arith, c.decreases, c.requires.1.ready.few), (within, some_in_window c.args.plan.now c.requires))
 
 pub below-overflow_add-round : goal.below-overflow_add-round
 below-overflow_add-round g t c = omega (arith, c.requires.1.ready.few)
