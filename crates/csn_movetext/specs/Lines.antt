@@ -1,6 +1,6 @@
 -- What the writer of a line's text stands for, while the line comes, and what the line comes to. (This project's own
 -- choice.)
-use Rattle.std.specs.Prelude.{◌≡◌, ℕ, ◌*◌, ◌≤◌, List, length, Some}
+use Rattle.std.specs.Prelude.{◌≡◌, ℕ, ◌*◌, ◌≤◌, List, [], ◌++◌, length, Some, Result, IfOk, OnErr}
 use Rattle.csn_bits.specs.Octets.{bits_of_octets}
 use Rattle.csn_bits.specs.Line.{BlockLine, fault_of}
 use Rattle.csn_bits.specs.Feed.{Fed, octets_given, seen_of}
@@ -65,3 +65,12 @@ EndsText form d line (Text bits) old new =
 EndsText form d line (Refused place bits) old new =
     (b : List ℕ) × BlockLine line b × (bits ≡ length b) × IsNoString d b place × (new ≡ old)
 EndsText form d line (Fault why) old new = (fault_of line ≡ Some why) × (new ≡ old)
+
+-- the line ends and the next begins, with the bytes before it and those then
+pub record EndsLine {E : Type 0} (old new : LineV) (before after : List ℕ) (result : Result LineEnd E) : Type 0 where
+  pub ends : IfOk result (λ end. (line : List ℕ) → ReadsLine old line → EndsText old.form old.desc line end before after)
+  pub anew : ReadsLine new []
+  pub seen : new.seen ≡ 0
+  pub form : new.form ≡ old.form
+  pub desc : new.desc ≡ old.desc
+  pub err : OnErr result ((tail : List ℕ) × (after ≡ before ++ tail))

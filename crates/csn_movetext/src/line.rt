@@ -2,7 +2,7 @@ ghost use Rattle.std.specs.Prelude.{◌≡◌, ℕ, ◌+◌, ◌*◌, ◌<◌, �
 ghost use Rattle.csn_bits.specs.declared.feed.TheConstants.{MOST_LINE};
 ghost use Rattle.csn_bits.specs.Feed.{Fed, octets_given, seen_of};
 ghost use Rattle.csn_movetext.specs.Openings.{HasOpenings};
-ghost use Rattle.csn_movetext.specs.Lines.{ReadsLine, EndsText};
+ghost use Rattle.csn_movetext.specs.Lines.{ReadsLine, EndsText, EndsLine};
 
 use crate::octet_text::OctetText;
 use crate::openings::Openings;
@@ -155,13 +155,7 @@ impl<'a> LineText<'a> {
         requires name { blank.name ≡ L.name }
         requires parts { blank.parts ≡ L.parts }
         requires some { 0 < blank.parts }
-        ensures ends { IfOk result (λ end. (line : List ℕ) → ReadsLine self.old line
-            → EndsText self.old.form self.old.desc line end out.old.items out.new.items) }
-        ensures anew { ReadsLine self.new [] }
-        ensures seen { self.new.seen ≡ 0 }
-        ensures form { self.new.form ≡ self.old.form }
-        ensures desc { self.new.desc ≡ self.old.desc }
-        ensures err { OnErr result ((tail : List ℕ) × (out.new.items ≡ out.old.items ++ tail)) }
+        ensures { EndsLine self.old self.new out.old.items out.new.items result }
     {
         let mut steps = Steps::<L>::new(blank);
         self.end_along(out, &mut steps)
@@ -174,13 +168,7 @@ impl<'a> LineText<'a> {
         out: &mut Vec<u8>,
         steps: &mut Steps<L>,
     ) -> Result<LineEnd, AllocError>
-        ensures ends { IfOk result (λ end. (line : List ℕ) → ReadsLine self.old line
-            → EndsText self.old.form self.old.desc line end out.old.items out.new.items) }
-        ensures anew { ReadsLine self.new [] }
-        ensures seen { self.new.seen ≡ 0 }
-        ensures form { self.new.form ≡ self.old.form }
-        ensures desc { self.new.desc ≡ self.old.desc }
-        ensures err { OnErr result ((tail : List ℕ) × (out.new.items ≡ out.old.items ++ tail)) }
+        ensures { EndsLine self.old self.new out.old.items out.new.items result }
     {
         let feed = mem::replace(&mut self.feed, HexFeed::new());
         match feed.finish() {
