@@ -20,6 +20,13 @@ use std::sync::ledger::Ledger;
 /// The most that all templates of a plan have together.
 const MOST_TOGETHER: usize = 262_144;
 
+/// The nodes of a plan, and the templates of those that have one.
+#[derive(Clone, Copy)]
+struct Made<'a> {
+    plan: &'a Plan,
+    templates: &'a [Option<Template>],
+}
+
 /// The templates of the nodes of a plan, where they have one, as texts.
 pub(crate) fn templates<L: Ledger>(
     alloc: Global,
@@ -91,7 +98,8 @@ fn template_of<L: Ledger>(
     let mut template = Template::new(alloc);
     template.push_text(openings.get(i))?;
     let node = plan.node(i, steps);
-    if push_node(&mut template, plan, node, layout.width, templates)? {
+    let made = Made { plan, templates };
+    if push_node(&mut template, made, node, layout.width)? {
         Ok(Some(template))
     } else {
         Ok(None)
@@ -99,23 +107,17 @@ fn template_of<L: Ledger>(
 }
 
 /// Adds what a node of so many bits writes behind its opening. Answers whether it could be.
-fn push_node(
-    template: &mut Template,
-    plan: &Plan,
-    node: &Node,
-    width: u32,
-    templates: &[Option<Template>],
-) -> Result<bool, NoMemory>
+fn push_node(template: &mut Template, made: Made, node: &Node, width: u32) -> Result<bool, NoMemory>
     requires few { width ≤ 56 }
-    requires parts { (j part : ℕ) → slice_get (parts_of node.now) j ≡ Some part → part < length plan.now.nodes }
-    requires many { length templates.now ≡ length plan.now.nodes }
-    ensures { IfOk result (λ done. IsTrue done → WritesNode plan.now node.now width templates.now template.old template.new) }
+    requires parts { (j part : ℕ) → slice_get (parts_of node.now) j ≡ Some part → part < length made.plan.now.nodes }
+    requires many { length made.templates.now ≡ length made.plan.now.nodes }
+    ensures { IfOk result (λ done. IsTrue done → WritesNode made.entry.plan.now node.now width made.entry.templates.now template.old template.new) }
 {
     match node {
         Node::Lits(_) | Node::Null => Ok(true),
         Node::Field { .. } => push_leaf(template, node, width),
-        Node::Named { part, .. } => push_part(template, *part, 0, templates),
-        Node::Seq(parts) => push_parts(template, plan, parts, width, templates),
+        Node::Named { part, .. } => push_part(template, *part, 0, made.templates),
+        Node::Seq(parts) => push_parts(template, made, parts, width),
         _ => Ok(false),
     }
 }
@@ -137,25 +139,24 @@ fn push_leaf(template: &mut Template, node: &Node, width: u32) -> Result<bool, N
 /// Adds what the parts of a sequence of so many bits write, and what closes it.
 fn push_parts(
     template: &mut Template,
-    plan: &Plan,
+    made: Made,
     parts: &Parts,
     width: u32,
-    templates: &[Option<Template>],
 ) -> Result<bool, NoMemory>
     requires few { width ≤ 56 }
-    requires parts { (j part : ℕ) → slice_get parts.now j ≡ Some part → part < length plan.now.nodes }
-    requires many { length templates.now ≡ length plan.now.nodes }
-    ensures { IfOk result (λ done. IsTrue done → WritesParts plan.now parts.now width templates.now template.old template.new) }
+    requires parts { (j part : ℕ) → slice_get parts.now j ≡ Some part → part < length made.plan.now.nodes }
+    requires many { length made.templates.now ≡ length made.plan.now.nodes }
+    ensures { IfOk result (λ done. IsTrue done → WritesParts made.entry.plan.now parts.now width made.entry.templates.now template.old template.new) }
 {
     let mut behind = width;
     for k in 0..parts.len() {
         let part = parts.get(k);
-        match bits_behind(plan, part, behind) {
+        match bits_behind(made.plan, part, behind) {
             Some(left) => behind = left,
             None => return Ok(false),
         }
         template.push_text(gap_before(k))?;
-        if !push_part(template, part, behind, templates)? {
+        if !push_part(template, part, behind, made.templates)? {
             return Ok(false);
         }
     }
