@@ -8,7 +8,7 @@ use Rattle.csn_desc.specs.declared.node.Node.{Node}
 use Rattle.csn_desc.specs.declared.node.Node.TheVariants.{Lits, Spare, Pad, Null, Field, Rest, Seq, Choice, Times, Many, Trunc, Window, Named}
 use Rattle.csn_desc.specs.Nodes.{DescV, parts_of}
 use Rattle.csn_desc.specs.Values.{Values, value_of, count_of}
-use Rattle.csn_desc.specs.Formed.{width_of, with_seen, Spans, PartsSpan, span_next, PartsFormed, FitWidths, IsDescription}
+use Rattle.csn_desc.specs.Formed.{width_of, with_seen, Formed, Spans, PartsSpan, span_next, PartsFormed, FitWidths, IsDescription}
 use Rattle.std.proofs.lemmas.Bool.Decides.{leb_tells}
 use Rattle.std.proofs.lemmas.Option.{slice_get_within}
 use Rattle.csn_desc.specs.Laws.{NodesAreWellFormed}
@@ -19,7 +19,7 @@ use Rattle.csn_desc.proofs.ValuesKept.{no_values_fit, fits_kept}
 use Rattle.csn_desc.proofs.Numbering.{span_grows, parts_span_grow, part_from, span_inside, span_parts}
 use Rattle.csn_look.specs.Nullable.{Nullable, nullable_at, nullable_null, nullable_rest, nullable_many, nullable_trunc, nullable_field, nullable_no_times, nullable_window, nullable_seq, nullable_choice, nullable_named, AllNullable, all_end, all_next}
 use Rattle.csn_look.specs.Ends.{InEnds, ends_at, ends_lits, ends_spare, ends_null, ends_pad, ends_rest, ends_field, ends_window, ends_seq, ends_choice, ends_times, ends_counted, ends_many, ends_trunc, ends_named, PartsEnd, parts_end, parts_next, TimesEnd, ManyEnd, many_end, LeadEnd, lead_end, lead_next}
-use Rattle.csn_look.specs.Reached.{Turn, turn_fixed, turn_counted}
+use Rattle.csn_look.specs.Reached.{Reached, Turn, turn_fixed, turn_counted}
 use Rattle.csn_look.proofs.Meaning.ReachFacts.{parts_end_more, many_end_more, turn_first, turn_next, seq_reached, lead_reached, choice_reached, window_reached, named_reached, many_reached, turn_reached}
 use Rattle.csn_look.proofs.Meaning.FollowFacts.{cuts}
 use Rattle.csn_look.proofs.Meaning.ShapeFacts.{CountIs, NodeIs, shaped, may_count}
@@ -41,6 +41,12 @@ module _ (d : DescV) where
     pub good : IsBits done
     pub ready : IsReady d i (length done) (length outer) v
     pub inner : Inside d fresh outer i (length done) v
+
+  -- where it is reached and may be, inside these
+  begins : {fresh : Option ℕ} {i : ℕ} {v : Values} {outer : List Left} {done : List ℕ}
+      → IsBits done → Reached d i (length done % 8) → FitWidths d v → Formed d.nodes (fields_of v) (length outer) i → Inside d fresh outer i (length done) v
+      → Begun fresh i v outer done
+  begins good reached widths well inner = record { good = good; ready = record { reached = reached; widths = widths; formed = well }; inner = inner }
 
   pub begun_of : {next : ℕ} {fresh : Option ℕ} {i : ℕ} {v : Values} {outer : List Left} {done : List ℕ} → IsStack d next fresh (all_left i v ∷ outer) done → Begun fresh i v outer done
   begun_of {fresh = fresh} {i} {v} {outer} {done} (stack_node k from w good ready (of_all same place just) inner) =
@@ -192,36 +198,24 @@ module _ (d : DescV) (most : ℕ) (is : IsDescription d) (certified : Certified 
 
   pub label_begun : {fresh : Option ℕ} {i part : ℕ} {label : List ℕ} {v : Values} {outer : List Left} {done : List ℕ} → slice_get d.nodes i ≡ Some (Named label part) → Begun d fresh i v outer done → Begun d fresh part v (none_left ∷ outer) done
   label_begun {i = i} at b =
-      record {
-        good = b.good;
-        ready = record { reached = named_reached d at b.ready.reached; widths = b.ready.widths; formed = first_formed d.nodes (parts_formed d.nodes at b.ready.formed) };
-        inner = inside_label i at b.ready b.inner;
-      }
+      begins d b.good (named_reached d at b.ready.reached) b.ready.widths (first_formed d.nodes (parts_formed d.nodes at b.ready.formed))
+      (inside_label i at b.ready b.inner)
 
   pub window_begun : {fresh : Option ℕ} {i part unit n : ℕ} {count : Count} {v : Values} {outer : List Left} {done : List ℕ} → slice_get d.nodes i ≡ Some (Window unit count part) → count_of v count ≡ Some n → Begun d fresh i v outer done → Begun d fresh part v (window_left (length done + unit * n) ∷ outer) done
   window_begun {i = i} {n = n} at counts b =
-      record {
-        good = b.good;
-        ready = record { reached = window_reached d at b.ready.reached; widths = b.ready.widths; formed = first_formed d.nodes (parts_formed d.nodes at b.ready.formed) };
-        inner = inside_window i n at counts refl b.ready b.inner;
-      }
+      begins d b.good (window_reached d at b.ready.reached) b.ready.widths (first_formed d.nodes (parts_formed d.nodes at b.ready.formed))
+      (inside_window i n at counts refl b.ready b.inner)
 
   pub alternative_begun : {fresh : Option ℕ} {i part : ℕ} {parts : List ℕ} {v : Values} {outer : List Left} {done : List ℕ} (j : ℕ) → slice_get d.nodes i ≡ Some (Choice parts) → slice_get parts j ≡ Some part → Begun d fresh i v outer done → Begun d fresh part v (none_left ∷ outer) done
   alternative_begun {i = i} {part = part} {parts = parts} j at here b =
-      record {
-        good = b.good;
-        ready = record { reached = choice_reached d at (cuts parts j part here) b.ready.reached; widths = b.ready.widths; formed = choice_formed d.nodes j _ (parts_formed d.nodes at b.ready.formed) here };
-        inner = inside_choice i j parts at here b.ready b.inner;
-      }
+      begins d b.good (choice_reached d at (cuts parts j part here) b.ready.reached) b.ready.widths (choice_formed d.nodes j _ (parts_formed d.nodes at b.ready.formed) here)
+      (inside_choice i j parts at here b.ready b.inner)
 
   pub sequence_begun : {fresh : Option ℕ} {i j : ℕ} {ps : List ℕ} {v : Values} {outer : List Left} {done : List ℕ} → slice_get d.nodes i ≡ Some (Seq (j ∷ ps)) → Begun d fresh i v outer done → Begun d fresh j v (parts_left j (length done) ps v ∷ outer) done
   sequence_begun {i = i} {j = j} {ps = ps} {v = v} {done = done} at b =
       let parts = parts_formed d.nodes at b.ready.formed in
-      record {
-        good = b.good;
-        ready = record { reached = seq_reached d ps at refl b.ready.reached (parts_end refl); widths = b.ready.widths; formed = first_formed d.nodes parts };
-        inner = inside_parts i (length done) v (j ∷ ps) [] at refl (parts_end refl) (omega arith) (λ e. all_end) b.ready.widths (rest_formed d.nodes parts) b.ready b.inner;
-      }
+      begins d b.good (seq_reached d ps at refl b.ready.reached (parts_end refl)) b.ready.widths (first_formed d.nodes parts)
+      (inside_parts i (length done) v (j ∷ ps) [] at refl (parts_end refl) (omega arith) (λ e. all_end) b.ready.widths (rest_formed d.nodes parts) b.ready b.inner)
 
   all_more : {before : List ℕ} {i : ℕ} → AllNullable d before → Nullable d i → AllNullable d (before ++ i ∷ [])
   all_more all_end h = all_next h all_end
@@ -252,28 +246,19 @@ module _ (d : DescV) (most : ℕ) (is : IsDescription d) (certified : Certified 
   pub next_begun : {fresh : Option ℕ} {i part at_part j : ℕ} {ps : List ℕ} {w v0 : Values} {from : ℕ} {outer : List Left} {done : List ℕ} (parts before : List ℕ) → slice_get d.nodes i ≡ Some (Seq parts) → parts ≡ before ++ part ∷ (j ∷ ps) → PartsEnd d before (from % 8) (at_part % 8) → from ≤ at_part → (from ≡ at_part → AllNullable d before) → FitWidths d w → PartsFormed d.nodes true (with_seen d.nodes true part (fields_of w)) (suc (length outer)) (j ∷ ps) → IsRead d part at_part done → IsBits done → IsReady d i from (length outer) v0 → Inside d fresh outer i from v0 → Begun d fresh j (behind d part at_part w done) (parts_left j (length done) ps (behind d part at_part w done) ∷ outer) done
   next_begun {fresh} {i} {part} {at_part} {j} {ps} {w} {v0} {from} {outer} {done} parts before at split so_far order none fits well read good ready inner =
       let on = parts_on before split so_far fits well read in
-      record {
-        good = good;
-        ready = record { reached = seq_reached d ps at on.cut ready.reached on.ended; widths = on.fits; formed = first_formed d.nodes on.formed };
-        inner = inside_parts i from v0 parts (before ++ part ∷ []) at on.cut on.ended (omega (arith, order, read.order)) (λ e. none_more none read order e) on.fits (rest_formed d.nodes on.formed) ready inner;
-      }
+      begins d good (seq_reached d ps at on.cut ready.reached on.ended) on.fits (first_formed d.nodes on.formed)
+      (inside_parts i from v0 parts (before ++ part ∷ []) at on.cut on.ended (omega (arith, order, read.order)) (λ e. none_more none read order e) on.fits (rest_formed d.nodes on.formed) ready inner)
 
   -- a turn; it goes back where one was there before it
   pub turn_begun : {was : Option ℕ} (fresh : Option ℕ) {i part n from : ℕ} {count : Count} {v : Values} {outer : List Left} {done : List ℕ} → IsFresh d was (length done) fresh → slice_get d.nodes i ≡ Some (Times count part) → Turn d count part (suc n) (from % 8) (length done % 8) → from ≤ length done → (from ≡ length done → count_of v count ≡ Some (suc n)) → IsBits done → IsReady d i from (length outer) v → Inside d was outer i from v → Begun d fresh part v (turns_left n part v ∷ outer) done
   turn_begun {was} fresh {i} {from = from} turns at turn order none good ready inner =
-      record {
-        good = good;
-        ready = record { reached = turn_reached d at ready.reached refl turn; widths = ready.widths; formed = first_formed d.nodes (parts_formed d.nodes at ready.formed) };
-        inner = inside_turns i from at turn order none ready was turns inner;
-      }
+      begins d good (turn_reached d at ready.reached refl turn) ready.widths (first_formed d.nodes (parts_formed d.nodes at ready.formed))
+      (inside_turns i from at turn order none ready was turns inner)
 
   pub free_begun : {was : Option ℕ} (fresh : Option ℕ) {i part from : ℕ} {v : Values} {outer : List Left} {done : List ℕ} → IsFresh d was (length done) fresh → slice_get d.nodes i ≡ Some (Many part) → ManyEnd d part (from % 8) (length done % 8) → from ≤ length done → IsBits done → IsReady d i from (length outer) v → Inside d was outer i from v → Begun d fresh part v (free_left part v ∷ outer) done
   free_begun {was} fresh {i} {from = from} turns at so_far order good ready inner =
-      record {
-        good = good;
-        ready = record { reached = many_reached d at ready.reached so_far; widths = ready.widths; formed = first_formed d.nodes (parts_formed d.nodes at ready.formed) };
-        inner = inside_free i from at so_far order ready was turns inner;
-      }
+      begins d good (many_reached d at ready.reached so_far) ready.widths (first_formed d.nodes (parts_formed d.nodes at ready.formed))
+      (inside_free i from at so_far order ready was turns inner)
 
   -- where a turn went back and no bit was taken since, none goes back
   pub no_second_jump : {outer : List Left} {i from next part : ℕ} {v : Values} (done : List ℕ) → Inside d (Some (length done)) outer i from v → (next ≤ part) ⊎ (from < length done) → next ≤ part
@@ -284,20 +269,14 @@ module _ (d : DescV) (most : ℕ) (is : IsDescription d) (certified : Certified 
   pub component_begun : {fresh : Option ℕ} {i j : ℕ} {ps : List ℕ} {v : Values} {outer : List Left} {done : List ℕ} → slice_get d.nodes i ≡ Some (Trunc (j ∷ ps)) → Begun d fresh i v outer done → Begun d fresh j v (lead_left j (length done) ps v ∷ outer) done
   component_begun {i = i} {j = j} {ps = ps} {v = v} {done = done} at b =
       let parts = parts_formed d.nodes at b.ready.formed in
-      record {
-        good = b.good;
-        ready = record { reached = lead_reached d ps at refl b.ready.reached (parts_end refl); widths = b.ready.widths; formed = first_formed d.nodes parts };
-        inner = inside_lead i (length done) v (j ∷ ps) [] at refl (parts_end refl) (omega arith) b.ready.widths (rest_formed d.nodes parts) b.ready b.inner;
-      }
+      begins d b.good (lead_reached d ps at refl b.ready.reached (parts_end refl)) b.ready.widths (first_formed d.nodes parts)
+      (inside_lead i (length done) v (j ∷ ps) [] at refl (parts_end refl) (omega arith) b.ready.widths (rest_formed d.nodes parts) b.ready b.inner)
 
   pub next_component_begun : {fresh : Option ℕ} {i part at_part j : ℕ} {ps : List ℕ} {w v0 : Values} {from : ℕ} {outer : List Left} {done : List ℕ} (parts before : List ℕ) → slice_get d.nodes i ≡ Some (Trunc parts) → parts ≡ before ++ part ∷ (j ∷ ps) → PartsEnd d before (from % 8) (at_part % 8) → from ≤ at_part → FitWidths d w → PartsFormed d.nodes true (with_seen d.nodes true part (fields_of w)) (suc (length outer)) (j ∷ ps) → IsRead d part at_part done → IsBits done → IsReady d i from (length outer) v0 → Inside d fresh outer i from v0 → Begun d fresh j (behind d part at_part w done) (lead_left j (length done) ps (behind d part at_part w done) ∷ outer) done
   next_component_begun {fresh} {i} {part} {at_part} {j} {ps} {w} {v0} {from} {outer} {done} parts before at split so_far order fits well read good ready inner =
       let on = parts_on before split so_far fits well read in
-      record {
-        good = good;
-        ready = record { reached = lead_reached d ps at on.cut ready.reached on.ended; widths = on.fits; formed = first_formed d.nodes on.formed };
-        inner = inside_lead i from v0 parts (before ++ part ∷ []) at on.cut on.ended (omega (arith, order, read.order)) on.fits (rest_formed d.nodes on.formed) ready inner;
-      }
+      begins d good (lead_reached d ps at on.cut ready.reached on.ended) on.fits (first_formed d.nodes on.formed)
+      (inside_lead i from v0 parts (before ++ part ∷ []) at on.cut on.ended (omega (arith, order, read.order)) on.fits (rest_formed d.nodes on.formed) ready inner)
 
   -- ---- a node is left
 
