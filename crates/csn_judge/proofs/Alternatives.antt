@@ -1,7 +1,6 @@
 -- An alternative of a choice in the place of the choice.
-use Rattle.std.proofs.Common.{◌≡◌, ℕ, List, [], ◌∷◌, ◌++◌, length, refl, sym, ◌∙◌, ap, subst, append-nil, Some, slice_get}
+use Rattle.std.proofs.Common.{◌≡◌, ℕ, List, ◌∷◌, ◌++◌, length, refl, sym, ◌∙◌, ap, subst, append-nil, Some, slice_get}
 use Rattle.csn_desc.specs.declared.moves.Move.{Move}
-use Rattle.csn_desc.specs.declared.moves.Move.TheVariants.{Leave}
 use Rattle.csn_desc.specs.declared.node.Node.TheVariants.{Choice}
 use Rattle.csn_desc.specs.TreeV.{TreeV, alt}
 use Rattle.csn_desc.specs.Nodes.{DescV}
@@ -10,7 +9,7 @@ use Rattle.csn_desc.specs.Means.{NMeans, NodeMeans, means_choice}
 use Rattle.csn_desc.specs.Walks.{Walk, NodeWalk, walk_choice}
 use Rattle.csn_judge.specs.Left.{Left, all_left, choice_left, none_left, Completes, completes_all, completes_choice, completes_none, begins_whole, begins_choice}
 use Rattle.csn_judge.specs.Remains.{Goes, goes_next, goes_here}
-use Rattle.csn_judge.proofs.StepFacts.{Both, BothGone, gone_here, gone_on, begins_inner, begins_left}
+use Rattle.csn_judge.proofs.StepFacts.{Both, takes_all, BothGone, gone_here, gone_on, begins_inner, begins_left}
 use Rattle.csn_judge.proofs.Parts.{Moving, followed_all}
 
 module _ (d : DescV) {part : ℕ} (j : ℕ) {parts : List ℕ} (here : slice_get parts j ≡ Some part) {v : Values} {done : List ℕ} where
@@ -28,16 +27,7 @@ module _ (d : DescV) {part : ℕ} (j : ℕ) {parts : List ℕ} (here : slice_get
           let P : ℕ → Type 0 = λ z. NMeans d z (length done) v b x in
           let Q : TreeV → Type 0 = λ z. NMeans d part (length done) v b z in
           let R : ℕ → Type 0 = λ z. Walk d z (length done) y within in
-          record {
-            b1 = b;
-            b2 = [];
-            first = within;
-            others = Leave ∷ [];
-            cut = sym (append-nil b);
-            is = leave;
-            inside = completes_all y (subst Q trees (subst P first g)) (subst R second w);
-            outside = completes_none refl refl;
-          }
+          takes_all d b within leave (completes_all y (subst Q trees (subst P first g)) (subst R second w)) (completes_none refl refl)
 
   -- and the other way round
   pub unchosen : (b : List ℕ) (moves : List Move) → Both d (all_left part v) none_left done b moves → Completes d (choice_left parts v) done b moves

@@ -227,6 +227,11 @@ module _ (d : DescV) where
     pub inside : Completes d inner done b1 first
     pub outside : Completes d left (done ++ b1) b2 others
 
+  -- the inner one by all bits, and the other one is left behind them
+  pub takes_all : {inner left : Left} {done : List ℕ} {moves : List Move} (b : List ℕ) (first : List Move) → moves ≡ first ++ Leave ∷ []
+      → Completes d inner done b first → Completes d left (done ++ b) [] (Leave ∷ []) → Both inner left done b moves
+  takes_all b first is within later = record { b1 = b; b2 = []; first = first; others = Leave ∷ []; cut = sym (append-nil b); is = is; inside = within; outside = later }
+
   -- the bits begin the inner one of two forms, or end it and begin the other one, inside a window that the other
   -- one may be
   pub data BeginsBoth (inner left : Left) (done b : List ℕ) : Type 0 where

@@ -18,7 +18,7 @@ use Rattle.csn_certify.specs.Conflicts.{Certified}
 use Rattle.csn_judge.specs.Left.{Left, all_left, none_left, cut_left, lead_left, behind, Completes, completes_all, completes_none, completes_cut, completes_lead, completes_cut_behind, completes_lead_behind, Begins, begins_whole, begins_all, begins_cut, begins_lead, begins_lead_none}
 use Rattle.csn_judge.specs.Remains.{IsUpTo, Within, Rest, rest_next, Goes, goes_next, goes_here, Steps}
 use Rattle.csn_judge.specs.Inside.{IsReady, Inside}
-use Rattle.csn_judge.proofs.StepFacts.{rest_from, goes_from, Both, BeginsBoth, begins_inner, begins_left, BothGone, gone_here, gone_on, both_gone, both_go, Alike, both_rest, both_goes, rest_both, steps_quietly}
+use Rattle.csn_judge.proofs.StepFacts.{rest_from, goes_from, Both, takes_all, BeginsBoth, begins_inner, begins_left, BothGone, gone_here, gone_on, both_gone, both_go, Alike, both_rest, both_goes, rest_both, steps_quietly}
 use Rattle.csn_judge.proofs.Parts.{Moving, walk_takes, follow_whole, followed_all, ended, later_on, later_off, walk_on, walk_off, part_apart}
 use Rattle.csn_judge.proofs.Standing.{rest_stands, goes_stands, truncation_width}
 use Rattle.csn_judge.proofs.LookAhead.{Against, beyond, before, against_of, within_less}
@@ -48,16 +48,8 @@ module _ (d : DescV) (laws : Moving) where
           let P : TreeV → Type 0 = λ x. NMeans d j (length done) v b x in
           let means = subst P trees h in
           let stays = nothing_more later ws in
-          record {
-            b1 = b;
-            b2 = [];
-            first = first;
-            others = Leave ∷ [];
-            cut = sym (append-nil b);
-            is = told.leave ∙ ap (λ l. l ++ Leave ∷ []) (made ∙ ap (λ l. first ++ l) stays ∙ append-nil first);
-            inside = completes_all u means w;
-            outside = completes_cut_behind (omega (arith, has, length-append done b)) refl refl;
-          }
+          takes_all d b first (told.leave ∙ ap (λ l. l ++ Leave ∷ []) (made ∙ ap (λ l. first ++ l) stays ∙ append-nil first))
+          (completes_all u means w) (completes_cut_behind (omega (arith, has, length-append done b)) refl refl)
         where
           nothing_more : {qs : List ℕ} {o : ℕ} {us : Trees} {rest : List Move} → us ≡ tree.none → LeadWalk d qs o us rest → rest ≡ []
           nothing_more e (walk.lead_end stays) = stays

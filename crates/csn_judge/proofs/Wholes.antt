@@ -13,7 +13,7 @@ use Rattle.csn_desc.specs.Follows.{NodeFollows, TimesFollow, follows_at, follows
 use Rattle.csn_desc.specs.Walks.{bits_of, Walk, NodeWalk, PartsWalk, RepeatsWalk, walk_window, walk_named, repeats_end, repeats_next}
 use Rattle.csn_desc.specs.Walks as walk
 use Rattle.csn_judge.specs.Left.{all_left, parts_left, turns_left, window_left, none_left, Completes, completes_all, completes_parts, completes_turns, completes_window, completes_none, Begins, begins_whole, begins_all, begins_parts, begins_turns, begins_window}
-use Rattle.csn_judge.proofs.StepFacts.{Both, BeginsBoth, begins_inner, begins_left, Splits, Alike}
+use Rattle.csn_judge.proofs.StepFacts.{Both, takes_all, BeginsBoth, begins_inner, begins_left, Splits, Alike}
 use Rattle.csn_judge.proofs.Entering.{opened, closed, follows_node}
 use Rattle.csn_judge.proofs.Parts.{Moving, walk_takes, follow_whole, followed_all, ended, walk_on, walk_off, part_apart}
 
@@ -38,7 +38,7 @@ module _ (d : DescV) (laws : Moving) where
           by {k = k} {inside} (means_named {t = t} h) (walk_named {t = u} w) e =
               let same : t ≡ u = cc in
               let P : TreeV → Type 0 = λ x. NMeans d k (length done) v b x in
-              record { b1 = b; b2 = []; first = inside; others = Leave ∷ []; cut = sym (append-nil b); is = refl; inside = completes_all u (subst P same h) w; outside = completes_none refl refl }
+              takes_all d b inside refl (completes_all u (subst P same h) w) (completes_none refl refl)
 
       back : (b : List ℕ) (rest : List Move) → Both d (all_left part v) none_left done b rest → Completes d (all_left i v) done b ((Enter i ∷ []) ++ rest)
       back b rest both = by both.b1 both.b2 both.first both.others both.cut both.is both.inside both.outside
@@ -81,7 +81,7 @@ module _ (d : DescV) (laws : Moving) where
           by {inside} (means_window {t = t} m count_m size h) (walk_window {t = u} w) e =
               let same : t ≡ u = cc in
               let P : TreeV → Type 0 = λ x. NMeans d part (length done) v b x in
-              record { b1 = b; b2 = []; first = inside; others = Leave ∷ []; cut = sym (append-nil b); is = refl; inside = completes_all u (subst P same h) w; outside = completes_window refl (length-append done b ∙ ap (λ k. length done + k) (size ∙ ap (λ k. unit * k) (wide count_m))) refl }
+              takes_all d b inside refl (completes_all u (subst P same h) w) (completes_window refl (length-append done b ∙ ap (λ k. length done + k) (size ∙ ap (λ k. unit * k) (wide count_m))) refl)
 
       back : (b : List ℕ) (rest : List Move) → Both d (all_left part v) (window_left end) done b rest → Completes d (all_left i v) done b ((Enter i ∷ []) ++ rest)
       back b rest both = by both.b1 both.b2 both.first both.others both.cut both.is both.inside both.outside
