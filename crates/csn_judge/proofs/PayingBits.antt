@@ -94,14 +94,14 @@ pub record Took (old new : Coming) : Type 0 where
   pub place : new.place ≡ old.place + t
 
 module _ (d : DescV) {S : Type 0} (takes : S → Move → Node → S → Type 0) (before after : S) (values : List Number) (pace : Pace) (old new : Coming) (i : ℕ) (frames : List Frame) (node : Node) where
-  pub all_took : {form : Leaf} {stack : List Left} {done : List ℕ} → slice_get d.nodes i ≡ Some node → Known d → ReadsLeaf d takes form node old new before after read.All
+  all_took : {form : Leaf} {stack : List Left} {done : List ℕ} → slice_get d.nodes i ≡ Some node → Known d → ReadsLeaf d takes form node old new before after read.All
       → Stands d (leaf_state d takes before after values pace old new i frames node form) stack done → Took old new
   all_took {done = done} at known reads stands =
       let t = leaf_stands d stands.shows in
       let on = reads pace.next (fresh_at pace (length done)) i t.left t.outer done known (at_leaf d takes before after values pace old new i frames node at stands t) in
       record { t = length on.taken; bits = ap (λ l. length l) on.bits ∙ length-append on.taken new.bits; place = on.place }
 
-  pub some_took : {form other : Leaf} {stack : List Left} {done : List ℕ} → slice_get d.nodes i ≡ Some node → Known d → ReadsLeaf d takes form node old new before after (read.Some other)
+  some_took : {form other : Leaf} {stack : List Left} {done : List ℕ} → slice_get d.nodes i ≡ Some node → Known d → ReadsLeaf d takes form node old new before after (read.Some other)
       → Stands d (leaf_state d takes before after values pace old new i frames node form) stack done → Took old new
   some_took {done = done} at known reads stands =
       let t = leaf_stands d stands.shows in
@@ -109,21 +109,25 @@ module _ (d : DescV) {S : Type 0} (takes : S → Move → Node → S → Type 0)
       record { t = length k.on.taken; bits = ap (λ l. length l) k.on.bits ∙ length-append k.on.taken new.bits; place = k.on.place }
 
   -- it ends
-  pub all_pays : {next : Pace} (top : Frame) (k : Took old new) → 0 < weight_of top → next ≡ paced (nat_lt old.place new.place) pace
+  pub all_pays : {form : Leaf} {stack : List Left} {done : List ℕ} {next : Pace} (top : Frame) → slice_get d.nodes i ≡ Some node → Known d → ReadsLeaf d takes form node old new before after read.All
+      → Stands d (leaf_state d takes before after values pace old new i frames node form) stack done → 0 < weight_of top → next ≡ paced (nat_lt old.place new.place) pace
       → Pays (credit_of (length d.nodes) (top ∷ frames) pace (length old.bits)) (credit_of (length d.nodes) frames next (length new.bits)) 0 1 Moved
-  all_pays {next} top k some pace_is = by (nat_lt old.place new.place) refl
+  all_pays {next = next} top at known reads stands some pace_is = by (all_took at known reads stands) (nat_lt old.place new.place) refl
     where
-      by : (took : Bool) → nat_lt old.place new.place ≡ took → Pays (credit_of (length d.nodes) (top ∷ frames) pace (length old.bits)) (credit_of (length d.nodes) frames next (length new.bits)) 0 1 Moved
-      by true e =
+      by : Took old new → (took : Bool) → nat_lt old.place new.place ≡ took → Pays (credit_of (length d.nodes) (top ∷ frames) pace (length old.bits)) (credit_of (length d.nodes) frames next (length new.bits)) 0 1 Moved
+      by k true e =
           taken_pays (length d.nodes) (length new.bits) 0 1 (top ∷ frames) frames pace refl (pace_is ∙ ap (λ b. paced b pace) e) k.bits (omega (arith, ltb-true old.place new.place e, k.place)) (omega (arith, some)) (omega (arith, some))
-      by false e =
+      by k false e =
           same_pays (length d.nodes) (length new.bits) 0 1 (top ∷ frames) frames pace refl (pace_is ∙ ap (λ b. paced b pace) e) (omega (arith, k.bits, ltb-false old.place new.place e, k.place)) (omega (arith, some)) (omega (arith, some))
 
   -- it has taken some bits, and waits for more
-  pub some_pays : {next : Pace} {frames_after others : List Frame} (top : Frame) (k : Took old new) → i < length d.nodes → weights_of others ≡ weights_of (top ∷ frames) → frames_after ≡ others
+  pub some_pays : {form other : Leaf} {stack : List Left} {done : List ℕ} {next : Pace} {frames_after others : List Frame} (top : Frame) → slice_get d.nodes i ≡ Some node → Known d
+      → ReadsLeaf d takes form node old new before after (read.Some other) → Stands d (leaf_state d takes before after values pace old new i frames node form) stack done
+      → i < length d.nodes → weights_of others ≡ weights_of (top ∷ frames) → frames_after ≡ others
       → old.place < new.place → next ≡ paced (nat_lt old.place new.place) pace
       → Pays (credit_of (length d.nodes) (top ∷ frames) pace (length old.bits)) (credit_of (length d.nodes) frames_after next (length new.bits)) 0 1 Moved
-  some_pays {next} {frames_after} {others} top k within heavy frames_is further pace_is =
+  some_pays {others = others} top at known reads stands within heavy frames_is further pace_is =
+      let k = some_took at known reads stands in
       taken_pays (length d.nodes) (length new.bits) 0 1 (top ∷ frames) others pace frames_is (pace_is ∙ ap (λ b. paced b pace) (less_than old.place new.place further)) k.bits (omega (arith, k.place, further))
       (omega (arith, heavy, within)) (omega (arith, heavy, within))
     where

@@ -32,7 +32,7 @@ use Rattle.csn_judge.proofs.Refusing.{window_stuck}
 use Rattle.csn_judge.proofs.Parts.{Moving}
 use Rattle.csn_judge.proofs.Choosing.{nothing_goes}
 use Rattle.csn_judge.proofs.Closing.{passes_of, window_alike}
-use Rattle.csn_judge.proofs.Stacks.{window_read, up_part, of_begun, turn_begun, IsNow, not_fresh, now_fresh, popped_stack, turns_read}
+use Rattle.csn_judge.proofs.Stacks.{Begun, window_read, up_part, of_begun, turn_begun, IsNow, not_fresh, now_fresh, popped_stack, turns_read}
 use Rattle.csn_judge.proofs.Wholes.{next_turn, no_turns}
 
 -- one frame more
@@ -40,6 +40,14 @@ pub pushed : {A : Type 0} {others : List A} (items : List A) (top : A) → other
 pushed {A} items top put = ap (λ (l : List A). reverse l) put ∙ reverse-append items (top ∷ [])
 
 module _ (d : DescV) where
+  -- node i begins, or stands as it began
+  pub record IsHere (pace : Pace) (coming : Coming) (i : ℕ) (v : Values) (outer : List Left) (done : List ℕ) : Type 0 where
+    pub begun : Begun d (fresh_at pace (length done)) i v outer done
+    pub just : pace.next ≡ suc i
+    pub place : coming.place ≡ length done
+    pub limit : coming.limit ≡ limit_in outer
+    pub owed : AreOwed outer done coming.bits
+
   pub moving : Known d → Moving
   moving known = record { some = known.have_moves; one = known.one_list }
 

@@ -29,11 +29,11 @@ use Rattle.csn_judge.proofs.StepFacts.{goes_along, goes_from, rest_from}
 use Rattle.csn_judge.proofs.Closing.{Full, passes_of, null_full, null_last}
 use Rattle.csn_judge.proofs.Choosing.{Undecided, nothing_goes, wait_goes, refused, wait_full, refused_empty, wait_ends, refused_never}
 use Rattle.csn_judge.proofs.LookAhead.{take_decided}
-use Rattle.csn_judge.proofs.Stacks.{Begun, of_begun, alternative_begun, alternative_rises}
+use Rattle.csn_judge.proofs.Stacks.{of_begun, alternative_begun, alternative_rises}
 use Rattle.csn_judge.proofs.Decided.{choice_at, decided, part_empty, waits_or_refuses}
 use Rattle.csn_judge.proofs.LeafStacks.{full_at, limit_within}
 use Rattle.csn_judge.proofs.Rooms.{first_of, IsCut, cut_behind}
-use Rattle.csn_judge.proofs.Turning.{moving, risen, room, round_length, begun_within, within_limit, state, still, stops, stays_as, refuses_behind}
+use Rattle.csn_judge.proofs.Turning.{IsHere, moving, risen, room, round_length, begun_within, within_limit, state, still, stops, stays_as, refuses_behind}
 use Rattle.csn_judge.proofs.Verdicts.{never_ends}
 
 module _ (d : DescV) where
@@ -77,11 +77,7 @@ module _ (d : DescV) where
     -- where a choice stands
     pub record AtChoice (k : ℕ) (frames : List Frame) (stack : List Left) (done : List ℕ) (known : Known d) : Type 0 where
       pub stands : OpenStands k frames values stack
-      pub begun : Begun d (fresh_at pace (length done)) k stands.v stands.outer done
-      pub just : pace.next ≡ suc k
-      pub place : coming.place ≡ length done
-      pub limit : coming.limit ≡ limit_in stands.outer
-      pub owed : AreOwed stands.outer done coming.bits
+      pub here : IsHere d pace coming k stands.v stands.outer done
       pub how : Undecided d 12 known.description known.certified (moving d known) known k stands.parts stands.v stands.outer done
 
     pub at_choice : {k : ℕ} {frames : List Frame} {stack : List Left} {done : List ℕ} (known : Known d)
@@ -91,11 +87,13 @@ module _ (d : DescV) where
         let at = choice_at d known t.at (subst (λ (l : List Left). IsStack d pace.next (fresh_at pace (length done)) l done) t.is stands.stack_is) in
         record {
           stands = t;
-          begun = at.0;
-          just = at.1;
-          place = stands.place;
-          limit = stands.limit ∙ ap (λ (l : List Left). limit_in l) t.is;
-          owed = subst (λ (l : List Left). AreOwed l done coming.bits) t.is stands.owed;
+          here = record {
+            begun = at.0;
+            just = at.1;
+            place = stands.place;
+            limit = stands.limit ∙ ap (λ (l : List Left). limit_in l) t.is;
+            owed = subst (λ (l : List Left). AreOwed l done coming.bits) t.is stands.owed;
+          };
           how = record { at = t.at; ready = at.0.ready; fresh = _; inner = at.0.inner };
         }
 
@@ -107,12 +105,12 @@ module _ (d : DescV) where
     alternative_begins {k} {part} {frames} {stack} {done} j known at here passes =
         let P : List Left → Type 0 = λ l. GoesOn d takes (state d takes before values pace coming (frame.Open k ∷ frames)) (record { frames = frame.Begin part ∷ frame.Choice k ∷ frames; values = values; pace = begun_by part pace; coming = coming }) before before l done in
         let t = at.stands in
-        let begun = alternative_begun d 12 known.description known.certified j t.at here at.begun in
+        let begun = alternative_begun d 12 known.description known.certified j t.at here at.here.begun in
         let rises = alternative_rises d 12 known.description known.certified j t.at here in
         let is_alternative : TakesAlternative d k part = record { j = j; parts = t.parts; at = t.at; part = here } in
         subst P (sym t.is)
-        (still d takes before values pace coming (begun_by part pace) at.place (shows_begin t.seen t.kept (round_choice is_alternative t.round))
-        (risen d pace (omega (arith, rises, at.just)) (of_begun d begun)) at.limit at.owed passes (tells_none refl refl))
+        (still d takes before values pace coming (begun_by part pace) at.here.place (shows_begin t.seen t.kept (round_choice is_alternative t.round))
+        (risen d pace (omega (arith, rises, at.here.just)) (of_begun d begun)) at.here.limit at.here.owed passes (tells_none refl refl))
 
     -- by the bits that are ready
     pub takes_some :
@@ -127,7 +125,7 @@ module _ (d : DescV) where
         let t = at.stands in
         let same : parts ≡ t.parts = let a = t.at in cc in
         let here_part : slice_get t.parts j ≡ Some part = ap (λ l. slice_get l j) (sym same) ∙ here in
-        let found = decided d known t.at here_part at.begun (within_limit d t.outer (length done + length (bit ∷ rest)) (omega (arith, less, at.place, at.limit))) (subst (λ o. Picks d 12 k (o % 8) (bit ∷ rest) false (Take j)) at.place picks) in
+        let found = decided d known t.at here_part at.here.begun (within_limit d t.outer (length done + length (bit ∷ rest)) (omega (arith, less, at.here.place, at.here.limit))) (subst (λ o. Picks d 12 k (o % 8) (bit ∷ rest) false (Take j)) at.here.place picks) in
         let P : List ℕ → Type 0 = λ l. Steps d (choice_left t.parts t.v ∷ t.outer) (all_left part t.v ∷ none_left ∷ t.outer) done [] l [] in
         let cut : coming.bits ≡ found.word ++ (found.more ++ later) = e ∙ ap (λ l. l ++ later) found.is ∙ append_assoc found.word found.more later in
         alternative_begins j known at here_part (passes_of coming.ended (subst P (sym cut) (take_decided d 12 known.description known.certified (moving d known) known found.how (found.more ++ later))))
@@ -153,13 +151,13 @@ module _ (d : DescV) where
             let P : Bool → Type 0 = λ e. Passes d e (choice_left t.parts t.v ∷ t.outer) (all_left part t.v ∷ none_left ∷ t.outer) done [] coming.bits [] in
             let Q : List ℕ → Type 0 = λ l. Passes d true (choice_left t.parts t.v ∷ t.outer) (all_left part t.v ∷ none_left ∷ t.outer) done [] l [] in
             subst P (sym over) (subst Q (sym (good.nothing over))
-            (null_last d 12 known.description known.certified (moving d known) known.takes k part j t.parts t.v t.outer done t.at here_part at.begun.ready (subst (λ o. Picks d 12 k (o % 8) [] true (Take j)) at.place picks)))
+            (null_last d 12 known.description known.certified (moving d known) known.takes k part j t.parts t.v t.outer done t.at here_part at.here.begun.ready (subst (λ o. Picks d 12 k (o % 8) [] true (Take j)) at.here.place picks)))
         by at here_part (inr full) =
             let t = at.stands in
             passes_of coming.ended
-            (null_full d 12 known.description known.certified (moving d known) known.takes k part j t.parts t.v t.outer done t.at here_part at.begun.ready (subst (λ o. Picks d 12 k (o % 8) [] true (Take j)) at.place picks) coming.bits
-            (full_at t.outer done (sym at.place ∙ full ∙ at.limit) (omega (arith, good.fits, at.place)))
-            (part_empty d j known t.at here_part at.begun))
+            (null_full d 12 known.description known.certified (moving d known) known.takes k part j t.parts t.v t.outer done t.at here_part at.here.begun.ready (subst (λ o. Picks d 12 k (o % 8) [] true (Take j)) at.here.place picks) coming.bits
+            (full_at t.outer done (sym at.here.place ∙ full ∙ at.here.limit) (omega (arith, good.fits, at.here.place)))
+            (part_empty d j known t.at here_part at.here.begun))
 
     -- ---- it waits
 
@@ -172,8 +170,8 @@ module _ (d : DescV) where
         let at = at_choice known stands in
         let t = at.stands in
         let same : done ++ [] ≡ done = append-nil done in
-        let here = subst (λ o. Picks d 12 k (o % 8) coming.bits false Wait) at.place picks in
-        let within : Within t.outer (length done + length coming.bits) = within_limit d t.outer _ (omega (arith, less, at.place, at.limit)) in
+        let here = subst (λ o. Picks d 12 k (o % 8) coming.bits false Wait) at.here.place picks in
+        let within : Within t.outer (length done + length coming.bits) = within_limit d t.outer _ (omega (arith, less, at.here.place, at.here.limit)) in
         let some_bits : ¬ (coming.bits ≡ []) = λ none. omega (arith, some, ap (λ l. length l) none) in
         let P : List Left → Type 0 = λ l. Goes d l done coming.bits in
         let Q : List Left → List Move → Type 0 = λ l rest. Rest d l done coming.bits rest in
@@ -195,16 +193,16 @@ module _ (d : DescV) where
     waits_full {k} {frames} new place held bit later good some e full here_place picks known = λ stack done stands.
         let at = at_choice known stands in
         let t = at.stands in
-        let here = subst (λ o. Picks d 12 k (o % 8) held false Wait) at.place picks in
-        let within : Within t.outer (length done + length held) = within_limit d t.outer _ (omega (arith, full, at.place, at.limit)) in
+        let here = subst (λ o. Picks d 12 k (o % 8) held false Wait) at.here.place picks in
+        let within : Within t.outer (length done + length held) = within_limit d t.outer _ (omega (arith, full, at.here.place, at.here.limit)) in
         let some_bits : ¬ (held ≡ []) = λ none. omega (arith, some, ap (λ l. length l) none) in
         let P : List Left → List ℕ → Type 0 = λ l b. Goes d l done b in
-        let small : limit_in t.outer < 4294967295 = omega (arith, at.limit, full, good.fits, ap (λ l. length l) e, length-append held (bit ∷ later)) in
+        let small : limit_in t.outer < 4294967295 = omega (arith, at.here.limit, full, good.fits, ap (λ l. length l) e, length-append held (bit ∷ later)) in
         refuses_behind d takes before values pace coming new held bit later stands e here_place
         (subst (λ l. P l held) (sym t.is) (wait_goes d 12 known.description known.certified (moving d known) known at.how false here within))
         (λ g.
         wait_full d 12 known.description known.certified (moving d known) known at.how bit [] some_bits here within
-        (λ p inside. omega (arith, limit_within t.outer p small inside, at.limit, full, at.place))
+        (λ p inside. omega (arith, limit_within t.outer p small inside, at.here.limit, full, at.here.place))
         (subst (λ l. P l (held ++ bit ∷ [])) t.is g))
 
     -- ---- it refuses
@@ -219,8 +217,8 @@ module _ (d : DescV) where
     refuses_some {k} {frames} {answer} new place alike bit later e less here_place picks shorter known = λ stack done stands.
         let at = at_choice known stands in
         let t = at.stands in
-        let here = subst (λ o. Picks d 12 k (o % 8) (alike ++ bit ∷ []) false Refuse) at.place picks in
-        let within : Within t.outer (length done + length (alike ++ bit ∷ [])) = within_limit d t.outer _ (omega (arith, less, at.place, at.limit)) in
+        let here = subst (λ o. Picks d 12 k (o % 8) (alike ++ bit ∷ []) false Refuse) at.here.place picks in
+        let within : Within t.outer (length done + length (alike ++ bit ∷ [])) = within_limit d t.outer _ (omega (arith, less, at.here.place, at.here.limit)) in
         let P : List Left → List ℕ → Type 0 = λ l b. Goes d l done b in
         refuses_behind d takes before values pace coming new alike bit later stands e here_place
         (followed stack done stands at shorter)
@@ -237,9 +235,9 @@ module _ (d : DescV) where
             by (b ∷ rest) is other =
                 let t = at.stands in
                 let waits = waits_or_refuses d alike bit (omega (arith, ap (λ l. length l) is)) t.at other.0 other.1 picks in
-                let here = subst (λ o. Picks d 12 k (o % 8) alike false Wait) at.place waits in
+                let here = subst (λ o. Picks d 12 k (o % 8) alike false Wait) at.here.place waits in
                 let P : List Left → Type 0 = λ l. Goes d l done alike in
-                subst P (sym t.is) (wait_goes d 12 known.description known.certified (moving d known) known at.how false here (within_limit d t.outer _ (omega (arith, less, at.place, at.limit, length-append alike (bit ∷ [])))))
+                subst P (sym t.is) (wait_goes d 12 known.description known.certified (moving d known) known at.how false here (within_limit d t.outer _ (omega (arith, less, at.here.place, at.here.limit, length-append alike (bit ∷ [])))))
 
     -- nothing is taken where it refuses without bits
     pub stops_open :
@@ -252,12 +250,12 @@ module _ (d : DescV) where
         let at = at_choice known stands in
         let P : List Left → Type 0 = λ l. Goes d l done (bit ∷ []) in
         refused_empty d 12 known.description known.certified (moving d known) known at.how bit []
-        (subst (λ o. Picks d 12 k (o % 8) [] true Refuse) at.place picks) (full is closed at.stands.outer done at.limit at.place) (subst P at.stands.is g))
+        (subst (λ o. Picks d 12 k (o % 8) [] true Refuse) at.here.place picks) (full is closed at.stands.outer done at.here.limit at.here.place) (subst P at.stands.is g))
         (λ stack done stands ended. inr (λ rest h.
         let at = at_choice known stands in
         let P : List Left → Type 0 = λ l. Rest d l done [] rest in
         never_ends d
-        (refused_never d 12 known.description known.certified (moving d known) known at.how (subst (λ o. Picks d 12 k (o % 8) [] true Refuse) at.place picks))
+        (refused_never d 12 known.description known.certified (moving d known) known at.how (subst (λ o. Picks d 12 k (o % 8) [] true Refuse) at.here.place picks))
         (subst P at.stands.is h)))
       where
         full : {bit : ℕ} {rest : List ℕ} → coming.bits ≡ bit ∷ rest → (coming.ended ≡ true) ⊎ (coming.place ≡ coming.limit) → (outer : List Left) (done : List ℕ) → coming.limit ≡ limit_in outer → coming.place ≡ length done → Full outer done

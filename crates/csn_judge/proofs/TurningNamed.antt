@@ -87,20 +87,21 @@ module _ (d : DescV) where
         (tells_enter node after look took (tells_none refl refl)))
 
     -- a field that it stands before is entered with it
-    pub field_goes_on : {part unit n m : ℕ} {count : Count} {middle after : S} {stack : List Left} {done : List ℕ} (label : List ℕ) (node : Node) → Known d → is_counted d.nodes i ≡ false → slice_get d.nodes i ≡ Some (Named label part)
+    pub field_goes_on : {part unit n m : ℕ} {count : Count} {middle after : S} {stack : List Left} {done : List ℕ} {now : Pace} (label : List ℕ) (node : Node) → Known d → is_counted d.nodes i ≡ false → slice_get d.nodes i ≡ Some (Named label part)
         → slice_get d.nodes i ≡ Some node → takes first (Enter i) node middle → slice_get d.nodes part ≡ Some (Field unit count) → takes middle (Enter part) (Field unit count) after
-        → ((v : Values) → values ≡ numbers_of d v → count_of v count ≡ Some n) → m ≡ unit * n → Stands d begin_state stack done
-        → GoesOn d takes begin_state (record { frames = frame.Leaf part (leaf.Field m) ∷ frame.Named i ∷ frames; values = values; pace = begun_by part pace; coming = coming }) first after stack done
-    field_goes_on {part} {unit} {n} {m} {count} {middle} label node known alone at look took field_at told counts size stands =
+        → ((v : Values) → values ≡ numbers_of d v → count_of v count ≡ Some n) → m ≡ unit * n → now ≡ begun_by part pace → Stands d begin_state stack done
+        → GoesOn d takes begin_state (record { frames = frame.Leaf part (leaf.Field m) ∷ frame.Named i ∷ frames; values = values; pace = now; coming = coming }) first after stack done
+    field_goes_on {part} {unit} {n} {m} {count} {middle} {after} {stack} {done} label node known alone at look took field_at told counts size paced stands =
         let on = label_goes_on label node known alone at look took stands in
-        on_then d takes on (field d takes middle values (begun_by part pace) coming known on.stands unit n m count (field_at, told) counts size)
+        let P : Pace → Type 0 = λ p. GoesOn d takes begin_state (record { frames = frame.Leaf part (leaf.Field m) ∷ frame.Named i ∷ frames; values = values; pace = p; coming = coming }) first after stack done in
+        subst P (sym paced) (on_then d takes on (field d takes middle values (begun_by part pace) coming known on.stands unit n m count (field_at, told) counts size))
 
     -- the field on which counts stand is entered with it
-    pub counted_goes_on : {part unit width : ℕ} {middle after : S} {stack : List Left} {done : List ℕ} (label : List ℕ) (node field : Node) → Known d → is_counted d.nodes i ≡ true → slice_get d.nodes i ≡ Some (Named label part)
+    pub counted_goes_on : {part unit width : ℕ} {middle after : S} {stack : List Left} {done : List ℕ} {now : Pace} (label : List ℕ) (node field : Node) → Known d → is_counted d.nodes i ≡ true → slice_get d.nodes i ≡ Some (Named label part)
         → slice_get d.nodes part ≡ Some (Field unit (Fixed width)) → slice_get d.nodes i ≡ Some node → takes first (Enter i) node middle → slice_get d.nodes part ≡ Some field → takes middle (Enter part) field after
-        → Stands d begin_state stack done
-        → GoesOn d takes begin_state (record { frames = frame.Counted (record { node = i; part = part; left = unit * width; number = 0 }) ∷ frames; values = values; pace = begun_by part pace; coming = coming }) first after stack done
-    counted_goes_on {part} {unit} {width} {middle} {after} {stack} {done} label node field known counted at width_at look took look_field took_field stands =
+        → now ≡ begun_by part pace → Stands d begin_state stack done
+        → GoesOn d takes begin_state (record { frames = frame.Counted (record { node = i; part = part; left = unit * width; number = 0 }) ∷ frames; values = values; pace = now; coming = coming }) first after stack done
+    counted_goes_on {part} {unit} {width} {middle} {after} {stack} {done} label node field known counted at width_at look took look_field took_field paced stands =
         let t = begin_stands d stands.shows in
         let is = subst (λ (l : List Left). IsStack d pace.next (fresh_at pace (length done)) l done) t.is stands.stack_is in
         let begun = begun_of d is in
@@ -110,11 +111,12 @@ module _ (d : DescV) where
         let L : List ℕ → Type 0 = λ l. Passes d coming.ended (all_left part t.v ∷ none_left ∷ t.outer) (bits_left (unit * width) ∷ none_left ∷ t.outer) l [] coming.bits (Enter part ∷ []) in
         let second_step = subst L (sym (append-nil done)) (passes_of coming.ended (replaced d coming.bits (none_taken d) (enters d part width_at (enter_field d unit (Fixed width) width t.v done refl)))) in
         let P : List Left → Type 0 = λ l. GoesOn d takes begin_state (record { frames = frame.Counted (record { node = i; part = part; left = unit * width; number = 0 }) ∷ frames; values = values; pace = begun_by part pace; coming = coming }) first after l done in
-        subst P (sym t.is)
+        let Q : Pace → Type 0 = λ p. GoesOn d takes begin_state (record { frames = frame.Counted (record { node = i; part = part; left = unit * width; number = 0 }) ∷ frames; values = values; pace = p; coming = coming }) first after stack done in
+        subst Q (sym paced) (subst P (sym t.is)
         (still d takes first values pace coming (begun_by part pace) stands.place
         (shows_counted label unit width (length done) at width_at counted began none (omega arith) refl (omega (arith, (counted_width d known i label counted at width_at).0)) refl (t.kept ∙ ap (λ v. numbers_of d v) t.seen) t.round)
         (counted_stack pace known at width_at is)
         (stands.limit ∙ ap (λ (l : List Left). limit_in l) t.is)
         (subst (λ (l : List Left). AreOwed l done coming.bits) t.is stands.owed)
         (steps_then d [] [] first_step second_step)
-        (tells_enter node middle look took (tells_enter field after look_field took_field (tells_none refl refl))))
+        (tells_enter node middle look took (tells_enter field after look_field took_field (tells_none refl refl)))))

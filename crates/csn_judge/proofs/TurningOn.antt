@@ -1,7 +1,8 @@
 -- One turn after another.
-use Rattle.std.proofs.Common.{◌≡◌, ℕ, ◌<◌, Bool, true, false, List, [], ◌∷◌, ◌++◌, length, refl, sym, ◌∙◌, ap, subst, arith, append_assoc, length-append, reverse, ◌⊎◌, inl, inr}
+use Rattle.std.proofs.Common.{◌≡◌, ℕ, ◌<◌, Bool, true, false, List, [], ◌∷◌, ◌++◌, length, refl, sym, ◌∙◌, ap, subst, arith, append_assoc, length-append, reverse, ◌⊎◌, inl, inr, Some, slice_get}
 use Rattle.std.specs.Bool.{⊤}
 use Rattle.csn_desc.specs.declared.moves.Move.{Move}
+use Rattle.csn_desc.specs.declared.moves.Move.TheVariants.{Leave}
 use Rattle.csn_desc.specs.declared.node.Node.{Node}
 use Rattle.csn_desc.specs.Nodes.{DescV}
 use Rattle.csn_judge.specs.declared.frame.Frame.{Frame}
@@ -15,12 +16,12 @@ use Rattle.csn_judge.specs.declared.pace.Pace.{Pace}
 use Rattle.csn_judge.specs.Coming.{Coming}
 use Rattle.csn_judge.specs.Remains.{Rest, Goes, Passes, shorter}
 use Rattle.csn_judge.specs.Shown.{Shows, shows_none, shows_taken, shows_labelled}
-use Rattle.csn_judge.specs.Turns.{tells_nothing, IsStopped, StateV, Stands, GoesOn, WaitsOn, RefusesAt, Turns}
+use Rattle.csn_judge.specs.Turns.{tells_nothing, IsPassed, IsStopped, StateV, Stands, GoesOn, WaitsOn, RefusesAt, Turns}
 use Rattle.std.proofs.lemmas.List.{reverse-append}
 use Rattle.std.proofs.lemmas.Option.{slice_get_within}
 use Rattle.csn_judge.proofs.Refusing.{nothing_follows}
 use Rattle.csn_judge.proofs.StepFacts.{rest_from, goes_along, goes_from, steps_then}
-use Rattle.csn_judge.proofs.Turning.{stops}
+use Rattle.csn_judge.proofs.Turning.{passes_by, stops}
 use Rattle.csn_judge.proofs.TurningSame.{turns_as}
 use Rattle.csn_judge.specs.Known.{Known}
 
@@ -82,6 +83,15 @@ module _ (d : DescV) where
             → (frames ≡ []) ⊎ ((rest : List Move) → ¬ Rest d now there [] rest)
         over same (inl none) = inl none
         over same (inr unended) = inr (λ rest h. unended rest (rest_from d (sym same) h))
+
+    -- a part is read at once, and the node round it is left behind it
+    pub read_and_left : {old middle : StateV} {s t u after : S} {top : Frame} {i : ℕ} {frames : List Frame} {stack : List Left} {done : List ℕ} (values : List Number) (pace : Pace) (coming : Coming) (node : Node)
+        → GoesOn d takes old middle s t stack done → Turns d takes middle (record { frames = top ∷ frames; values = values; pace = pace; coming = coming }) t u Moved
+        → IsPassed top i → Known d → slice_get d.nodes i ≡ Some node → takes u Leave node after
+        → GoesOn d takes old (record { frames = frames; values = values; pace = pace; coming = coming }) s after stack done
+    read_and_left {u = u} {done = done} values pace coming node first read passed known at told =
+        let on = on_then first (read first.now (done ++ first.taken) first.stands) in
+        on_then on (passes_by d takes u values pace coming node passed known on.stands at told)
 
     -- a refusal behind bits that were taken
     pub refuses_then : {old middle new : StateV} {s t u : S} {stack : List Left} {done : List ℕ} {place : ℕ}

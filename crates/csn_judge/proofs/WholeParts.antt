@@ -160,10 +160,10 @@ module _ (d : DescV) where
         let v = a.stands.v in
         let meant = string (length done) v in
         let walked = known.have_moves d i (length done) v b meant.0 meant.1 in
-        let inner = a.begun.inner in
-        let good = IsBits-append done b a.begun.good (known.good d i (length done) v b meant.0 meant.1) in
+        let inner = a.here.begun.inner in
+        let good = IsBits-append done b a.here.begun.good (known.good d i (length done) v b meant.0 meant.1) in
         let Q : ℕ → Type 0 = λ n. IsStack d n (fresh_at pace (length done)) (none_left ∷ outer) (done ++ b) in
-        let read = subst Q (sym a.just) (stack_node i (length done) v good a.begun.ready (of_read (meant_read known a.begun meant.1) (up_here d i)) inner) in
+        let read = subst Q (sym a.here.just) (stack_node i (length done) v good a.here.begun.ready (of_read (meant_read known a.here.begun meant.1) (up_here d i)) inner) in
         let left = left_stack d (paced took pace) known (paced_stack d took pace done b untaken read) in
         let step = passes_of old.ended (replaced d new.bits (as_many d (λ c moves h. long_enough known laid meant.1 walked.1 h)) (whole_replaces done known laid meant.1 walked.1)) in
         let P : List Left → Type 0 = λ l. GoesOn d takes (state d takes before values pace old (frame.Begin i ∷ frames)) (state d takes after values (paced took pace) new frames) before after l done in
@@ -177,9 +177,9 @@ module _ (d : DescV) where
           stands = record {
             shows = shown_behind d (done ++ b) a.stands.round (a.stands.kept ∙ ap (λ w. numbers_of d w) a.stands.seen ∙ sym (kept_behind d (done ++ b) a.stands.round laid.plain));
             stack_is = left;
-            place = place ∙ ap (λ p. p + length b) a.place ∙ sym (length-append done b);
-            limit = limit ∙ a.limit;
-            owed = owed_taken d done b new.bits inner (omega arith) (subst (λ (l : List ℕ). AreOwed outer done l) bits a.owed);
+            place = place ∙ ap (λ p. p + length b) a.here.place ∙ sym (length-append done b);
+            limit = limit ∙ a.here.limit;
+            owed = owed_taken d done b new.bits inner (omega arith) (subst (λ (l : List ℕ). AreOwed outer done l) bits a.here.owed);
           };
           bits = bits;
           ended = ended;

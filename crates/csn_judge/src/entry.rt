@@ -128,10 +128,10 @@ impl Machine<'_> {
             steps.old (steps.new + 1) (turn_in result) }
         ensures plan { self.new.plan ≡ self.old.plan }
     {
-        if !self.plan.counts(i) {
-            return self.enter_plain(i, part, node, source, track, steps);
-        }
         let field = self.plan.node(part, steps);
+        if !self.plan.counts(i) {
+            return self.enter_plain(i, part, node, field, source, track);
+        }
         let Node::Field { unit, count } = field else {
             unreachable!();
         };
@@ -152,26 +152,26 @@ impl Machine<'_> {
 
     /// A label that no counts stand on was entered: its part begins. A field is read at once.
     #[inline(always)]
-    fn enter_plain<T: Track, L: Ledger>(
+    fn enter_plain<T: Track>(
         &mut self,
         i: u16,
         part: u16,
         node: &Node,
+        field: &Node,
         source: &mut Source<'_>,
         track: &mut T,
-        steps: &mut Steps<L>,
     ) -> Next
         requires part { (label : List ℕ) × (slice_get self.old.plan.now.nodes i ≡ Some (Named label part)) }
         requires node { slice_get self.old.plan.now.nodes i ≡ Some node.now }
+        requires field { slice_get self.old.plan.now.nodes part ≡ Some field.now }
         requires plain { is_counted self.old.plan.now.nodes i ≡ false }
         requires stands { StandsSomewhere self.old.plan.now (state_with (frame.Begin i) self.old source.old) }
         ensures turns { Entered self.old.plan.now T.takes i (state_with (frame.Begin i) self.old source.old)
             (state_then result self.new source.new) track.old track.new (turn_in result) }
         ensures pays { TurnPays self.old.plan.now (state_with (frame.Begin i) self.old source.old) (state_then result self.new source.new)
-            steps.old (steps.new + 1) (turn_in result) }
+            0 2 (turn_in result) }
         ensures plan { self.new.plan ≡ self.old.plan }
     {
-        let field = self.plan.node(part, steps);
         let Node::Field { unit, count } = field else {
             self.begin(part, Frame::Named { node: i });
             return Next::Begin { node: part };
