@@ -1,5 +1,5 @@
 use Rattle.std.proofs.Common.{◌≡◌, ℕ, suc, ◌+◌, ◌*◌, ◌<◌, ◌≤◌, List, ◌++◌, length, take, false, Option, None, refl, sym, ap, subst, ◌∙◌, arith, length-append}
-use Rattle.std.proofs.lemmas.List.{length-take-le}
+use Rattle.std.proofs.lemmas.List.{length-take-le, take_all}
 use Rattle.std.proofs.Math.Nat.{mul_assoc}
 use Rattle.csn_bits.specs.Octets.{bits_of_octets}
 use Rattle.csn_bits.proofs.Packing.{length-bits_of_octets}
@@ -140,21 +140,21 @@ with_piece j bits piece coming within is =
     (ap (λ l. length l) is ∙ length-append held (take bits (bits_of_octets piece)) ∙ ap (λ n. length held + n) (piece_length bits piece within))
     ∙ credit_more nodes (state_of j.machine coming).frames j.machine.pace (length held) bits
 
+-- where all bits that come are held, these are they
+held_all : (held : Held) (source : Coming) → low_bits held.count held.number ≡ take source.held source.bits → source.held ≡ length source.bits → low_bits held.count held.number ≡ source.bits
+held_all held source is all = is ∙ ap (λ n. take n source.bits) all ∙ take_all (length source.bits) source.bits (omega arith)
+
 pub returns-in-Going-clause-steps : goal.returns-in-Going-clause-steps
 returns-in-Going-clause-steps g c =
     let d : DescV = c.self.inside.machine.plan.now in
     let nodes : ℕ = length d.nodes in
     let old : JudgeV = judge_of c.self.inside in
-    let after : StateV = state_of c.go-verdict.new.self c.go-verdict.new.source in
     let new : JudgeV = judge_of (waiting c.self.inside c.go-verdict.new.self c.held-self-inside.result c.place-self-inside.result c.limit-self-inside.result c.args.bits) in
-    let more : List ℕ = take c.args.bits (bits_of_octets c.args.piece.now) in
     let there = c.self.invariant.stands c.in_default.is in
-    let fed = come c.self.inside more c.new-source.result c.new-source.ensures in
-    let on = c.in-Going.ensures.turns there.stack there.done (fed_stands d more c.new-source.result fed.bits fed.place fed.limit there.stands) in
+    let fed = come c.self.inside (take c.args.bits (bits_of_octets c.args.piece.now)) c.new-source.result c.new-source.ensures in
+    let on = c.in-Going.ensures.turns there.stack there.done (fed_stands d (take c.args.bits (bits_of_octets c.args.piece.now)) c.new-source.result fed.bits fed.place fed.limit there.stands) in
     let plan : c.go-verdict.new.self.plan.now ≡ d = ap (λ p. p.now) c.in-Going.ensures.plan in
-    let is = behind_of c.self.inside c.go-verdict.new.self c.go-verdict.new.source c.held-self-inside.result c.place-self-inside.result c.limit-self-inside.result c.args.bits c.args.piece.now
-    c.requires.within plan c.in_default.is c.held-self-inside.ensures.bits c.place-self-inside.ensures.place c.limit-self-inside.ensures in
-    let stand = behind_stands g.T.Track.takes old new more c.new-source.result after c.args.track.now c.go-verdict.new.track is on in
+    let kept = held_all c.held-self-inside.result c.go-verdict.new.source c.held-self-inside.ensures.bits on.held in
     let P : JudgeV → Type 0 = λ j. c.go-verdict.new.steps + credit new ≤ c.args.steps.now + credit j + 8 * length j.desc.nodes * c.args.bits in
     let held : List ℕ = old.state.coming.bits in
     let before : ℕ = credit_of nodes old.state.frames old.state.pace (length held) in
@@ -166,7 +166,7 @@ returns-in-Going-clause-steps g c =
     let R : ℕ → List ℕ → Type 0 = λ n l. c.go-verdict.new.steps + suc (now n l) ≤ c.args.steps.now + suc before + 8 * nodes * c.args.bits in
     let R1 : ℕ → Type 0 = λ n. R n new.state.coming.bits in
     let R2 : List ℕ → Type 0 = λ l. R nodes l in
-    subst P c.self.view_is (subst Q (sym c.in_default.is) (subst R1 (sym (ap (λ d. length d.nodes) plan)) (subst R2 (sym stand.bits) spent)))
+    subst P c.self.view_is (subst Q (sym c.in_default.is) (subst R1 (sym (ap (λ d. length d.nodes) plan)) (subst R2 (sym kept) spent)))
 
 pub returns-in-Refused-clause-steps : goal.returns-in-Refused-clause-steps
 returns-in-Refused-clause-steps g c =

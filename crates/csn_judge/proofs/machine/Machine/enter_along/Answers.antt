@@ -7,13 +7,11 @@ use Rattle.csn_judge.proofs.machine.Machine.enter_along.Goals as goal
 pub loop-node-init : goal.loop-node-init
 loop-node-init g c = (refl, going_none c.args.self.now.plan.now g.T.Track.takes (state_with (frame.Begin c.args.first) c.args.self.now c.args.source.now) c.args.track.now c.args.steps.now)
 
-pub read_or_enter-requires-clause-stands : goal.read_or_enter-requires-clause-stands
-read_or_enter-requires-clause-stands g c =
-    going_stands c.args.self.now.plan.now g.T.Track.takes (ap (λ p. p.now) c.loop-node.invariant.0) c.loop-node.invariant.1 c.requires.stands
-
-pub read_or_enter-requires-clause-fits : goal.read_or_enter-requires-clause-fits
-read_or_enter-requires-clause-fits g c =
-    going_fits c.args.self.now.plan.now g.T.Track.takes g.T.Track.fits g.T.Track.keeps (ap (λ p. p.now) c.loop-node.invariant.0) c.loop-node.invariant.1 c.requires.stands c.requires.fits
+pub read_or_enter-requires : goal.read_or_enter-requires
+read_or_enter-requires g c = record {
+  stands = going_stands c.args.self.now.plan.now g.T.Track.takes (ap (λ p. p.now) c.loop-node.invariant.0) c.loop-node.invariant.1 c.requires.stands;
+  fits = going_fits c.args.self.now.plan.now g.T.Track.takes g.T.Track.fits g.T.Track.keeps (ap (λ p. p.now) c.loop-node.invariant.0) c.loop-node.invariant.1 c.requires.stands c.requires.fits;
+}
 
 pub loop-node-preserved : goal.loop-node-preserved
 loop-node-preserved g c = (

@@ -14,13 +14,11 @@ loop-place-preserved g c = (
       c.in-Moved.ensures.turns c.in-Moved.ensures.pays.0 (omega (arith, c.in-Moved.ensures.pays.1)),
 )
 
-pub step-requires-clause-stands : goal.step-requires-clause-stands
-step-requires-clause-stands g c =
-    going_stands c.args.self.now.plan.now g.T.Track.takes (ap (λ p. p.now) c.loop-place.invariant.0) c.loop-place.invariant.1 c.requires.stands
-
-pub step-requires-clause-fits : goal.step-requires-clause-fits
-step-requires-clause-fits g c =
-    going_fits c.args.self.now.plan.now g.T.Track.takes g.T.Track.fits g.T.Track.keeps (ap (λ p. p.now) c.loop-place.invariant.0) c.loop-place.invariant.1 c.requires.stands c.requires.fits
+pub step-requires : goal.step-requires
+step-requires g c = record {
+  stands = going_stands c.args.self.now.plan.now g.T.Track.takes (ap (λ p. p.now) c.loop-place.invariant.0) c.loop-place.invariant.1 c.requires.stands;
+  fits = going_fits c.args.self.now.plan.now g.T.Track.takes g.T.Track.fits g.T.Track.keeps (ap (λ p. p.now) c.loop-place.invariant.0) c.loop-place.invariant.1 c.requires.stands c.requires.fits;
+}
 
 pub returns-in-Waits-clause-turns : goal.returns-in-Waits-clause-turns
 returns-in-Waits-clause-turns g c =
