@@ -1,73 +1,121 @@
-use Rattle.std.proofs.Common.{inl, ℕ, ◌+◌, ◌*◌, false, List, ◌∷◌, [], length, reverse, min, refl, ap, subst, ◌∙◌, arith, Some}
+use Rattle.std.proofs.Common.{inl, ◌≡◌, ℕ, ◌+◌, ◌*◌, ◌<◌, ◌≤◌, true, false, List, ◌∷◌, [], length, reverse, min, refl, ap, subst, ◌∙◌, arith, Some}
 use Rattle.std.proofs.lemmas.List.{length-reverse}
 use Rattle.csn_desc.specs.Nodes.{DescV}
+use Rattle.csn_desc.specs.declared.moves.Move.{Move}
 use Rattle.csn_desc.specs.declared.moves.Move.TheVariants.{Leave}
 use Rattle.csn_desc.specs.declared.node.Node.{Node}
 use Rattle.csn_desc.specs.declared.node.Node.TheVariants.{Seq, Window}
 use Rattle.csn_judge.specs.declared.frame.Frame.{Frame}
 use Rattle.csn_judge.specs.declared.frame.Frame.TheVariants as frame
 use Rattle.csn_judge.specs.declared.leaf.Leaf.TheVariants as leaf
+use Rattle.csn_certify.specs.declared.numbers.Number.{Number}
+use Rattle.csn_judge.specs.declared.machine.Machine.{Machine}
+use Rattle.csn_judge.specs.declared.pace.Pace.{Pace}
+use Rattle.csn_judge.specs.declared.turn.Turn.{Turn}
+use Rattle.csn_judge.specs.Known.{Known}
+use Rattle.csn_judge.specs.Left.{Left}
 use Rattle.csn_judge.specs.Coming.{Coming}
-use Rattle.csn_judge.specs.Credit.{credit_in, Pays}
-use Rattle.csn_judge.specs.Turns.{state_of, state_then, state_with, turn_in}
+use Rattle.csn_judge.specs.Credit.{weight_of, credit_in, Pays, TurnPays}
+use Rattle.csn_judge.specs.Turns.{StateV, state_of, state_then, state_with, turn_in, Stands, GoesOn, Turns}
 use Rattle.csn_judge.proofs.Paying.{begun_pays, begun_pays_on, left_pays}
 use Rattle.csn_judge.proofs.PayingBits.{paid_before}
 use Rattle.csn_judge.proofs.PayingEntry.{heavier_steps, heavier_with}
+use Rattle.csn_judge.proofs.Popping.{Taken}
 use Rattle.csn_judge.proofs.Rooms.{begin_room, begin_within}
 use Rattle.csn_judge.proofs.Turning.{GoesOn-along}
 use Rattle.csn_judge.proofs.TurningOn.{turns_then}
 use Rattle.csn_judge.proofs.TurningEntry.{entered, literal, spare, pad, rest, field, choice, turns, free, truncation, sequence, window, null, node_within, some_parts, field_fits, window_fits, keeps_field, keeps_turns, keeps_window, first_rises, stands_behind}
 use Rattle.csn_judge.proofs.machine.Machine.enter.Goals as goal
 
+-- one step is paid for before a turn
+step_before : {between : ℕ} (before after steps steps_after : ℕ) (turn : Turn) → between ≡ steps + 1 → Pays before after between (steps_after + 1) turn → Pays before after steps steps_after turn
+step_before before after steps steps_after turn one paid =
+    paid_before before after steps steps_after turn (subst (λ (k : ℕ). Pays before after k (steps_after + 1) turn) one paid)
+
+-- a part that begins is few enough for its number, and there is room for the frame round it
+frame_room : {d : DescV} {S : Type 0} {takes : S → Move → Node → S → Type 0} {old : StateV} {before after : S} {stack : List Left} {done : List ℕ} {part : ℕ} {top : Frame} {values : List Number} {pace : Pace} {coming : Coming} (items : List Frame)
+    → Known d → GoesOn d takes old (record { frames = frame.Begin part ∷ top ∷ reverse items; values = values; pace = pace; coming = coming }) before after stack done → (part < 65535) × (length items < 63)
+frame_room items known on =
+    let begins = begin_room known on.stands.shows on.stands.stack_is in
+    (omega (arith, begins.0), omega (arith, begins.1, length-reverse items))
+
+-- a node is entered, and goes on as this frame says
+module _ (d : DescV) {S : Type 0} (takes : S → Move → Node → S → Type 0) (machine : Machine) (coming : Coming) (i : ℕ) (form : Frame) (before begun : S) where
+  -- where it is a leaf, a step is paid for with it
+  leaf_turn : {steps_after : ℕ} (new : StateV) (after : S) (steps : ℕ) (turn : Turn) → weight_of form ≤ 3 → steps_after ≡ steps + 1
+      → Turns d takes (state_with form machine coming) new begun after turn → TurnPays d (state_with form machine coming) new 0 1 turn
+      → (coming.ended ≡ true → coming.bits ≡ [])
+      → ((stack : List Left) (done : List ℕ) → Stands d (state_with (frame.Begin i) machine coming) stack done
+      → GoesOn d takes (state_with (frame.Begin i) machine coming) (state_with form machine coming) before begun stack done)
+      → Taken d takes (state_with (frame.Begin i) machine coming) new before after steps steps_after turn
+  leaf_turn new after steps turn light one turns pays quiet enters =
+      record {
+        turns = turns_then d takes new after turn quiet enters turns;
+        pays = heavier_with (length d.nodes) (frame.Begin i) form (reverse machine.frames.items) machine.pace (length coming.bits) (credit_in d new) steps turn light one pays;
+      }
+
+  -- and else before it
+  node_turn : {between : ℕ} (new : StateV) (after : S) (steps steps_after : ℕ) (turn : Turn) → weight_of form + 1 ≤ 3 → between ≡ steps + 1
+      → Turns d takes (state_with form machine coming) new begun after turn → TurnPays d (state_with form machine coming) new between steps_after turn
+      → (coming.ended ≡ true → coming.bits ≡ [])
+      → ((stack : List Left) (done : List ℕ) → Stands d (state_with (frame.Begin i) machine coming) stack done
+      → GoesOn d takes (state_with (frame.Begin i) machine coming) (state_with form machine coming) before begun stack done)
+      → Taken d takes (state_with (frame.Begin i) machine coming) new before after steps steps_after turn
+  node_turn new after steps steps_after turn light one turns pays quiet enters =
+      record {
+        turns = turns_then d takes new after turn quiet enters turns;
+        pays = heavier_steps (length d.nodes) (frame.Begin i) form (reverse machine.frames.items) machine.pace (length coming.bits) (credit_in d new) steps steps_after turn light one pays;
+      }
+
 pub node-node-requires : goal.node-node-requires
 node-node-requires g c =
     let d : DescV = c.args.self.now.plan.now in
     node_within d g.T.Track.takes c.args.track.now c.args.self.now.values.items c.args.self.now.pace c.args.source.now c.requires.known c.requires.stands
 
-pub read-requires-clause-stands : goal.read-requires-clause-stands
-read-requires-clause-stands g c = stands_behind c.requires.known (literal c.args.self.now.plan.now g.T.Track.takes c.args.track.now c.args.self.now.values.items c.args.self.now.pace c.args.source.now c.requires.known c.requires.stands c.in-Lits.field-0 (entered g.T.Track.takes c.args.self.now.plan.now.nodes c.in-Lits.is c.node-node.ensures.node c.step.ensures))
+pub read-requires : goal.read-requires
+read-requires g c = record { node = c.node-node.ensures.node; stands = stands_behind c.requires.known (literal c.args.self.now.plan.now g.T.Track.takes c.args.track.now c.args.self.now.values.items c.args.self.now.pace c.args.source.now c.requires.known c.requires.stands c.in-Lits.field-0 (entered g.T.Track.takes c.args.self.now.plan.now.nodes c.in-Lits.is c.node-node.ensures.node c.step.ensures)) }
 
-pub returns-in-Lits-clause-turns : goal.returns-in-Lits-clause-turns
-returns-in-Lits-clause-turns g c =
-    turns_then c.args.self.now.plan.now g.T.Track.takes (state_of c.read.new.self c.read.new.source) c.read.new.track c.read.result c.none_behind_end.ensures
-    (λ stack done stands. literal c.args.self.now.plan.now g.T.Track.takes c.args.track.now c.args.self.now.values.items c.args.self.now.pace c.args.source.now c.requires.known stands c.in-Lits.field-0 (entered g.T.Track.takes c.args.self.now.plan.now.nodes c.in-Lits.is c.node-node.ensures.node c.step.ensures))
-    c.read.ensures.turns
+pub returns-in-Lits : goal.returns-in-Lits
+returns-in-Lits g c =
+    let t = leaf_turn c.args.self.now.plan.now g.T.Track.takes c.args.self.now c.args.source.now c.args.i (frame.Leaf c.args.i (leaf.Lits 0)) c.args.track.now c.step.new.self (state_of c.read.new.self c.read.new.source) c.read.new.track c.args.steps.now c.read.result (omega arith) c.node-node.ensures.step c.read.ensures.turns c.read.ensures.pays c.none_behind_end.ensures
+    (λ stack done stands. literal c.args.self.now.plan.now g.T.Track.takes c.args.track.now c.args.self.now.values.items c.args.self.now.pace c.args.source.now c.requires.known stands c.in-Lits.field-0 (entered g.T.Track.takes c.args.self.now.plan.now.nodes c.in-Lits.is c.node-node.ensures.node c.step.ensures)) in
+    record { turns = t.turns; pays = t.pays; plan = c.read.ensures.plan }
 
-pub read-requires-in-Spare-clause-stands : goal.read-requires-in-Spare-clause-stands
-read-requires-in-Spare-clause-stands g c = stands_behind c.requires.known (spare c.args.self.now.plan.now g.T.Track.takes c.args.track.now c.args.self.now.values.items c.args.self.now.pace c.args.source.now c.requires.known c.requires.stands c.in-Spare.field-0 (entered g.T.Track.takes c.args.self.now.plan.now.nodes c.in-Spare.is c.node-node.ensures.node c.step.ensures))
+pub read-requires-in-Spare : goal.read-requires-in-Spare
+read-requires-in-Spare g c = record { node = c.node-node.ensures.node; stands = stands_behind c.requires.known (spare c.args.self.now.plan.now g.T.Track.takes c.args.track.now c.args.self.now.values.items c.args.self.now.pace c.args.source.now c.requires.known c.requires.stands c.in-Spare.field-0 (entered g.T.Track.takes c.args.self.now.plan.now.nodes c.in-Spare.is c.node-node.ensures.node c.step.ensures)) }
 
-pub returns-in-Spare-clause-turns : goal.returns-in-Spare-clause-turns
-returns-in-Spare-clause-turns g c =
-    turns_then c.args.self.now.plan.now g.T.Track.takes (state_of c.read-in-Spare.new.self c.read-in-Spare.new.source) c.read-in-Spare.new.track c.read-in-Spare.result c.none_behind_end.ensures
-    (λ stack done stands. spare c.args.self.now.plan.now g.T.Track.takes c.args.track.now c.args.self.now.values.items c.args.self.now.pace c.args.source.now c.requires.known stands c.in-Spare.field-0 (entered g.T.Track.takes c.args.self.now.plan.now.nodes c.in-Spare.is c.node-node.ensures.node c.step.ensures))
-    c.read-in-Spare.ensures.turns
+pub returns-in-Spare : goal.returns-in-Spare
+returns-in-Spare g c =
+    let t = leaf_turn c.args.self.now.plan.now g.T.Track.takes c.args.self.now c.args.source.now c.args.i (frame.Leaf c.args.i leaf.Spare) c.args.track.now c.step.new.self (state_of c.read-in-Spare.new.self c.read-in-Spare.new.source) c.read-in-Spare.new.track c.args.steps.now c.read-in-Spare.result (omega arith) c.node-node.ensures.step c.read-in-Spare.ensures.turns c.read-in-Spare.ensures.pays c.none_behind_end.ensures
+    (λ stack done stands. spare c.args.self.now.plan.now g.T.Track.takes c.args.track.now c.args.self.now.values.items c.args.self.now.pace c.args.source.now c.requires.known stands c.in-Spare.field-0 (entered g.T.Track.takes c.args.self.now.plan.now.nodes c.in-Spare.is c.node-node.ensures.node c.step.ensures)) in
+    record { turns = t.turns; pays = t.pays; plan = c.read-in-Spare.ensures.plan }
 
-pub read-requires-in-Pad-clause-stands : goal.read-requires-in-Pad-clause-stands
-read-requires-in-Pad-clause-stands g c = stands_behind c.requires.known (pad c.args.self.now.plan.now g.T.Track.takes c.args.track.now c.args.self.now.values.items c.args.self.now.pace c.args.source.now c.requires.known c.requires.stands (entered g.T.Track.takes c.args.self.now.plan.now.nodes c.in-Pad.is c.node-node.ensures.node c.step.ensures))
+pub read-requires-in-Pad : goal.read-requires-in-Pad
+read-requires-in-Pad g c = record { node = c.node-node.ensures.node; stands = stands_behind c.requires.known (pad c.args.self.now.plan.now g.T.Track.takes c.args.track.now c.args.self.now.values.items c.args.self.now.pace c.args.source.now c.requires.known c.requires.stands (entered g.T.Track.takes c.args.self.now.plan.now.nodes c.in-Pad.is c.node-node.ensures.node c.step.ensures)) }
 
-pub returns-in-Pad-clause-turns : goal.returns-in-Pad-clause-turns
-returns-in-Pad-clause-turns g c =
-    turns_then c.args.self.now.plan.now g.T.Track.takes (state_of c.read-in-Pad.new.self c.read-in-Pad.new.source) c.read-in-Pad.new.track c.read-in-Pad.result c.none_behind_end.ensures
-    (λ stack done stands. pad c.args.self.now.plan.now g.T.Track.takes c.args.track.now c.args.self.now.values.items c.args.self.now.pace c.args.source.now c.requires.known stands (entered g.T.Track.takes c.args.self.now.plan.now.nodes c.in-Pad.is c.node-node.ensures.node c.step.ensures))
-    c.read-in-Pad.ensures.turns
+pub returns-in-Pad : goal.returns-in-Pad
+returns-in-Pad g c =
+    let t = leaf_turn c.args.self.now.plan.now g.T.Track.takes c.args.self.now c.args.source.now c.args.i (frame.Leaf c.args.i (leaf.Pad false)) c.args.track.now c.step.new.self (state_of c.read-in-Pad.new.self c.read-in-Pad.new.source) c.read-in-Pad.new.track c.args.steps.now c.read-in-Pad.result (omega arith) c.node-node.ensures.step c.read-in-Pad.ensures.turns c.read-in-Pad.ensures.pays c.none_behind_end.ensures
+    (λ stack done stands. pad c.args.self.now.plan.now g.T.Track.takes c.args.track.now c.args.self.now.values.items c.args.self.now.pace c.args.source.now c.requires.known stands (entered g.T.Track.takes c.args.self.now.plan.now.nodes c.in-Pad.is c.node-node.ensures.node c.step.ensures)) in
+    record { turns = t.turns; pays = t.pays; plan = c.read-in-Pad.ensures.plan }
 
-pub read-requires-in-Rest-clause-stands : goal.read-requires-in-Rest-clause-stands
-read-requires-in-Rest-clause-stands g c = stands_behind c.requires.known (rest c.args.self.now.plan.now g.T.Track.takes c.args.track.now c.args.self.now.values.items c.args.self.now.pace c.args.source.now c.requires.known c.requires.stands (entered g.T.Track.takes c.args.self.now.plan.now.nodes c.in-Rest.is c.node-node.ensures.node c.step.ensures))
+pub read-requires-in-Rest : goal.read-requires-in-Rest
+read-requires-in-Rest g c = record { node = c.node-node.ensures.node; stands = stands_behind c.requires.known (rest c.args.self.now.plan.now g.T.Track.takes c.args.track.now c.args.self.now.values.items c.args.self.now.pace c.args.source.now c.requires.known c.requires.stands (entered g.T.Track.takes c.args.self.now.plan.now.nodes c.in-Rest.is c.node-node.ensures.node c.step.ensures)) }
 
-pub returns-in-Rest-clause-turns : goal.returns-in-Rest-clause-turns
-returns-in-Rest-clause-turns g c =
-    turns_then c.args.self.now.plan.now g.T.Track.takes (state_of c.read-in-Rest.new.self c.read-in-Rest.new.source) c.read-in-Rest.new.track c.read-in-Rest.result c.none_behind_end.ensures
-    (λ stack done stands. rest c.args.self.now.plan.now g.T.Track.takes c.args.track.now c.args.self.now.values.items c.args.self.now.pace c.args.source.now c.requires.known stands (entered g.T.Track.takes c.args.self.now.plan.now.nodes c.in-Rest.is c.node-node.ensures.node c.step.ensures))
-    c.read-in-Rest.ensures.turns
+pub returns-in-Rest : goal.returns-in-Rest
+returns-in-Rest g c =
+    let t = leaf_turn c.args.self.now.plan.now g.T.Track.takes c.args.self.now c.args.source.now c.args.i (frame.Leaf c.args.i leaf.Rest) c.args.track.now c.step.new.self (state_of c.read-in-Rest.new.self c.read-in-Rest.new.source) c.read-in-Rest.new.track c.args.steps.now c.read-in-Rest.result (omega arith) c.node-node.ensures.step c.read-in-Rest.ensures.turns c.read-in-Rest.ensures.pays c.none_behind_end.ensures
+    (λ stack done stands. rest c.args.self.now.plan.now g.T.Track.takes c.args.track.now c.args.self.now.values.items c.args.self.now.pace c.args.source.now c.requires.known stands (entered g.T.Track.takes c.args.self.now.plan.now.nodes c.in-Rest.is c.node-node.ensures.node c.step.ensures)) in
+    record { turns = t.turns; pays = t.pays; plan = c.read-in-Rest.ensures.plan }
 
-pub read-requires-in-Field-clause-stands : goal.read-requires-in-Field-clause-stands
-read-requires-in-Field-clause-stands g c = stands_behind c.requires.known (field c.args.self.now.plan.now g.T.Track.takes c.args.track.now c.args.self.now.values.items c.args.self.now.pace c.args.source.now c.requires.known c.requires.stands c.in-Field.unit c.number_of.result (c.in-Field.unit * c.number_of.result) c.in-Field.count (entered g.T.Track.takes c.args.self.now.plan.now.nodes c.in-Field.is c.node-node.ensures.node c.step.ensures) c.number_of.ensures.count refl)
+pub read-requires-in-Field : goal.read-requires-in-Field
+read-requires-in-Field g c = record { node = c.node-node.ensures.node; stands = stands_behind c.requires.known (field c.args.self.now.plan.now g.T.Track.takes c.args.track.now c.args.self.now.values.items c.args.self.now.pace c.args.source.now c.requires.known c.requires.stands c.in-Field.unit c.number_of.result (c.in-Field.unit * c.number_of.result) c.in-Field.count (entered g.T.Track.takes c.args.self.now.plan.now.nodes c.in-Field.is c.node-node.ensures.node c.step.ensures) c.number_of.ensures.count refl) }
 
-pub returns-in-Field-clause-turns : goal.returns-in-Field-clause-turns
-returns-in-Field-clause-turns g c =
-    turns_then c.args.self.now.plan.now g.T.Track.takes (state_of c.read-in-Field.new.self c.read-in-Field.new.source) c.read-in-Field.new.track c.read-in-Field.result c.none_behind_end.ensures
-    (λ stack done stands. field c.args.self.now.plan.now g.T.Track.takes c.args.track.now c.args.self.now.values.items c.args.self.now.pace c.args.source.now c.requires.known stands c.in-Field.unit c.number_of.result (c.in-Field.unit * c.number_of.result) c.in-Field.count (entered g.T.Track.takes c.args.self.now.plan.now.nodes c.in-Field.is c.node-node.ensures.node c.step.ensures) c.number_of.ensures.count refl)
-    c.read-in-Field.ensures.turns
+pub returns-in-Field : goal.returns-in-Field
+returns-in-Field g c =
+    let t = leaf_turn c.args.self.now.plan.now g.T.Track.takes c.args.self.now c.args.source.now c.args.i (frame.Leaf c.args.i (leaf.Field (c.in-Field.unit * c.number_of.result))) c.args.track.now c.step.new.self (state_of c.read-in-Field.new.self c.read-in-Field.new.source) c.read-in-Field.new.track c.args.steps.now c.read-in-Field.result (omega arith) c.node-node.ensures.step c.read-in-Field.ensures.turns c.read-in-Field.ensures.pays c.none_behind_end.ensures
+    (λ stack done stands. field c.args.self.now.plan.now g.T.Track.takes c.args.track.now c.args.self.now.values.items c.args.self.now.pace c.args.source.now c.requires.known stands c.in-Field.unit c.number_of.result (c.in-Field.unit * c.number_of.result) c.in-Field.count (entered g.T.Track.takes c.args.self.now.plan.now.nodes c.in-Field.is c.node-node.ensures.node c.step.ensures) c.number_of.ensures.count refl) in
+    record { turns = t.turns; pays = t.pays; plan = c.read-in-Field.ensures.plan }
 
 pub overflow_mul-left : goal.overflow_mul-left
 overflow_mul-left g c =
@@ -79,99 +127,85 @@ overflow_mul-bits g c =
     let d : DescV = c.args.self.now.plan.now in
     omega (arith, window_fits d g.T.Track.takes c.args.track.now c.args.self.now.values.items c.args.self.now.pace c.args.source.now c.requires.known c.requires.stands c.in-Window.unit c.number_of-in-Window.result c.in-Window.part c.in-Window.count (c.node-node.ensures.node ∙ ap (λ n. Some n) c.in-Window.is) c.number_of-in-Window.ensures.small)
 
-pub choose-requires-clause-stands : goal.choose-requires-clause-stands
-choose-requires-clause-stands g c = stands_behind c.requires.known (choice c.args.self.now.plan.now g.T.Track.takes c.args.track.now c.args.self.now.values.items c.args.self.now.pace c.args.source.now c.requires.known c.requires.stands c.in-Choice.field-0 (entered g.T.Track.takes c.args.self.now.plan.now.nodes c.in-Choice.is c.node-node.ensures.node c.step.ensures))
+pub choose-requires : goal.choose-requires
+choose-requires g c = record { node = c.node-node.ensures.node; stands = stands_behind c.requires.known (choice c.args.self.now.plan.now g.T.Track.takes c.args.track.now c.args.self.now.values.items c.args.self.now.pace c.args.source.now c.requires.known c.requires.stands c.in-Choice.field-0 (entered g.T.Track.takes c.args.self.now.plan.now.nodes c.in-Choice.is c.node-node.ensures.node c.step.ensures)) }
 
-pub returns-in-Choice-clause-turns : goal.returns-in-Choice-clause-turns
-returns-in-Choice-clause-turns g c =
-    turns_then c.args.self.now.plan.now g.T.Track.takes (state_then c.choose.result c.choose.new.self c.choose.new.source) c.choose.new.track (turn_in c.choose.result) c.none_behind_end.ensures
-    (λ stack done stands. choice c.args.self.now.plan.now g.T.Track.takes c.args.track.now c.args.self.now.values.items c.args.self.now.pace c.args.source.now c.requires.known stands c.in-Choice.field-0 (entered g.T.Track.takes c.args.self.now.plan.now.nodes c.in-Choice.is c.node-node.ensures.node c.step.ensures))
-    c.choose.ensures.turns
+pub returns-in-Choice : goal.returns-in-Choice
+returns-in-Choice g c = record {
+  turns =
+      turns_then c.args.self.now.plan.now g.T.Track.takes (state_then c.choose.result c.choose.new.self c.choose.new.source) c.choose.new.track (turn_in c.choose.result) c.none_behind_end.ensures
+      (λ stack done stands. choice c.args.self.now.plan.now g.T.Track.takes c.args.track.now c.args.self.now.values.items c.args.self.now.pace c.args.source.now c.requires.known stands c.in-Choice.field-0 (entered g.T.Track.takes c.args.self.now.plan.now.nodes c.in-Choice.is c.node-node.ensures.node c.step.ensures))
+      c.choose.ensures.turns;
+  pays = step_before (credit_in c.args.self.now.plan.now (state_with (frame.Open c.args.i) c.args.self.now c.args.source.now)) (credit_in c.args.self.now.plan.now (state_then c.choose.result c.choose.new.self c.choose.new.source)) c.args.steps.now c.choose.new.steps (turn_in c.choose.result) c.node-node.ensures.step c.choose.ensures.pays;
+  plan = c.choose.ensures.plan;
+}
 
 pub times-requires : goal.times-requires
 times-requires g c = stands_behind c.requires.known (turns c.args.self.now.plan.now g.T.Track.takes c.args.track.now c.args.self.now.values.items c.args.self.now.pace c.args.source.now c.requires.known c.requires.stands c.number_of-left.result c.in-Times.part c.in-Times.count (entered g.T.Track.takes c.args.self.now.plan.now.nodes c.in-Times.is c.node-node.ensures.node c.step.ensures) c.number_of-left.ensures.count)
 
-pub returns-in-Times-clause-turns : goal.returns-in-Times-clause-turns
-returns-in-Times-clause-turns g c =
-    turns_then c.args.self.now.plan.now g.T.Track.takes (state_then c.times.result c.times.new.self c.args.source.now) c.times.new.track (turn_in c.times.result) c.none_behind_end.ensures
-    (λ stack done stands. turns c.args.self.now.plan.now g.T.Track.takes c.args.track.now c.args.self.now.values.items c.args.self.now.pace c.args.source.now c.requires.known stands c.number_of-left.result c.in-Times.part c.in-Times.count (entered g.T.Track.takes c.args.self.now.plan.now.nodes c.in-Times.is c.node-node.ensures.node c.step.ensures) c.number_of-left.ensures.count)
-    c.times.ensures.turns
+pub returns-in-Times : goal.returns-in-Times
+returns-in-Times g c =
+    let t = node_turn c.args.self.now.plan.now g.T.Track.takes c.args.self.now c.args.source.now c.args.i (frame.Times c.args.i c.in-Times.part c.number_of-left.result) c.args.track.now c.step.new.self (state_then c.times.result c.times.new.self c.args.source.now) c.times.new.track c.args.steps.now c.times.new.steps (turn_in c.times.result) (omega arith) c.node-node.ensures.step c.times.ensures.turns c.times.ensures.pays c.none_behind_end.ensures
+    (λ stack done stands. turns c.args.self.now.plan.now g.T.Track.takes c.args.track.now c.args.self.now.values.items c.args.self.now.pace c.args.source.now c.requires.known stands c.number_of-left.result c.in-Times.part c.in-Times.count (entered g.T.Track.takes c.args.self.now.plan.now.nodes c.in-Times.is c.node-node.ensures.node c.step.ensures) c.number_of-left.ensures.count) in
+    record { turns = t.turns; pays = t.pays; plan = c.times.ensures.plan }
 
 pub many-requires : goal.many-requires
 many-requires g c = stands_behind c.requires.known (free c.args.self.now.plan.now g.T.Track.takes c.args.track.now c.args.self.now.values.items c.args.self.now.pace c.args.source.now c.requires.known c.requires.stands c.in-Many.part (entered g.T.Track.takes c.args.self.now.plan.now.nodes c.in-Many.is c.node-node.ensures.node c.step.ensures))
 
-pub returns-in-Many-clause-turns : goal.returns-in-Many-clause-turns
-returns-in-Many-clause-turns g c =
-    turns_then c.args.self.now.plan.now g.T.Track.takes (state_then c.many.result c.many.new.self c.many.new.source) c.many.new.track (turn_in c.many.result) c.none_behind_end.ensures
-    (λ stack done stands. free c.args.self.now.plan.now g.T.Track.takes c.args.track.now c.args.self.now.values.items c.args.self.now.pace c.args.source.now c.requires.known stands c.in-Many.part (entered g.T.Track.takes c.args.self.now.plan.now.nodes c.in-Many.is c.node-node.ensures.node c.step.ensures))
-    c.many.ensures.turns
+pub returns-in-Many : goal.returns-in-Many
+returns-in-Many g c =
+    let t = node_turn c.args.self.now.plan.now g.T.Track.takes c.args.self.now c.args.source.now c.args.i (frame.Many c.args.i c.in-Many.part) c.args.track.now c.step.new.self (state_then c.many.result c.many.new.self c.many.new.source) c.many.new.track c.args.steps.now c.many.new.steps (turn_in c.many.result) (omega arith) c.node-node.ensures.step c.many.ensures.turns c.many.ensures.pays c.none_behind_end.ensures
+    (λ stack done stands. free c.args.self.now.plan.now g.T.Track.takes c.args.track.now c.args.self.now.values.items c.args.self.now.pace c.args.source.now c.requires.known stands c.in-Many.part (entered g.T.Track.takes c.args.self.now.plan.now.nodes c.in-Many.is c.node-node.ensures.node c.step.ensures)) in
+    record { turns = t.turns; pays = t.pays; plan = c.many.ensures.plan }
 
 pub trunc-requires : goal.trunc-requires
 trunc-requires g c = stands_behind c.requires.known (truncation c.args.self.now.plan.now g.T.Track.takes c.args.track.now c.args.self.now.values.items c.args.self.now.pace c.args.source.now c.requires.known c.requires.stands c.in-Trunc.field-0 _ (entered g.T.Track.takes c.args.self.now.plan.now.nodes c.in-Trunc.is c.node-node.ensures.node c.step.ensures) c.len-values.ensures.value)
 
-pub returns-in-Trunc-clause-turns : goal.returns-in-Trunc-clause-turns
-returns-in-Trunc-clause-turns g c =
-    turns_then c.args.self.now.plan.now g.T.Track.takes (state_then c.trunc.result c.trunc.new.self c.trunc.new.source) c.trunc.new.track (turn_in c.trunc.result) c.none_behind_end.ensures
-    (λ stack done stands. truncation c.args.self.now.plan.now g.T.Track.takes c.args.track.now c.args.self.now.values.items c.args.self.now.pace c.args.source.now c.requires.known stands c.in-Trunc.field-0 _ (entered g.T.Track.takes c.args.self.now.plan.now.nodes c.in-Trunc.is c.node-node.ensures.node c.step.ensures) c.len-values.ensures.value)
-    c.trunc.ensures.turns
+pub returns-in-Trunc : goal.returns-in-Trunc
+returns-in-Trunc g c =
+    let t = node_turn c.args.self.now.plan.now g.T.Track.takes c.args.self.now c.args.source.now c.args.i (frame.Trunc c.args.i 0 c.len-values.result) c.args.track.now c.step.new.self (state_then c.trunc.result c.trunc.new.self c.trunc.new.source) c.trunc.new.track c.args.steps.now c.trunc.new.steps (turn_in c.trunc.result) (omega arith) c.node-node.ensures.step c.trunc.ensures.turns c.trunc.ensures.pays c.none_behind_end.ensures
+    (λ stack done stands. truncation c.args.self.now.plan.now g.T.Track.takes c.args.track.now c.args.self.now.values.items c.args.self.now.pace c.args.source.now c.requires.known stands c.in-Trunc.field-0 _ (entered g.T.Track.takes c.args.self.now.plan.now.nodes c.in-Trunc.is c.node-node.ensures.node c.step.ensures) c.len-values.ensures.value) in
+    record { turns = t.turns; pays = t.pays; plan = c.trunc.ensures.plan }
 
-pub returns-in-Null-clause-turns : goal.returns-in-Null-clause-turns
-returns-in-Null-clause-turns g c =
-    let d : DescV = c.args.self.now.plan.now in
-    λ stack done stands.
-    null d g.T.Track.takes c.args.track.now c.args.self.now.values.items c.args.self.now.pace c.args.source.now c.requires.known stands c.step-in-Null.new.self (entered g.T.Track.takes c.args.self.now.plan.now.nodes c.in-Null.is c.node-node.ensures.node c.step.ensures)
-    (subst (λ (n : Node). g.T.Track.takes c.step.new.self Leave n c.step-in-Null.new.self) c.in-Null.is c.step-in-Null.ensures)
+pub returns-in-Null : goal.returns-in-Null
+returns-in-Null g c = record {
+  turns =
+      let d : DescV = c.args.self.now.plan.now in
+      λ stack done stands.
+      null d g.T.Track.takes c.args.track.now c.args.self.now.values.items c.args.self.now.pace c.args.source.now c.requires.known stands c.step-in-Null.new.self (entered g.T.Track.takes c.args.self.now.plan.now.nodes c.in-Null.is c.node-node.ensures.node c.step.ensures)
+      (subst (λ (n : Node). g.T.Track.takes c.step.new.self Leave n c.step-in-Null.new.self) c.in-Null.is c.step-in-Null.ensures);
+  pays = left_pays (length c.args.self.now.plan.now.nodes) c.args.steps.now (length c.args.source.now.bits) 1 (frame.Begin c.args.i) refl refl c.node-node.ensures.step (omega arith) (omega arith);
+  plan = refl;
+}
 
 pub get-part-requires : goal.get-part-requires
 get-part-requires g c =
     let d : DescV = c.args.self.now.plan.now in
     some_parts d g.T.Track.takes c.args.track.now c.args.self.now.values.items c.args.self.now.pace c.args.source.now c.requires.known c.requires.stands c.in-Seq.parts (c.node-node.ensures.node ∙ ap (λ n. Some n) c.in-Seq.is)
 
-pub begin-requires-clause-few : goal.begin-requires-clause-few
-begin-requires-clause-few g c =
-    let d : DescV = c.args.self.now.plan.now in
-    let on = sequence d g.T.Track.takes c.args.track.now c.args.self.now.values.items c.args.self.now.pace c.args.source.now c.requires.known c.requires.stands c.in-Seq.parts c.get-part.result (length c.args.self.now.values.items) (entered g.T.Track.takes c.args.self.now.plan.now.nodes c.in-Seq.is c.node-node.ensures.node c.step.ensures) c.get-part.ensures refl in
-    let begins = begin_room c.requires.known on.stands.shows on.stands.stack_is in
-    omega (arith, begins.0)
-
-pub begin-requires-clause-room : goal.begin-requires-clause-room
-begin-requires-clause-room g c =
-    let d : DescV = c.args.self.now.plan.now in
-    let on = sequence d g.T.Track.takes c.args.track.now c.args.self.now.values.items c.args.self.now.pace c.args.source.now c.requires.known c.requires.stands c.in-Seq.parts c.get-part.result (length c.args.self.now.values.items) (entered g.T.Track.takes c.args.self.now.plan.now.nodes c.in-Seq.is c.node-node.ensures.node c.step.ensures) c.get-part.ensures refl in
-    let begins = begin_room c.requires.known on.stands.shows on.stands.stack_is in
-    omega (arith, begins.1, length-reverse c.args.self.now.frames.items)
+pub begin-requires : goal.begin-requires
+begin-requires g c =
+    let room = frame_room c.args.self.now.frames.items c.requires.known (sequence c.args.self.now.plan.now g.T.Track.takes c.args.track.now c.args.self.now.values.items c.args.self.now.pace c.args.source.now c.requires.known c.requires.stands c.in-Seq.parts c.get-part.result (length c.args.self.now.values.items) (entered g.T.Track.takes c.args.self.now.plan.now.nodes c.in-Seq.is c.node-node.ensures.node c.step.ensures) c.get-part.ensures refl) in
+    record { few = room.0; room = room.1 }
 
 pub returns-in-Seq-clause-turns : goal.returns-in-Seq-clause-turns
 returns-in-Seq-clause-turns g c =
-    let d : DescV = c.args.self.now.plan.now in
     λ stack done stands.
-    GoesOn-along d g.T.Track.takes c.args.track.now c.args.self.now.values.items c.args.self.now.pace c.args.source.now (ap (λ (l : List Frame). frame.Begin c.get-part.result ∷ l) c.begin.ensures.frames) (ap (λ v. v.items) c.begin.ensures.values) c.begin.ensures.pace
-    (sequence d g.T.Track.takes c.args.track.now c.args.self.now.values.items c.args.self.now.pace c.args.source.now c.requires.known stands c.in-Seq.parts c.get-part.result _ (entered g.T.Track.takes c.args.self.now.plan.now.nodes c.in-Seq.is c.node-node.ensures.node c.step.ensures) c.get-part.ensures c.len-values.ensures.value)
+    GoesOn-along c.args.self.now.plan.now g.T.Track.takes c.args.track.now c.args.self.now.values.items c.args.self.now.pace c.args.source.now (ap (λ (l : List Frame). frame.Begin c.get-part.result ∷ l) c.begin.ensures.frames) (ap (λ v. v.items) c.begin.ensures.values) c.begin.ensures.pace
+    (sequence c.args.self.now.plan.now g.T.Track.takes c.args.track.now c.args.self.now.values.items c.args.self.now.pace c.args.source.now c.requires.known stands c.in-Seq.parts c.get-part.result _ (entered g.T.Track.takes c.args.self.now.plan.now.nodes c.in-Seq.is c.node-node.ensures.node c.step.ensures) c.get-part.ensures c.len-values.ensures.value)
 
-pub enter_window-requires-clause-few : goal.enter_window-requires-clause-few
-enter_window-requires-clause-few g c =
-    let d : DescV = c.args.self.now.plan.now in
+pub enter_window-requires : goal.enter_window-requires
+enter_window-requires g c =
     let bits : ℕ = c.in-Window.unit * c.number_of-in-Window.result in
     let later : Coming = record { bits = c.args.source.now.bits; held = c.args.source.now.held; place = c.args.source.now.place; limit = min c.args.source.now.limit (c.args.source.now.place + bits); ended = c.args.source.now.ended } in
-    let on = window d g.T.Track.takes c.args.track.now c.args.self.now.values.items c.args.self.now.pace c.args.source.now c.requires.known c.requires.stands c.in-Window.unit c.number_of-in-Window.result c.in-Window.part (c.in-Window.unit * c.number_of-in-Window.result) c.in-Window.count later (entered g.T.Track.takes c.args.self.now.plan.now.nodes c.in-Window.is c.node-node.ensures.node c.step.ensures) c.number_of-in-Window.ensures.count refl refl refl refl refl in
-    let begins = begin_room c.requires.known on.stands.shows on.stands.stack_is in
-    omega (arith, begins.0)
-
-pub enter_window-requires-clause-room : goal.enter_window-requires-clause-room
-enter_window-requires-clause-room g c =
-    let d : DescV = c.args.self.now.plan.now in
-    let bits : ℕ = c.in-Window.unit * c.number_of-in-Window.result in
-    let later : Coming = record { bits = c.args.source.now.bits; held = c.args.source.now.held; place = c.args.source.now.place; limit = min c.args.source.now.limit (c.args.source.now.place + bits); ended = c.args.source.now.ended } in
-    let on = window d g.T.Track.takes c.args.track.now c.args.self.now.values.items c.args.self.now.pace c.args.source.now c.requires.known c.requires.stands c.in-Window.unit c.number_of-in-Window.result c.in-Window.part (c.in-Window.unit * c.number_of-in-Window.result) c.in-Window.count later (entered g.T.Track.takes c.args.self.now.plan.now.nodes c.in-Window.is c.node-node.ensures.node c.step.ensures) c.number_of-in-Window.ensures.count refl refl refl refl refl in
-    let begins = begin_room c.requires.known on.stands.shows on.stands.stack_is in
-    omega (arith, begins.1, length-reverse c.args.self.now.frames.items)
+    let room = frame_room c.args.self.now.frames.items c.requires.known (window c.args.self.now.plan.now g.T.Track.takes c.args.track.now c.args.self.now.values.items c.args.self.now.pace c.args.source.now c.requires.known c.requires.stands c.in-Window.unit c.number_of-in-Window.result c.in-Window.part (c.in-Window.unit * c.number_of-in-Window.result) c.in-Window.count later (entered g.T.Track.takes c.args.self.now.plan.now.nodes c.in-Window.is c.node-node.ensures.node c.step.ensures) c.number_of-in-Window.ensures.count refl refl refl refl refl) in
+    record { few = room.0; room = room.1 }
 
 pub returns-in-Window-clause-turns : goal.returns-in-Window-clause-turns
 returns-in-Window-clause-turns g c =
-    let d : DescV = c.args.self.now.plan.now in
     λ stack done stands.
-    GoesOn-along d g.T.Track.takes c.args.track.now c.args.self.now.values.items c.args.self.now.pace c.enter_window.new.source (ap (λ (l : List Frame). frame.Begin c.in-Window.part ∷ l) c.enter_window.ensures.frames) (ap (λ v. v.items) c.enter_window.ensures.values) c.enter_window.ensures.pace
-    (window d g.T.Track.takes c.args.track.now c.args.self.now.values.items c.args.self.now.pace c.args.source.now c.requires.known stands c.in-Window.unit c.number_of-in-Window.result c.in-Window.part (c.in-Window.unit * c.number_of-in-Window.result) c.in-Window.count c.enter_window.new.source (entered g.T.Track.takes c.args.self.now.plan.now.nodes c.in-Window.is c.node-node.ensures.node c.step.ensures) c.number_of-in-Window.ensures.count refl
+    GoesOn-along c.args.self.now.plan.now g.T.Track.takes c.args.track.now c.args.self.now.values.items c.args.self.now.pace c.enter_window.new.source (ap (λ (l : List Frame). frame.Begin c.in-Window.part ∷ l) c.enter_window.ensures.frames) (ap (λ v. v.items) c.enter_window.ensures.values) c.enter_window.ensures.pace
+    (window c.args.self.now.plan.now g.T.Track.takes c.args.track.now c.args.self.now.values.items c.args.self.now.pace c.args.source.now c.requires.known stands c.in-Window.unit c.number_of-in-Window.result c.in-Window.part (c.in-Window.unit * c.number_of-in-Window.result) c.in-Window.count c.enter_window.new.source (entered g.T.Track.takes c.args.self.now.plan.now.nodes c.in-Window.is c.node-node.ensures.node c.step.ensures) c.number_of-in-Window.ensures.count refl
     c.enter_window.ensures.bits c.enter_window.ensures.ended c.enter_window.ensures.place c.enter_window.ensures.limit)
 
 pub number_of-requires : goal.number_of-requires
@@ -209,115 +243,18 @@ returns-in-Window-clause-pays g c =
     (ap (λ (l : List ℕ). length l) c.enter_window.ensures.bits) (ap (λ (l : List Frame). frame.Begin c.in-Window.part ∷ l) c.enter_window.ensures.frames) c.enter_window.ensures.pace c.node-node.ensures.step (begin_within on.stands.shows on.stands.stack_is)
     (inl (first_rises d g.T.Track.takes c.args.track.now c.args.self.now.values.items c.args.self.now.pace c.args.source.now c.requires.known c.requires.stands c.in-Window.part (c.in-Window.part ∷ []) (Window c.in-Window.unit c.in-Window.count c.in-Window.part) (c.node-node.ensures.node ∙ ap (λ n. Some n) c.in-Window.is) refl refl)) (omega arith) (omega arith)
 
-pub read-requires-clause-node : goal.read-requires-clause-node
-read-requires-clause-node g c = c.node-node.ensures.node
-
-pub returns-in-Lits-clause-pays : goal.returns-in-Lits-clause-pays
-returns-in-Lits-clause-pays g c =
-    heavier_with (length c.args.self.now.plan.now.nodes) (frame.Begin c.args.i) (frame.Leaf c.args.i (leaf.Lits 0)) (reverse c.args.self.now.frames.items) c.args.self.now.pace (length c.args.source.now.bits) (credit_in c.args.self.now.plan.now (state_of c.read.new.self c.read.new.source)) c.args.steps.now c.read.result (omega arith) c.node-node.ensures.step c.read.ensures.pays
-
-pub returns-in-Lits-clause-plan : goal.returns-in-Lits-clause-plan
-returns-in-Lits-clause-plan g c = c.read.ensures.plan
-
-pub read-requires-in-Spare-clause-node : goal.read-requires-in-Spare-clause-node
-read-requires-in-Spare-clause-node g c = c.node-node.ensures.node
-
-pub returns-in-Spare-clause-pays : goal.returns-in-Spare-clause-pays
-returns-in-Spare-clause-pays g c =
-    heavier_with (length c.args.self.now.plan.now.nodes) (frame.Begin c.args.i) (frame.Leaf c.args.i (leaf.Spare)) (reverse c.args.self.now.frames.items) c.args.self.now.pace (length c.args.source.now.bits) (credit_in c.args.self.now.plan.now (state_of c.read-in-Spare.new.self c.read-in-Spare.new.source)) c.args.steps.now c.read-in-Spare.result (omega arith) c.node-node.ensures.step c.read-in-Spare.ensures.pays
-
-pub returns-in-Spare-clause-plan : goal.returns-in-Spare-clause-plan
-returns-in-Spare-clause-plan g c = c.read-in-Spare.ensures.plan
-
-pub read-requires-in-Pad-clause-node : goal.read-requires-in-Pad-clause-node
-read-requires-in-Pad-clause-node g c = c.node-node.ensures.node
-
-pub returns-in-Pad-clause-pays : goal.returns-in-Pad-clause-pays
-returns-in-Pad-clause-pays g c =
-    heavier_with (length c.args.self.now.plan.now.nodes) (frame.Begin c.args.i) (frame.Leaf c.args.i (leaf.Pad false)) (reverse c.args.self.now.frames.items) c.args.self.now.pace (length c.args.source.now.bits) (credit_in c.args.self.now.plan.now (state_of c.read-in-Pad.new.self c.read-in-Pad.new.source)) c.args.steps.now c.read-in-Pad.result (omega arith) c.node-node.ensures.step c.read-in-Pad.ensures.pays
-
-pub returns-in-Pad-clause-plan : goal.returns-in-Pad-clause-plan
-returns-in-Pad-clause-plan g c = c.read-in-Pad.ensures.plan
-
-pub read-requires-in-Field-clause-node : goal.read-requires-in-Field-clause-node
-read-requires-in-Field-clause-node g c = c.node-node.ensures.node
-
-pub returns-in-Field-clause-pays : goal.returns-in-Field-clause-pays
-returns-in-Field-clause-pays g c =
-    heavier_with (length c.args.self.now.plan.now.nodes) (frame.Begin c.args.i) (frame.Leaf c.args.i (leaf.Field (c.in-Field.unit * c.number_of.result))) (reverse c.args.self.now.frames.items) c.args.self.now.pace (length c.args.source.now.bits) (credit_in c.args.self.now.plan.now (state_of c.read-in-Field.new.self c.read-in-Field.new.source)) c.args.steps.now c.read-in-Field.result (omega arith) c.node-node.ensures.step c.read-in-Field.ensures.pays
-
-pub returns-in-Field-clause-plan : goal.returns-in-Field-clause-plan
-returns-in-Field-clause-plan g c = c.read-in-Field.ensures.plan
-
-pub read-requires-in-Rest-clause-node : goal.read-requires-in-Rest-clause-node
-read-requires-in-Rest-clause-node g c = c.node-node.ensures.node
-
-pub returns-in-Rest-clause-pays : goal.returns-in-Rest-clause-pays
-returns-in-Rest-clause-pays g c =
-    heavier_with (length c.args.self.now.plan.now.nodes) (frame.Begin c.args.i) (frame.Leaf c.args.i (leaf.Rest)) (reverse c.args.self.now.frames.items) c.args.self.now.pace (length c.args.source.now.bits) (credit_in c.args.self.now.plan.now (state_of c.read-in-Rest.new.self c.read-in-Rest.new.source)) c.args.steps.now c.read-in-Rest.result (omega arith) c.node-node.ensures.step c.read-in-Rest.ensures.pays
-
-pub returns-in-Rest-clause-plan : goal.returns-in-Rest-clause-plan
-returns-in-Rest-clause-plan g c = c.read-in-Rest.ensures.plan
-
-pub returns-in-Null-clause-pays : goal.returns-in-Null-clause-pays
-returns-in-Null-clause-pays g c = left_pays (length c.args.self.now.plan.now.nodes) c.args.steps.now (length c.args.source.now.bits) 1 (frame.Begin c.args.i) refl refl c.node-node.ensures.step (omega arith) (omega arith)
-
-pub returns-in-Null-clause-plan : goal.returns-in-Null-clause-plan
-returns-in-Null-clause-plan g c = refl
-
-pub choose-requires-clause-node : goal.choose-requires-clause-node
-choose-requires-clause-node g c = c.node-node.ensures.node
-
 pub enter_named-requires-clause-node : goal.enter_named-requires-clause-node
 enter_named-requires-clause-node g c = c.node-node.ensures.node
 
 pub enter_named-requires-clause-stands : goal.enter_named-requires-clause-stands
 enter_named-requires-clause-stands g c = c.requires
 
-pub returns-in-Named-clause-turns : goal.returns-in-Named-clause-turns
-returns-in-Named-clause-turns g c = c.enter_named.ensures.turns c.args.track.now c.node-node.result.now c.node-node.ensures.node c.step.ensures
-
-pub returns-in-Choice-clause-pays : goal.returns-in-Choice-clause-pays
-returns-in-Choice-clause-pays g c =
-    let before = credit_in c.args.self.now.plan.now (state_with (frame.Open c.args.i) c.args.self.now c.args.source.now) in
-    let after = credit_in c.args.self.now.plan.now (state_then c.choose.result c.choose.new.self c.choose.new.source) in
-    paid_before before after c.args.steps.now c.choose.new.steps (turn_in c.choose.result) (subst (λ (k : ℕ). Pays before after k (c.choose.new.steps + 1) (turn_in c.choose.result)) c.node-node.ensures.step c.choose.ensures.pays)
-
-pub returns-in-Named-clause-pays : goal.returns-in-Named-clause-pays
-returns-in-Named-clause-pays g c =
-    let before = credit_in c.args.self.now.plan.now (state_with (frame.Begin c.args.i) c.args.self.now c.args.source.now) in
-    let after = credit_in c.args.self.now.plan.now (state_then c.enter_named.result c.enter_named.new.self c.enter_named.new.source) in
-    paid_before before after c.args.steps.now c.enter_named.new.steps (turn_in c.enter_named.result) (subst (λ (k : ℕ). Pays before after k (c.enter_named.new.steps + 1) (turn_in c.enter_named.result)) c.node-node.ensures.step c.enter_named.ensures.pays)
-
-pub returns-in-Times-clause-pays : goal.returns-in-Times-clause-pays
-returns-in-Times-clause-pays g c =
-    heavier_steps (length c.args.self.now.plan.now.nodes) (frame.Begin c.args.i) (frame.Times c.args.i c.in-Times.part c.number_of-left.result) (reverse c.args.self.now.frames.items) c.args.self.now.pace (length c.args.source.now.bits) (credit_in c.args.self.now.plan.now (state_then c.times.result c.times.new.self c.args.source.now)) c.args.steps.now c.times.new.steps (turn_in c.times.result)
-    (omega arith) c.node-node.ensures.step c.times.ensures.pays
-
-pub returns-in-Many-clause-pays : goal.returns-in-Many-clause-pays
-returns-in-Many-clause-pays g c =
-    heavier_steps (length c.args.self.now.plan.now.nodes) (frame.Begin c.args.i) (frame.Many c.args.i c.in-Many.part) (reverse c.args.self.now.frames.items) c.args.self.now.pace (length c.args.source.now.bits) (credit_in c.args.self.now.plan.now (state_then c.many.result c.many.new.self c.many.new.source)) c.args.steps.now c.many.new.steps (turn_in c.many.result)
-    (omega arith) c.node-node.ensures.step c.many.ensures.pays
-
-pub returns-in-Trunc-clause-pays : goal.returns-in-Trunc-clause-pays
-returns-in-Trunc-clause-pays g c =
-    heavier_steps (length c.args.self.now.plan.now.nodes) (frame.Begin c.args.i) (frame.Trunc c.args.i 0 c.len-values.result) (reverse c.args.self.now.frames.items) c.args.self.now.pace (length c.args.source.now.bits) (credit_in c.args.self.now.plan.now (state_then c.trunc.result c.trunc.new.self c.trunc.new.source)) c.args.steps.now c.trunc.new.steps (turn_in c.trunc.result)
-    (omega arith) c.node-node.ensures.step c.trunc.ensures.pays
-
-pub returns-in-Choice-clause-plan : goal.returns-in-Choice-clause-plan
-returns-in-Choice-clause-plan g c = c.choose.ensures.plan
-
-pub returns-in-Named-clause-plan : goal.returns-in-Named-clause-plan
-returns-in-Named-clause-plan g c = c.enter_named.ensures.plan
-
-pub returns-in-Times-clause-plan : goal.returns-in-Times-clause-plan
-returns-in-Times-clause-plan g c = c.times.ensures.plan
-
-pub returns-in-Many-clause-plan : goal.returns-in-Many-clause-plan
-returns-in-Many-clause-plan g c = c.many.ensures.plan
-
-pub returns-in-Trunc-clause-plan : goal.returns-in-Trunc-clause-plan
-returns-in-Trunc-clause-plan g c = c.trunc.ensures.plan
+pub returns-in-Named : goal.returns-in-Named
+returns-in-Named g c = record {
+  turns = c.enter_named.ensures.turns c.args.track.now c.node-node.result.now c.node-node.ensures.node c.step.ensures;
+  pays = step_before (credit_in c.args.self.now.plan.now (state_with (frame.Begin c.args.i) c.args.self.now c.args.source.now)) (credit_in c.args.self.now.plan.now (state_then c.enter_named.result c.enter_named.new.self c.enter_named.new.source)) c.args.steps.now c.enter_named.new.steps (turn_in c.enter_named.result) c.node-node.ensures.step c.enter_named.ensures.pays;
+  plan = c.enter_named.ensures.plan;
+}
 
 pub returns-in-Seq-clause-plan : goal.returns-in-Seq-clause-plan
 returns-in-Seq-clause-plan g c = c.begin.ensures.plan
