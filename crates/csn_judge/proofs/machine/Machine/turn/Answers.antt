@@ -34,14 +34,8 @@ returns-in-Begin g c = record {
   plan = refl;
 }
 
-pub read_on-requires : goal.read_on-requires
-read_on-requires g c = popped_stands (popped c.args.self.now c.pop.new.self.items c.in-Some.ensures.items c.in-Leaf.is) c.args.source.now c.requires.stands
-
 pub returns-in-Leaf : goal.returns-in-Leaf
 returns-in-Leaf g c = let t = popped_turn (popped c.args.self.now c.pop.new.self.items c.in-Some.ensures.items c.in-Leaf.is) c.args.source.now g.T.Track.takes (state_of c.read_on.new.self c.read_on.new.source) c.args.track.now c.read_on.new.track c.args.steps.now c.read_on.new.steps c.read_on.result c.read_on.ensures.turns c.read_on.ensures.pays in record { turns = t.turns; pays = t.pays; plan = c.read_on.ensures.plan }
-
-pub count-requires : goal.count-requires
-count-requires g c = popped_stands (popped c.args.self.now c.pop.new.self.items c.in-Some.ensures.items c.in-Counted.is) c.args.source.now c.requires.stands
 
 pub returns-in-Counted : goal.returns-in-Counted
 returns-in-Counted g c = let t = popped_turn (popped c.args.self.now c.pop.new.self.items c.in-Some.ensures.items c.in-Counted.is) c.args.source.now g.T.Track.takes (state_of c.count.new.self c.count.new.source) c.args.track.now c.count.new.track c.args.steps.now c.count.new.steps c.count.result c.count.ensures.turns c.count.ensures.pays in record { turns = t.turns; pays = t.pays; plan = c.count.ensures.plan }
@@ -52,14 +46,8 @@ seq-requires g c = record { stands = popped_stands (popped c.args.self.now c.pop
 pub returns-in-Seq : goal.returns-in-Seq
 returns-in-Seq g c = let t = popped_next (popped c.args.self.now c.pop.new.self.items c.in-Some.ensures.items c.in-Seq.is) c.args.source.now g.T.Track.takes (state_then c.seq.result c.seq.new.self c.seq.new.source) c.args.track.now c.seq.new.track c.args.steps.now c.seq.new.steps c.seq.result c.seq.ensures.turns c.seq.ensures.pays in record { turns = t.turns; pays = t.pays; plan = c.seq.ensures.plan }
 
-pub trunc-requires : goal.trunc-requires
-trunc-requires g c = popped_stands (popped c.args.self.now c.pop.new.self.items c.in-Some.ensures.items c.in-Trunc.is) c.args.source.now c.requires.stands
-
 pub returns-in-Trunc : goal.returns-in-Trunc
 returns-in-Trunc g c = let t = popped_next (popped c.args.self.now c.pop.new.self.items c.in-Some.ensures.items c.in-Trunc.is) c.args.source.now g.T.Track.takes (state_then c.trunc.result c.trunc.new.self c.trunc.new.source) c.args.track.now c.trunc.new.track c.args.steps.now c.trunc.new.steps c.trunc.result c.trunc.ensures.turns c.trunc.ensures.pays in record { turns = t.turns; pays = t.pays; plan = c.trunc.ensures.plan }
-
-pub choose_on-requires : goal.choose_on-requires
-choose_on-requires g c = popped_stands (popped c.args.self.now c.pop.new.self.items c.in-Some.ensures.items c.in-Open.is) c.args.source.now c.requires.stands
 
 pub returns-in-Open : goal.returns-in-Open
 returns-in-Open g c = let t = popped_next (popped c.args.self.now c.pop.new.self.items c.in-Some.ensures.items c.in-Open.is) c.args.source.now g.T.Track.takes (state_then c.choose_on.result c.choose_on.new.self c.choose_on.new.source) c.args.track.now c.choose_on.new.track c.args.steps.now c.choose_on.new.steps c.choose_on.result c.choose_on.ensures.turns c.choose_on.ensures.pays in record { turns = t.turns; pays = t.pays; plan = c.choose_on.ensures.plan }
@@ -72,20 +60,11 @@ returns-in-Choice g c =
     let t = popped_turn (popped c.args.self.now c.pop.new.self.items c.in-Some.ensures.items c.in-Choice.is) c.args.source.now g.T.Track.takes (state_at (reverse c.pop.new.self.items) c.args.self.now c.args.source.now) c.args.track.now c.pass.new.track c.args.steps.now c.pass.new.steps c.pass.result (c.pass.ensures.turns (frame.Choice c.in-Choice.node) (passed_choice refl)) (c.pass.ensures.pays (frame.Choice c.in-Choice.node) (passed_choice refl)) in
     record { turns = t.turns; pays = t.pays; plan = refl }
 
-pub times-requires : goal.times-requires
-times-requires g c = popped_stands (popped c.args.self.now c.pop.new.self.items c.in-Some.ensures.items c.in-Times.is) c.args.source.now c.requires.stands
-
 pub returns-in-Times : goal.returns-in-Times
 returns-in-Times g c = let t = popped_next (popped c.args.self.now c.pop.new.self.items c.in-Some.ensures.items c.in-Times.is) c.args.source.now g.T.Track.takes (state_then c.times.result c.times.new.self c.args.source.now) c.args.track.now c.times.new.track c.args.steps.now c.times.new.steps c.times.result c.times.ensures.turns c.times.ensures.pays in record { turns = t.turns; pays = t.pays; plan = c.times.ensures.plan }
 
-pub many-requires : goal.many-requires
-many-requires g c = popped_stands (popped c.args.self.now c.pop.new.self.items c.in-Some.ensures.items c.in-Many.is) c.args.source.now c.requires.stands
-
 pub returns-in-Many : goal.returns-in-Many
 returns-in-Many g c = let t = popped_next (popped c.args.self.now c.pop.new.self.items c.in-Some.ensures.items c.in-Many.is) c.args.source.now g.T.Track.takes (state_then c.many.result c.many.new.self c.many.new.source) c.args.track.now c.many.new.track c.args.steps.now c.many.new.steps c.many.result c.many.ensures.turns c.many.ensures.pays in record { turns = t.turns; pays = t.pays; plan = c.many.ensures.plan }
-
-pub window-requires : goal.window-requires
-window-requires g c = popped_stands (popped c.args.self.now c.pop.new.self.items c.in-Some.ensures.items c.in-Window.is) c.args.source.now c.requires.stands
 
 pub returns-in-Window : goal.returns-in-Window
 returns-in-Window g c = let t = popped_turn (popped c.args.self.now c.pop.new.self.items c.in-Some.ensures.items c.in-Window.is) c.args.source.now g.T.Track.takes (state_of c.window.new.self c.window.new.source) c.args.track.now c.window.new.track c.args.steps.now c.window.new.steps c.window.result c.window.ensures.turns c.window.ensures.pays in record { turns = t.turns; pays = t.pays; plan = c.window.ensures.plan }
