@@ -137,7 +137,8 @@ impl Machine<'_> {
         match frame {
             Frame::Begin { node } => Next::Begin { node },
             Frame::Leaf { node, leaf } => {
-                Next::Turn(self.read_on(node, leaf, source, track, steps))
+                let form = self.plan.node(node, steps);
+                Next::Turn(self.read(node, leaf, form, source, track))
             }
             Frame::Counted(counted) => Next::Turn(self.count(counted, source, track, steps)),
             Frame::Seq { node, at, values } => self.seq(node, at, values, source, track, steps),
