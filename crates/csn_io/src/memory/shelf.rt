@@ -55,15 +55,10 @@ impl Shelf for MemShelf {
             return Err(ShelfFault::Missing);
         };
         if fails {
-            return match self.faults.rise(alloc, name) {
-                Ok(()) => Err(ShelfFault::Failed),
-                Err(_) => Err(ShelfFault::NoMemory),
-            };
+            self.faults.rise(alloc, name)?;
+            return Err(ShelfFault::Failed);
         }
-        match front(alloc, file, most) {
-            Ok(front) => Ok(front),
-            Err(_) => Err(ShelfFault::NoMemory),
-        }
+        Ok(front(alloc, file, most)?)
     }
 }
 
