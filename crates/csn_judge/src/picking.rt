@@ -64,7 +64,7 @@ impl Machine<'_> {
             unreachable!();
         };
         let ready = source.ready(MOST_WORD as u32);
-        if source.waits(ready) {
+        if ready == 0 && !source.is_closed() {
             self.frames.push(Frame::Open { node: i });
             return Next::Turn(Turn::Waits);
         }
@@ -242,7 +242,7 @@ impl Machine<'_> {
         ensures plan { self.new.plan ≡ self.old.plan }
     {
         let ready = source.ready(1);
-        if source.waits(ready) {
+        if ready == 0 && !source.is_closed() {
             self.frames.push(Frame::Many { node: i, part });
             return Next::Turn(Turn::Waits);
         }

@@ -164,15 +164,6 @@ impl<'a> Source<'a> {
         self.ended || self.place == self.limit
     }
 
-    /// Whether to wait where so many bits are ready: none is, and one may come.
-    #[inline(always)]
-    pub fn waits(&self, ready: u32) -> bool
-        ensures waits { IsTrue result → (ready ≡ 0) × ¬ ((self.now.ended ≡ true) ⊎ (self.now.place ≡ self.now.limit)) }
-        ensures closed { result ≡ false → ready ≡ 0 → (self.now.ended ≡ true) ⊎ (self.now.place ≡ self.now.limit) }
-    {
-        ready == 0 && !self.is_closed()
-    }
-
     /// Whether no bit comes.
     #[inline(always)]
     pub fn is_empty(&self) -> bool
