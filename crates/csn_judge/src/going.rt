@@ -45,8 +45,7 @@ impl Machine<'_> {
         }
     }
 
-    /// The innermost frame has its turn. What begins by it is read at once or else entered, and so is the part of it that
-    /// begins then, until none does.
+    /// The innermost frame has its turn, and what begins by it is read or entered.
     #[inline(always)]
     fn step<T: Track, L: Ledger>(
         &mut self,
@@ -63,19 +62,60 @@ impl Machine<'_> {
         ensures plan { self.new.plan ≡ self.old.plan }
     {
         source.none_behind_end();
-        let mut begins = match self.turn(source, track, steps) {
-            Next::Begin { node } => node,
-            Next::Turn(turn) => return turn,
-        };
+        match self.turn(source, track, steps) {
+            Next::Begin { node } => self.enter_along(node, source, track, steps),
+            Next::Turn(turn) => turn,
+        }
+    }
+
+    /// A node that begins is read or entered, and so is the part of it that begins then, until none does.
+    #[inline(always)]
+    fn enter_along<T: Track, L: Ledger>(
+        &mut self,
+        first: u16,
+        source: &mut Source<'_>,
+        track: &mut T,
+        steps: &mut Steps<L>,
+    ) -> Turn
+        requires stands { StandsSomewhere self.old.plan.now (state_with (frame.Begin first) self.old source.old) }
+        requires fits { T.fits track.old self.old.plan.now }
+        ensures turns { Turns self.old.plan.now T.takes (state_with (frame.Begin first) self.old source.old) (state_of self.new source.new)
+            track.old track.new result }
+        ensures pays { TurnPays self.old.plan.now (state_with (frame.Begin first) self.old source.old) (state_of self.new source.new)
+            steps.old steps.new result }
+        ensures plan { self.new.plan ≡ self.old.plan }
+    {
+        source.none_behind_end();
+        let mut begins = first;
         loop {
-            if self.read_whole(begins, source, track) {
-                return Turn::Moved;
-            }
-            match self.enter(begins, source, track, steps) {
+            match self.read_or_enter(begins, source, track, steps) {
                 Next::Begin { node } => begins = node,
                 Next::Turn(turn) => return turn,
             }
         }
+    }
+
+    /// A node that begins is read at once, or else it is entered.
+    #[inline(always)]
+    fn read_or_enter<T: Track, L: Ledger>(
+        &mut self,
+        i: u16,
+        source: &mut Source<'_>,
+        track: &mut T,
+        steps: &mut Steps<L>,
+    ) -> Next
+        requires stands { StandsSomewhere self.old.plan.now (state_with (frame.Begin i) self.old source.old) }
+        requires fits { T.fits track.old self.old.plan.now }
+        ensures turns { Turns self.old.plan.now T.takes (state_with (frame.Begin i) self.old source.old)
+            (state_then result self.new source.new) track.old track.new (turn_in result) }
+        ensures pays { TurnPays self.old.plan.now (state_with (frame.Begin i) self.old source.old) (state_then result self.new source.new)
+            steps.old steps.new (turn_in result) }
+        ensures plan { self.new.plan ≡ self.old.plan }
+    {
+        if self.read_whole(i, source, track) {
+            return Next::Turn(Turn::Moved);
+        }
+        self.enter(i, source, track, steps)
     }
 
     /// All bits of a node that begins are read at once, where they can be taken and are a string of it, and the track is
@@ -137,8 +177,7 @@ impl Machine<'_> {
         match frame {
             Frame::Begin { node } => Next::Begin { node },
             Frame::Leaf { node, leaf } => {
-                let form = self.plan.node(node, steps);
-                Next::Turn(self.read(node, leaf, form, source, track))
+                Next::Turn(self.read_on(node, leaf, source, track, steps))
             }
             Frame::Counted(counted) => Next::Turn(self.count(counted, source, track, steps)),
             Frame::Seq { node, at, values } => self.seq(node, at, values, source, track, steps),

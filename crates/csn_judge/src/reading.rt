@@ -16,6 +16,27 @@ use csn_desc::{Move, Node};
 use std::sync::ledger::Ledger;
 
 impl Machine<'_> {
+    /// A leaf that was waiting takes bits.
+    #[inline(always)]
+    pub fn read_on<T: Track, L: Ledger>(
+        &mut self,
+        i: u16,
+        leaf: Leaf,
+        source: &mut Source<'_>,
+        track: &mut T,
+        steps: &mut Steps<L>,
+    ) -> Turn
+        requires { StandsSomewhere self.old.plan.now (state_with (frame.Leaf i leaf) self.old source.old) }
+        ensures turns { Turns self.old.plan.now T.takes (state_with (frame.Leaf i leaf) self.old source.old)
+            (state_of self.new source.new) track.old track.new result }
+        ensures plan { self.new.plan ≡ self.old.plan }
+        ensures pays { TurnPays self.old.plan.now (state_with (frame.Leaf i leaf) self.old source.old) (state_of self.new source.new)
+            steps.old steps.new result }
+    {
+        let node = self.plan.node(i, steps);
+        self.read(i, leaf, node, source, track)
+    }
+
     /// A leaf takes bits, and is left where it has ended. Where it has not, the frame behind it is put on the others, and
     /// what is left of it on that. One step is paid for with it.
     #[inline(always)]

@@ -1,20 +1,13 @@
-use Rattle.std.proofs.Common.{ℕ, ◌+◌, ◌≡◌, [], ◌∷◌, length, reverse, List, refl, sym, ◌∙◌, ap, subst, arith}
+use Rattle.std.proofs.Common.{◌≡◌, [], ◌∷◌, length, reverse, List, refl, sym, ◌∙◌, ap, subst, arith}
 use Rattle.csn_judge.specs.declared.frame.Frame.{Frame}
 use Rattle.csn_judge.specs.declared.frame.Frame.TheVariants as frame
-use Rattle.csn_judge.specs.declared.turn.Turn.{Turn}
 use Rattle.csn_judge.specs.declared.turn.Turn.TheVariants.{Moved}
-use Rattle.csn_judge.specs.Credit.{credit_in, credit_of, Pays}
+use Rattle.csn_judge.specs.Credit.{credit_of}
 use Rattle.csn_judge.specs.Turns.{state_at, state_of, state_then, passed_choice, passed_label, Turns}
 use Rattle.csn_judge.proofs.Popping.{popped, popped_next, popped_stands, popped_turn, stopped_pays}
-use Rattle.csn_judge.proofs.PayingBits.{paid_with}
 use Rattle.csn_judge.proofs.Turning.{stays_as}
-use Rattle.csn_judge.proofs.TurningLeaves.{leaf_stands, leaf_within}
 use Rattle.csn_judge.proofs.TurningOn.{popped_frame, no_items, stops_behind, choice_within, label_within}
 use Rattle.csn_judge.proofs.machine.Machine.turn.Goals as goal
-
--- the step with a turn is one of those that were taken
-step_with : {steps_after : ℕ} (before after steps : ℕ) (turn : Turn) → steps_after ≡ steps + 1 → Pays before after 0 1 turn → Pays before after steps steps_after turn
-step_with before after steps turn one paid = subst (λ (k : ℕ). Pays before after steps k turn) (sym one) (paid_with before after steps turn paid)
 
 pub returns-in_default-clause-turns : goal.returns-in_default-clause-turns
 returns-in_default-clause-turns g c =
@@ -41,14 +34,8 @@ returns-in-Begin g c = record {
   plan = refl;
 }
 
-pub node-form-requires : goal.node-form-requires
-node-form-requires g c = leaf_within c.args.self.now.plan.now (leaf_stands c.args.self.now.plan.now (popped_stands (popped c.args.self.now c.pop.new.self.items c.in-Some.ensures.items c.in-Leaf.is) c.args.source.now c.requires.stands).stands.shows).shows
-
 pub returns-in-Leaf : goal.returns-in-Leaf
-returns-in-Leaf g c =
-    let paid = step_with (credit_of (length c.args.self.now.plan.now.nodes) (frame.Leaf c.in-Leaf.node c.in-Leaf.leaf ∷ reverse c.pop.new.self.items) c.args.self.now.pace (length c.args.source.now.bits)) (credit_in c.args.self.now.plan.now (state_of c.read.new.self c.read.new.source)) c.args.steps.now c.read.result c.node-form.ensures.step c.read.ensures.pays in
-    let t = popped_turn (popped c.args.self.now c.pop.new.self.items c.in-Some.ensures.items c.in-Leaf.is) c.args.source.now g.T.Track.takes (state_of c.read.new.self c.read.new.source) c.args.track.now c.read.new.track c.args.steps.now c.node-form.new.steps c.read.result c.read.ensures.turns paid in
-    record { turns = t.turns; pays = t.pays; plan = c.read.ensures.plan }
+returns-in-Leaf g c = let t = popped_turn (popped c.args.self.now c.pop.new.self.items c.in-Some.ensures.items c.in-Leaf.is) c.args.source.now g.T.Track.takes (state_of c.read_on.new.self c.read_on.new.source) c.args.track.now c.read_on.new.track c.args.steps.now c.read_on.new.steps c.read_on.result c.read_on.ensures.turns c.read_on.ensures.pays in record { turns = t.turns; pays = t.pays; plan = c.read_on.ensures.plan }
 
 pub returns-in-Counted : goal.returns-in-Counted
 returns-in-Counted g c = let t = popped_turn (popped c.args.self.now c.pop.new.self.items c.in-Some.ensures.items c.in-Counted.is) c.args.source.now g.T.Track.takes (state_of c.count.new.self c.count.new.source) c.args.track.now c.count.new.track c.args.steps.now c.count.new.steps c.count.result c.count.ensures.turns c.count.ensures.pays in record { turns = t.turns; pays = t.pays; plan = c.count.ensures.plan }
