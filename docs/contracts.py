@@ -212,6 +212,11 @@ def laws(crate):
                     yield read_call(path, path.stem, text, match, imports(text))
 
 
+def named_in_library():
+    """The words of docs/LIBRARY.md: a call is for programs of one's own where its type, or itself, is one of them."""
+    return set(re.findall(r"\w+", (ROOT / "docs" / "LIBRARY.md").read_text()))
+
+
 def enums(crate):
     """The variants of each public enum of a crate, by its name."""
     shown, found = exported(crate), {}
