@@ -280,6 +280,6 @@ def write_or_check(path, text, words):
         path.write_text(text)
         return 0
     there = path.read_text() if path.exists() else ""
-    changes = list(difflib.unified_diff(there.splitlines(), text.splitlines(), str(path.name), "what the sources say", "", "", 0))
+    changes = list(difflib.unified_diff(there.splitlines(), text.splitlines(), path.name, "the sources", lineterm="", n=0))
     print("\n".join(changes + [f"{path.name}: {'differs from' if changes else 'is'} what the sources say"]))
     return 1 if changes else 0
