@@ -2,10 +2,11 @@
 -- the bits of a block.
 use Rattle.std.specs.Prelude.{◌≡◌, refl, ℕ, map, length, take, ◌+◌, ◌*◌, ◌/◌, ◌%◌, ◌≤◌, List, [], ◌∷◌, ◌++◌, slice_index}
 
--- the most octets of a block, and the most bits
+-- the most octets of a block
 abbrev pub most_octets : ℕ
 most_octets = 65536
 
+-- the most bits of a block
 abbrev pub most_bits : ℕ
 most_bits = 524288
 

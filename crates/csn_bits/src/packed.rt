@@ -66,7 +66,8 @@ impl PackedBits {
         (self.last >> behind) % 2
     }
 
-    /// Adds the last `count` bits of a number at the end, where a block has room for them.
+    /// Adds the last `count` bits of a number at the end, where a block has room for them. After an error nothing is said
+    /// of the bits.
     pub fn add(&mut self, number: u64, count: u32) -> Result<(), NoMemory>
         requires { count ≤ MOST_ADDED }
         ensures ok { OnOk result (self.new ≡ self.old ++ low_bits count number) }
@@ -87,7 +88,7 @@ impl PackedBits {
         Ok(())
     }
 
-    /// Adds a bit at the end.
+    /// Adds a bit at the end. After an error nothing is said of the bits.
     pub fn push(&mut self, bit: u8) -> Result<(), NoMemory>
         requires bit { bit ≤ 1 }
         requires room { length self.old < most_bits }
@@ -96,7 +97,7 @@ impl PackedBits {
         self.add(u64::from(bit), 1)
     }
 
-    /// Adds the bits of a leaf at the end.
+    /// Adds the bits of a leaf at the end. After an error nothing is said of the bits.
     pub fn append(&mut self, leaf: &Bits) -> Result<(), NoMemory>
         requires { length self.old + length leaf.now ≤ most_bits }
         ensures { OnOk result (self.new ≡ self.old ++ leaf.now) }

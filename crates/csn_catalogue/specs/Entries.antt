@@ -3,6 +3,7 @@ use Rattle.std.specs.Prelude.{ℕ, List, [], ◌∷◌, codes}
 use Rattle.csn_catalogue.specs.declared.entry.Entry.{Entry}
 use Rattle.csn_catalogue.specs.declared.entry.Entry.TheVariants.{Uplink, Downlink, Si1, Si3, Si4, Si13, Ia}
 
+-- all entries, in the order in which they are written down everywhere
 abbrev pub all_entries : List Entry
 all_entries = Uplink ∷ Downlink ∷ Si1 ∷ Si3 ∷ Si4 ∷ Si13 ∷ Ia ∷ []
 

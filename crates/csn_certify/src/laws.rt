@@ -39,7 +39,9 @@ pub fn no_continuation()
     csn_desc::laws::strings_are_followed();
 }
 
-/// Any bits, of any length, have at most one tree where the description is certified.
+/// Any bits, of any length, have at most one tree where the description is certified. The lemma that carries it is
+/// `one_tree` of csn_claims (`proofs/OneTree.antt`): bits of one node that go on alike, each with something behind them
+/// that may stand there, are the same bits with the same tree.
 pub fn blocks_have_one_tree()
     ensures { BlocksHaveOneTree }
 {

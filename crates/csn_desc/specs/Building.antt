@@ -103,6 +103,7 @@ HasItsParts nodes [] = ⊥
 HasItsParts nodes (i ∷ rest) =
     IsSomeAnd (slice_get nodes i) (λ n. HasParts (head_of n) (length (begun_parts nodes i n)))
 
+-- a node is entered, and has its number of parts
 abbrev pub MayLeave : BuilderV → Type 0
 MayLeave b = HasItsParts b.nodes b.around
 

@@ -8,5 +8,6 @@ use Rattle.csn_lexer.specs.Word.{is_word}
 abbrev pub is_label : List ℕ → Bool
 is_label bytes = list_all is_word (slice_split (λ c. c == 32) bytes)
 
+-- the bytes are words with one space between
 abbrev pub IsLabel : List ℕ → Type 0
 IsLabel bytes = IsTrue (is_label bytes)

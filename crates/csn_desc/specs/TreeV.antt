@@ -3,6 +3,7 @@
 use Rattle.std.specs.Prelude.{ℕ, List, [], ◌∷◌}
 
 mutual
+  -- nothing, bits, a row of trees, an alternative by its number, or a labelled tree
   pub data TreeV : Type 0 where
     -- nothing to tell, as of a literal
     empty : TreeV

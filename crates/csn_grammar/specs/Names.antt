@@ -24,6 +24,7 @@ name_of NoString = codes "no string"
 abbrev pub built_in_names : List (List ℕ)
 built_in_names = name_of SpareBit ∷ name_of SpareLow ∷ name_of SparePadding ∷ name_of NoString ∷ []
 
+-- whether a name is built in, so that no rule may have it
 abbrev pub is_built_in : List ℕ → Bool
 is_built_in n = list_any (λ m. same_name m n) built_in_names
 

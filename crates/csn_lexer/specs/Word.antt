@@ -32,5 +32,6 @@ abbrev pub is_word : List ℕ → Bool
 is_word [] = false
 is_word (c ∷ rest) = begins_word c && is_word_tail rest
 
+-- the bytes are a word, as a fact
 abbrev pub IsWord : List ℕ → Type 0
 IsWord bytes = IsTrue (is_word bytes)

@@ -4,6 +4,7 @@ use Rattle.csn_look.specs.declared.symbol_set.Sign.{Sign}
 use Rattle.csn_look.specs.declared.symbol_set.Sign.TheVariants.{Zero, One, End}
 use Rattle.csn_look.specs.SignsV.{SignsV}
 
+-- the set without signs
 abbrev pub no_signs : SignsV
 no_signs = record { zero = false; one = false; end = false }
 

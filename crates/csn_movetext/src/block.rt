@@ -90,7 +90,8 @@ impl<'a> BlockText<'a> {
         self.answer
     }
 
-    /// The block has ended: the text of its tree stands behind the bytes. Else there are the bytes alone.
+    /// The block has ended: the text of its tree stands behind the bytes. After a refusal the bytes
+    /// alone are handed back.
     pub fn finish<L: Ledger>(mut self, steps: &mut Steps<L>) -> Result<Vec<u8>, Unwritten>
         ensures text { IfOk result (λ out. Ends self.entry (Ok out.items)) }
         ensures why { IfErr result (λ unwritten. Ends self.entry (Err unwritten.why)) }
@@ -107,8 +108,8 @@ impl<'a> BlockText<'a> {
         }
     }
 
-    /// The block has ended, and the next begins: the text of its tree is written behind `out`. Where it has none nothing
-    /// is, and where memory is wanting for `out` some of it may be. So one value does for many blocks, with one buffer.
+    /// The block has ended, and the next begins: the text of its tree is written behind `out`. After a refusal `out` is as
+    /// it was, and after want of memory some bytes may stand behind it. So one value does for many blocks, with one buffer.
     pub fn next_block<L: Ledger>(
         &mut self,
         out: &mut Vec<u8>,

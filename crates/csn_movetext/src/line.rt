@@ -133,7 +133,7 @@ impl<'a> LineText<'a> {
     }
 
     /// The line has ended, and the next begins: the text of its block is written behind `out`, or it is told why there
-    /// is none.
+    /// is none. After an error some bytes may stand behind `out`.
     pub fn end(&mut self, out: &mut Vec<u8>) -> Result<LineEnd, AllocError>
         ensures ends { IfOk result (λ end. (line : List ℕ) → ReadsLine self.old line
             → EndsText self.old.form self.old.desc line end out.old.items out.new.items) }

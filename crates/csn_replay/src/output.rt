@@ -8,7 +8,7 @@ ghost use Rattle.csn_replay.specs.declared.told.Told.TheVariants.{WriteFault};
 use crate::told::Told;
 use csn_io::{Put, Sink};
 
-/// Hands a text to the sink.
+/// Hands a text to the sink. After a fault the sink has taken a prefix of it.
 pub fn put_all<K: Sink>(text: &[u8], out: &mut K) -> Told
     ensures wrote { Wrote result (K.taken out.old) (K.taken out.new) text.now }
     ensures write_fault { result ≡ WriteFault → Rose (K.faults out.old) (K.faults out.new) }

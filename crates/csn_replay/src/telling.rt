@@ -60,7 +60,7 @@ fn report<K: Sink>(alloc: Global, watcher: &Box<dyn Watcher>, out: &mut K) -> To
 }
 
 /// Shows a block to all watchers in order. One that is done reports on a line of its own, and is dropped; the others
-/// stay in their order. Behind a report that met a fault none is written any more, but the block is shown to all.
+/// stay in their order. After a fault no report is written any more, but the block is shown to all.
 pub fn tell<K: Sink>(
     alloc: Global,
     watchers: &mut Vec<Box<dyn Watcher>>,
@@ -87,7 +87,8 @@ pub fn tell<K: Sink>(
     told
 }
 
-/// Lets all watchers report in order, each on a line of its own, and drops them.
+/// Lets all watchers report in order, each on a line of its own, and drops them. After a fault the sink has taken a prefix
+/// of the reports.
 pub fn close<K: Sink>(alloc: Global, watchers: Vec<Box<dyn Watcher>>, out: &mut K) -> Told
     ensures wrote { Wrote result (K.taken out.old) (K.taken out.new) (reports (map (λ b. watched b) watchers.items)) }
     ensures write_fault { result ≡ WriteFault → Rose (K.faults out.old) (K.faults out.new) }

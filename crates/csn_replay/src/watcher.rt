@@ -14,9 +14,11 @@ pub trait Watcher: Drop {
     /// What it counts, how far it has come, and when it is done.
     ghost watched: { Self → Watched };
 
+    /// What it counts.
     fn kind(&self) -> Kind
         ensures { result ≡ (watched self.now).kind };
 
+    /// How much it has counted so far.
     fn count(&self) -> u64
         ensures { result ≡ (watched self.now).count };
 

@@ -16,6 +16,7 @@ pub struct EntryWatcher {
 }
 
 impl EntryWatcher {
+    /// Counts the blocks of an entry, up to this count.
     pub fn new(entry: Entry, until: u64) -> EntryWatcher
         requires { 1 ≤ until }
         ensures { ⟦<EntryWatcher as Watcher>⟧.watched result ≡ record { kind = Blocks entry; count = 0; until = until } }
@@ -54,6 +55,7 @@ pub struct RefusedWatcher {
 }
 
 impl RefusedWatcher {
+    /// Counts the blocks that are refused, up to this count.
     pub fn new(until: u64) -> RefusedWatcher
         requires { 1 ≤ until }
         ensures { ⟦<RefusedWatcher as Watcher>⟧.watched result ≡ record { kind = Refused; count = 0; until = until } }
@@ -91,6 +93,7 @@ pub struct BitsWatcher {
 }
 
 impl BitsWatcher {
+    /// Counts the bits of all blocks, up to this count.
     pub fn new(until: u64) -> BitsWatcher
         requires { 1 ≤ until }
         ensures { ⟦<BitsWatcher as Watcher>⟧.watched result ≡ record { kind = Length; count = 0; until = until } }

@@ -4,6 +4,7 @@ use Rattle.std.specs.Prelude.{ℕ}
 use Rattle.csn_resolve.specs.declared.why.Why.{Why}
 use Rattle.csn_resolve.specs.declared.why.Why.TheVariants.{Undefined, DefinedTwice, Recursive, ValUnknown, ValWidth, ZeroCount, CountTooLarge, IntersectionForm, ErrorBranchForm, NoString, TooManyNodes, TooDeep, TooManyVals}
 
+-- the number by which a reason is told
 abbrev pub number_of : Why → ℕ
 -- names
 number_of Undefined = 1

@@ -15,10 +15,11 @@ pub record IsTextOf (version : Version) (t : TreeV) (text : List ℕ) : Type 0 w
   pub parts : HasTreeParts t
   pub spelled : text ≡ text_of version t
 
--- the text of a tree as it is written today, and as it was before
+-- the bytes are the text of the tree, as it is written today
 abbrev pub TreeText : TreeV → List ℕ → Type 0
 TreeText = IsTextOf Second
 
+-- the bytes are the text of the tree, as the first version wrote it
 abbrev pub OldText : TreeV → List ℕ → Type 0
 OldText = IsTextOf First
 
