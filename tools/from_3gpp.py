@@ -179,8 +179,10 @@ def name_of(words: list[Token]) -> str | None:
     if any(token.kind != "word" and token.text not in ("(", ")", "/", "-") for token in kept):
         return None
     text = " ".join(token.text for token in kept)
-    text = re.sub(r" ?([/-]) ?", r"\1", text)
+    if re.search(r"\( (?:\d+|val)\b", text):
+        return None
     text = " ".join(re.sub(r"[()]", " ", text).split())
+    text = re.sub(r" ?([/-]) ?", r"\1", text)
     return text if re.fullmatch(r"[A-Za-z0-9_](?:[A-Za-z0-9_'., ]|[/-](?=[A-Za-z0-9]))*", text) else None
 
 
@@ -211,7 +213,7 @@ def label(row: list[Token], at: int, report: Report) -> None:
     name = name_of(words)
     printed = " ".join("".join(token.text for token in words).split())
     if name is None:
-        report.fail(row[at].line, f"a name has signs that no name may have: {printed}")
+        report.fail(row[at].line, f"a name has signs that no name may have, or no : behind it: {printed}")
         leave(words)
         return
     if name != printed:

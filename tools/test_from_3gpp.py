@@ -62,6 +62,7 @@ FORMS = [
     Form("<M> ::= <A\n\tB : bit> ;", "<M> ::= <A B : bit> ;"),
     Form("<M> ::= <B#2 : bit> ;", "<M> ::= <B#2 : bit> ;", "signs that no name may have", False),
     Form("<M> ::= <A + B : bit> ;", "<M> ::= <A + B : bit> ;", "signs that no name may have", False),
+    Form("<M> ::= <A bit (5)> ;", "<M> ::= <A bit (5)> ;", "no : behind it", False),
     # types
     Form("<M> ::= <A : X struct> ; <X struct> ::= bit (3) ;", "<M> ::= <A : <X struct>> ; <X struct> ::= bit (3) ;"),
     Form("<M> ::= < A : X struct > ; < X struct > ::= bit (3) ;", "<M> ::= <A : <X struct>> ; <X struct> ::= bit (3) ;"),
