@@ -32,6 +32,7 @@ PIECE = re.compile(r"""
   | (?P<word>[A-Za-z0-9_](?:[A-Za-z0-9_'.,]|[/-](?=[A-Za-z0-9]))*)
   | (?P<sign>::=|\*\*|//|==|[<>:;{}|!&=()*+/\[\]-])
   | (?P<other>.)""", re.VERBOSE | re.DOTALL)
+MARK = "[\"'\u201c\u201d\u2018\u2019]"
 LITERAL = re.compile(r"[01LH]+")
 BUILT_IN = {"spare bit", "spare L", "spare padding", "no string"}
 FIELDS = {"bit", "octet"}
@@ -555,7 +556,7 @@ def quoted(text: str, report: Report) -> str:
     made = []
     for number, line in enumerate(text.split("\n"), 1):
         code, dashes, comment = line.partition("--")
-        bare = re.sub("(?<![A-Za-z0-9_])[\"'\u201c\u201d\u2018\u2019]([01LH]+)[\"'\u201c\u201d\u2018\u2019]", r"\1", code)
+        bare = re.sub(f"(?<![A-Za-z0-9_]){MARK}([01LH]+){MARK}", r"\1", code)
         if bare != code:
             report.change(number, "a literal stands without quotation marks")
         made.append(bare + dashes + comment)
@@ -595,7 +596,8 @@ def same_but_case(name: str, known: list[str]) -> str:
 def references(row: list[Token], report: Report) -> bool:
     """Tells of names and of labels in val( ) that differ in case; whether <padding bits> wants its rule."""
     rules = defined(row)
-    labels = [row[at].text for at in range(len(row)) if row[at].kind == "name" and text_at(row, following(row, at)) == ":"]
+    labels = [token.text for at, token in enumerate(row) if token.kind == "name"
+              and text_at(row, following(row, at)) == ":"]
     wanted = False
     for at, token in enumerate(row):
         if token.kind != "name":

@@ -65,7 +65,8 @@ FORMS = [
     Form("<M> ::= <A bit (5)> ;", "<M> ::= <A bit (5)> ;", "no : behind it", False),
     # types
     Form("<M> ::= <A : X struct> ; <X struct> ::= bit (3) ;", "<M> ::= <A : <X struct>> ; <X struct> ::= bit (3) ;"),
-    Form("<M> ::= < A : X struct > ; < X struct > ::= bit (3) ;", "<M> ::= <A : <X struct>> ; <X struct> ::= bit (3) ;"),
+    Form("<M> ::= < A : X struct > ; < X struct > ::= bit (3) ;",
+         "<M> ::= <A : <X struct>> ; <X struct> ::= bit (3) ;"),
     Form("<M> ::= <Length : <octet>> <F : octet (val(Length))> ;",
          "<M> ::= <Length : octet> <F : octet (val(Length))> ;"),
     Form("<M> ::= < A : < bit (5) > > ;", "<M> ::= <A : bit (5)> ;"),
@@ -112,7 +113,8 @@ FORMS = [
          "<M> ::= { <T : { 0 bit | 10 }> <A : bit> | <T : 11> } ;"),
     Form("<M> ::= <T : bit (3) exclude { 000 | 111 }> ;", "<M> ::= <T : { 001 | 01 bit | 10 bit | 110 }> ;"),
     Form("<M> ::= { <D : bit == L> | <D : bit == H> <A : bit> } ;", "<M> ::= { <D : L> | <D : H> <A : bit> } ;"),
-    Form("<M> ::= <N : bit (2) exclude 11> <F : bit (val(N))> ;", "<M> ::= <N : bit (2) exclude 11> <F : bit (val(N))> ;",
+    Form("<M> ::= <N : bit (2) exclude 11> <F : bit (val(N))> ;",
+         "<M> ::= <N : bit (2) exclude 11> <F : bit (val(N))> ;",
          "a field that a count names", False),
     Form("<M> ::= { <A> exclude <B> } ;", "<M> ::= { <A> exclude <B> } ;", "of its width", False),
     # characters
