@@ -1,3 +1,4 @@
+pub mod Kept
 pub mod Label
 pub mod TreeV
 pub mod TreeParts

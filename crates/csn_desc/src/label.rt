@@ -1,7 +1,9 @@
 ghost use Rattle.std.specs.Prelude.{◌≡◌, ◌↔◌, ◌∷◌, ◌++◌, IsTrue, IfOk, OnOk};
+ghost use Rattle.csn_desc.specs.Kept.{items_in};
 ghost use Rattle.csn_desc.specs.Label.{IsLabel, is_label};
 ghost use Rattle.csn_lexer.specs.Word.{IsWord, is_word};
 
+use crate::kept::Kept;
 use csn_bits::NoMemory;
 use csn_lexer::is_word;
 use std::alloc::Global;
@@ -11,18 +13,19 @@ use thiserror::Error;
 /// The name of a rule or of a labelled part: words with one space between. A contract sees its bytes.
 #[derive(Drop)]
 pub struct Label {
-    bytes: Vec<u8>,
+    bytes: Kept<u8>,
 }
 
 impl Model for Label {
     ghost use Rattle.std.specs.Prelude.{List, ℕ};
+    ghost use Rattle.csn_desc.specs.Kept.{items_in};
     ghost use Rattle.csn_desc.specs.Label.{IsLabel};
 
     ghost Value = { List ℕ };
 
-    ghost view = { λ l. l.bytes.items };
+    ghost view = { λ l. items_in l.bytes };
 
-    ghost invariant = { λ l. IsLabel l.bytes.items };
+    ghost invariant = { λ l. IsLabel (items_in l.bytes) };
 }
 
 /// Why there is no label of some bytes.
@@ -44,7 +47,7 @@ impl Label {
         if !is_label(words) {
             return Err(LabelFault::BadLabel);
         }
-        match Vec::from_slice(alloc, words) {
+        match Kept::from_slice(alloc, words) {
             Ok(bytes) => Ok(Label { bytes }),
             Err(_) => Err(LabelFault::NoMemory),
         }
@@ -55,18 +58,21 @@ impl Label {
         requires { IsWord word.now }
         ensures { IfOk result (λ label. label ≡ word.now) }
     {
-        let bytes = Vec::from_slice(alloc, word)?;
+        let bytes = Kept::from_slice(alloc, word)?;
         Ok(Label { bytes })
     }
 
     /// This label and one word more.
-    pub fn and(mut self, word: &[u8]) -> Result<Label, NoMemory>
+    pub fn and(self, word: &[u8]) -> Result<Label, NoMemory>
         requires { IsWord word.now }
         ensures { IfOk result (λ label. label ≡ self ++ 32 ∷ word.now) }
     {
-        self.bytes.push(b' ')?;
-        self.bytes.extend_from_slice(word)?;
-        Ok(self)
+        let mut bytes = self.bytes.into_own()?;
+        bytes.push(b' ')?;
+        bytes.extend_from_slice(word)?;
+        Ok(Label {
+            bytes: Kept::Own(bytes),
+        })
     }
 
     /// The bytes as they are written.
@@ -77,11 +83,19 @@ impl Label {
         self.bytes.as_slice()
     }
 
-    /// The same label again.
+    /// The same label, whose copies take no memory from now on.
+    pub fn share(self) -> Result<Label, NoMemory>
+        ensures { IfOk result (λ label. label ≡ self) }
+    {
+        let bytes = self.bytes.share()?;
+        Ok(Label { bytes })
+    }
+
+    /// The same label again. A copy of a shared label takes no memory.
     pub fn copy(&self, alloc: Global) -> Result<Label, NoMemory>
         ensures { IfOk result (λ label. label ≡ self.now) }
     {
-        let bytes = Vec::from_slice(alloc, self.bytes.as_slice())?;
+        let bytes = self.bytes.copy(alloc)?;
         Ok(Label { bytes })
     }
 }

@@ -5,6 +5,7 @@ mod begun;
 mod builder;
 mod desc;
 pub mod examples;
+mod kept;
 mod label;
 pub mod laws;
 mod listed;

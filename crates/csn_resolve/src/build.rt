@@ -9,7 +9,7 @@ ghost use Rattle.csn_resolve.specs.Views.{tail_view};
 ghost use Rattle.csn_resolve.specs.Made.{shown_view, only, QuietAt, AllQuiet, BranchesQuiet, RuleQuiet, IsKept, GivesFew, ItemsGiveFew, KeptGiveFew, RuleGivesFew, TailGivesFew, TurnGivesFew, Adds, AddsItems, AddsKept, AddsRule, AddsTail, AddsTurn};
 
 use crate::form::{unit_of, window_of};
-use crate::leaf::{copy_run, spare_node};
+use crate::leaf::spare_node;
 use crate::made::Made;
 use crate::marks::Marks;
 use crate::names::Names;
@@ -44,7 +44,7 @@ impl<'a> Builder<'a> {
     {
         let place = x.span.start;
         match &x.form {
-            Form::Lits(run) => made.push(Node::Lits(copy_run(self.alloc, run)?), place),
+            Form::Lits(run) => made.push(Node::Lits(run.copy(self.alloc)?), place),
             Form::Null => made.push(Node::Null, place),
             Form::Bit => made.push(one_field(1), place),
             Form::Octet => made.push(one_field(8), place),
@@ -267,7 +267,7 @@ impl<'a> Builder<'a> {
         parts.push(made.len())?;
         self.build_turn(round, tail, made)?;
         parts.push(made.len())?;
-        let stop = copy_run(self.alloc, tail.end.stop.run)?;
+        let stop = tail.end.stop.run.copy(self.alloc)?;
         made.push(Node::Lits(stop), tail.end.stop.at)?;
         made.set(at, Node::Seq(parts));
         Ok(())
@@ -285,7 +285,7 @@ impl<'a> Builder<'a> {
         let word = sequence + 1;
         made.push(Node::Many(sequence), tail.end.braces)?;
         made.push(Node::Seq(Parts::new(self.alloc)), tail.end.again.at)?;
-        let again = copy_run(self.alloc, tail.end.again.run)?;
+        let again = tail.end.again.run.copy(self.alloc)?;
         made.push(Node::Lits(again), tail.end.again.at)?;
         let mut parts = Parts::new(self.alloc);
         parts.push(word)?;

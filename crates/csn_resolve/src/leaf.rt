@@ -1,13 +1,11 @@
-ghost use Rattle.std.specs.Prelude.{◌≡◌, true, IfOk};
+ghost use Rattle.std.specs.Prelude.{◌≡◌, true};
 ghost use Rattle.csn_desc.specs.declared.symbol.Symbol.TheVariants as symbol;
 ghost use Rattle.csn_desc.specs.declared.node.Node.TheVariants as node;
 ghost use Rattle.csn_grammar.specs.declared.built_in.BuiltIn.TheVariants as built_in;
 ghost use Rattle.csn_grammar.specs.Names.{name_of, is_built_in};
 
-use csn_bits::NoMemory;
-use csn_desc::{Node, Run, Symbol};
+use csn_desc::{Node, Symbol};
 use csn_grammar::BuiltIn;
-use std::alloc::Global;
 
 /// The node of a spare part, by its name.
 pub(crate) fn spare_node(name: &[u8]) -> Node
@@ -24,15 +22,4 @@ pub(crate) fn spare_node(name: &[u8]) -> Node
         Some(BuiltIn::NoString) => unreachable!(),
         None => unreachable!(),
     }
-}
-
-/// The same word again.
-pub(crate) fn copy_run(alloc: Global, run: &Run) -> Result<Run, NoMemory>
-    ensures { IfOk result (λ copy. copy ≡ run.now) }
-{
-    let mut copy = Run::new(alloc);
-    for at in 0..run.len() {
-        copy.add(*run.get(at))?;
-    }
-    Ok(copy)
 }

@@ -82,7 +82,7 @@ pub fn group_of(alloc: Global, span: Span, x: Expr) -> Result<Expr, NoMemory>
 pub fn labelled_of(alloc: Global, span: Span, label: Label, x: Expr) -> Result<Expr, NoMemory>
     ensures { IfOk result (λ whole. whole ≡ expr span.start span.end (labelled label x)) }
 {
-    let form = Form::Labelled(label, Box::new(alloc, x)?);
+    let form = Form::Labelled(label.share()?, Box::new(alloc, x)?);
     Ok(Expr { span, form })
 }
 

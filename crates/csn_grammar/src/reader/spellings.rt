@@ -75,7 +75,7 @@ fn run_of(alloc: Global, word: &[u8]) -> Result<Run, Stop>
             None => return Err(Stop::Refused),
         }
     }
-    Ok(run)
+    Ok(run.share()?)
 }
 
 /// The side that a word is alone.

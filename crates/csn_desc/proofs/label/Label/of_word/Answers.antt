@@ -5,4 +5,4 @@ use Rattle.csn_desc.proofs.label.Label.of_word.Goals as goal
 
 pub invariant_of-result : goal.invariant_of-result
 invariant_of-result c =
-    subst IsLabel (sym c.in_ok-bytes.ensures.items) (word_is_label c.args.word.now c.requires)
+    subst IsLabel (sym c.in_ok-bytes.ensures) (word_is_label c.args.word.now c.requires)

@@ -147,11 +147,11 @@ build-build-requires-in-Sent t c =
     let size : expr_size c.args.x.now ≡ max (expr_size c.in-Sends.left.value) (expr_size c.in-Sends.right.value) + 1 = ap expr_size is in
     (omega (arith, size, same, c.decreases), (quiet-as c.args.self.now.names.now c.args.self.now.reading (sym c.deref-in-Sent.ensures) (quiet-right c.args.self.now.names.now c.args.self.now.reading (quiet-as c.args.self.now.names.now c.args.self.now.reading is c.requires.quiet)), few-as c.args.self.now.names.now c.args.self.now.reading (sym c.deref-in-Sent.ensures) (few-sent c.args.self.now.names.now c.args.self.now.reading c.in-Sent.is (few-as c.args.self.now.names.now c.args.self.now.reading is c.requires.gives))))
 
-pub build-returns-in_ok-copy_run-in-Lits : goal.build-returns-in_ok-copy_run-in-Lits
-build-returns-in_ok-copy_run-in-Lits t c =
+pub build-returns-in_ok-copy-in-Lits : goal.build-returns-in_ok-copy-in-Lits
+build-returns-in_ok-copy-in-Lits t c =
     let is = known c.args.x.now c.x.inside.span c.x.inside.form _ c.x.view_is c.in-Lits.is in
     on-ok c.push.result
-    (λ now. adds-as c.args.self.now.names.now c.args.self.now.reading c.args.made.now c.push.new.self is (adds-lits c.args.self.now.names.now c.args.self.now.reading c.args.made.now c.push.new.self (now ∙ ap (λ z. c.args.made.now ++ placed (Lits z) c.x.inside.span.start ∷ []) c.in_ok-copy_run-in-Lits.ensures)))
+    (λ now. adds-as c.args.self.now.names.now c.args.self.now.reading c.args.made.now c.push.new.self is (adds-lits c.args.self.now.names.now c.args.self.now.reading c.args.made.now c.push.new.self (now ∙ ap (λ z. c.args.made.now ++ placed (Lits z) c.x.inside.span.start ∷ []) c.in_ok-copy-in-Lits.ensures)))
     c.push.ensures
 
 pub build-returns-in-Null : goal.build-returns-in-Null
