@@ -1,4 +1,5 @@
 //! Forms of the outside over files, readers and writers. They tell nothing of content.
+mod flushing;
 mod shelf;
 mod sink;
 mod source;

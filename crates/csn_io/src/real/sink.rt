@@ -1,6 +1,7 @@
 ghost use Rattle.std.specs.Prelude.{◌≡◌, None};
 
 use crate::faults::Faults;
+use crate::real::flushing::Flushing;
 use crate::sink::{Put, Sink};
 use std::io::Write;
 
@@ -25,7 +26,9 @@ impl<W: Write> StdSink<W> {
     }
 }
 
-impl<W: Write> Sink for StdSink<W> {
+impl<W: Flushing> Sink for StdSink<W> {
+    ghost use Rattle.csn_io.specs.Real.{WritesAsTold, FlushesAsTold};
+
     ghost taken = { λ _. None };
 
     ghost flushed = { λ _. None };
@@ -33,6 +36,11 @@ impl<W: Write> Sink for StdSink<W> {
     ghost faults = { λ s. s.faults };
 
     ghost steady = { λ _. ⊥ };
+
+    ghost put_gives = { λ old _ put new. WritesAsTold (W.contents old.writer) (W.contents new.writer) put };
+
+    ghost flush_gives = { λ old put new.
+        FlushesAsTold (W.flushed_as old.writer new.writer) (W.contents old.writer) (W.contents new.writer) put };
 
     /// A write that takes nothing of the piece is a fault.
     fn put(&mut self, piece: &[u8]) -> Put {
@@ -46,7 +54,7 @@ impl<W: Write> Sink for StdSink<W> {
     }
 
     fn flush(&mut self) -> Put {
-        match self.writer.flush() {
+        match self.writer.flush_all() {
             Ok(()) => Put::Took(0),
             Err(_) => {
                 self.faults.rise();

@@ -25,11 +25,15 @@ impl<R: Read> StdSource<R> {
 }
 
 impl<R: Read> Source for StdSource<R> {
+    ghost use Rattle.csn_io.specs.Real.{ReadsAsTold};
+
     ghost left = { λ _. None };
 
     ghost faults = { λ s. s.faults };
 
     ghost steady = { λ _. ⊥ };
+
+    ghost take_gives = { λ old _ got new. ReadsAsTold (R.remaining old.reader) (R.remaining new.reader) got };
 
     fn take(&mut self, into: &mut [u8]) -> Got {
         match self.reader.read(into) {
