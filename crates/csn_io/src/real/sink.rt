@@ -1,4 +1,9 @@
-ghost use Rattle.std.specs.Prelude.{◌≡◌, None};
+ghost use Rattle.std.specs.Prelude.{◌≡◌, ◌<◌, ◌≤◌, None, length, take};
+ghost use Rattle.std.specs.Io.KnownBytes.{Appends};
+ghost use Rattle.csn_io.specs.Faults.{Keeps, Rose};
+ghost use Rattle.csn_io.specs.Put.{IfTook, OnFailed};
+ghost use Rattle.csn_io.specs.Real.{WritesAsTold, FlushesAsTold};
+ghost use Rattle.csn_io.specs.declared.sink.Put.TheVariants.{Failed};
 
 use crate::faults::Faults;
 use crate::real::flushing::Flushing;
@@ -27,8 +32,6 @@ impl<W: Write> StdSink<W> {
 }
 
 impl<W: Flushing> Sink for StdSink<W> {
-    ghost use Rattle.csn_io.specs.Real.{WritesAsTold, FlushesAsTold};
-
     ghost taken = { λ _. None };
 
     ghost flushed = { λ _. None };
@@ -43,7 +46,19 @@ impl<W: Flushing> Sink for StdSink<W> {
         FlushesAsTold (W.flushed_as old.writer new.writer) (W.contents old.writer) (W.contents new.writer) put };
 
     /// A write that takes nothing of the piece is a fault.
-    fn put(&mut self, piece: &[u8]) -> Put {
+    fn put(&mut self, piece: &[u8]) -> Put
+        requires { 0 < length piece.now }
+
+        // The bytes that were written are the front of the piece, where the writer tells its own.
+        ensures bytes { IfTook result (λ n. Appends (W.contents self.old.writer) (W.contents self.new.writer) (take n piece.now)) }
+
+        // The clauses of the trait that are not met by what the form tells.
+        ensures at_least_one { IfTook result (λ n. 0 < n) }
+        ensures within { IfTook result (λ n. n ≤ length piece.now) }
+        ensures failed { OnFailed result (Rose self.old.faults self.new.faults) }
+        ensures outside { Keeps ⊥ ⊥ self.old.faults self.new.faults (result ≡ Failed) }
+        ensures gives { WritesAsTold (W.contents self.old.writer) (W.contents self.new.writer) result }
+    {
         match self.writer.write(piece) {
             Ok(n) if n > 0 => Put::Took(n),
             _ => {
