@@ -6,4 +6,5 @@ pub mod MemShelf
 pub mod MemSink
 pub mod MemSource
 pub mod Put
+pub mod Real
 pub mod ShelfFault

@@ -1,4 +1,4 @@
-ghost use Rattle.std.specs.Prelude.{◌≡◌, ◌≤◌, None, IfOk, vec_len};
+ghost use Rattle.std.specs.Prelude.{◌≡◌, ◌≤◌, None, IfOk, IfSome, take, vec_len};
 ghost use Rattle.csn_io.specs.Faults.{name_of};
 
 use crate::faults::NamedFaults;
@@ -59,11 +59,12 @@ fn read_front<R: Files>(rt: &R, alloc: Global, name: &str, most: u32) -> io::Res
 
 /// The first `most` bytes that a reader gives, or all.
 fn read_most<R: Read + Drop>(alloc: Global, from: R, most: u32) -> io::Result<Vec<u8>>
-    ensures { IfOk result (λ front. vec_len front ≤ most) }
+    ensures bytes { IfSome (R.remaining from) (λ bytes. IfOk result (λ front. front.items ≡ take most bytes)) }
+    ensures at_most { IfOk result (λ front. vec_len front ≤ most) }
 {
     let mut front = Vec::new(alloc);
     from.take(u64::from(most)).read_to_end(&mut front)?;
-    // No clause of a reader's `take` says that it keeps to its limit.
+    // Of a reader that does not tell its bytes no clause says that `take` keeps to its limit.
     front.truncate(most as usize);
     Ok(front)
 }

@@ -1,6 +1,12 @@
-ghost use Rattle.std.specs.Prelude.{◌≡◌, None};
+ghost use Rattle.std.specs.Prelude.{◌≡◌, ◌<◌, ◌≤◌, None, length, take};
+ghost use Rattle.std.specs.Io.KnownBytes.{Appends};
+ghost use Rattle.csn_io.specs.Faults.{Keeps, Rose};
+ghost use Rattle.csn_io.specs.Put.{IfTook, OnFailed};
+ghost use Rattle.csn_io.specs.Real.{WritesAsTold, FlushesAsTold};
+ghost use Rattle.csn_io.specs.declared.sink.Put.TheVariants.{Failed};
 
 use crate::faults::Faults;
+use crate::real::flushing::Flushing;
 use crate::sink::{Put, Sink};
 use std::io::Write;
 
@@ -25,7 +31,7 @@ impl<W: Write> StdSink<W> {
     }
 }
 
-impl<W: Write> Sink for StdSink<W> {
+impl<W: Flushing> Sink for StdSink<W> {
     ghost taken = { λ _. None };
 
     ghost flushed = { λ _. None };
@@ -34,8 +40,25 @@ impl<W: Write> Sink for StdSink<W> {
 
     ghost steady = { λ _. ⊥ };
 
+    ghost put_gives = { λ old _ put new. WritesAsTold (W.contents old.writer) (W.contents new.writer) put };
+
+    ghost flush_gives = { λ old put new.
+        FlushesAsTold (W.flushed_as old.writer new.writer) (W.contents old.writer) (W.contents new.writer) put };
+
     /// A write that takes nothing of the piece is a fault.
-    fn put(&mut self, piece: &[u8]) -> Put {
+    fn put(&mut self, piece: &[u8]) -> Put
+        requires { 0 < length piece.now }
+
+        // The bytes that were written are the front of the piece, where the writer tells its own.
+        ensures bytes { IfTook result (λ n. Appends (W.contents self.old.writer) (W.contents self.new.writer) (take n piece.now)) }
+
+        // The clauses of the trait that are not met by what the form tells.
+        ensures at_least_one { IfTook result (λ n. 0 < n) }
+        ensures within { IfTook result (λ n. n ≤ length piece.now) }
+        ensures failed { OnFailed result (Rose self.old.faults self.new.faults) }
+        ensures outside { Keeps ⊥ ⊥ self.old.faults self.new.faults (result ≡ Failed) }
+        ensures gives { WritesAsTold (W.contents self.old.writer) (W.contents self.new.writer) result }
+    {
         match self.writer.write(piece) {
             Ok(n) if n > 0 => Put::Took(n),
             _ => {
@@ -46,7 +69,7 @@ impl<W: Write> Sink for StdSink<W> {
     }
 
     fn flush(&mut self) -> Put {
-        match self.writer.flush() {
+        match self.writer.flush_all() {
             Ok(()) => Put::Took(0),
             Err(_) => {
                 self.faults.rise();
