@@ -3,7 +3,9 @@
 It shares nothing with the program, so what it makes is a second opinion on what a description says. Blocks are those
 that a sender may write, with their trees and their fields.
 """
+import random
 import re
+import sys
 from collections import namedtuple
 
 Rule = namedtuple("Rule", "name part text message")
@@ -434,3 +436,29 @@ def line(bits):
     whole = bits + "0" * (-len(bits) % 8)
     text = "".join(f"{int(whole[at:at + 8], 2):02X}" for at in range(0, len(whole), 8))
     return text + (f"/{len(bits) % 8}" if len(bits) % 8 else "")
+
+
+def several(maker, name, most, many):
+    """So many blocks of a rule, each of at most so many bits."""
+    made = []
+    for _ in range(100 * many):
+        if len(made) == many:
+            break
+        try:
+            made.append(maker.block(name, most))
+        except TooLong:
+            pass
+    return made
+
+
+def main(words):
+    """usage: csn1.py FILE NAME MANY SEED: prints blocks that a sender may write, each with its tree."""
+    file, name, many, seed = words
+    with open(file, encoding="ascii") as source:
+        maker = Maker(rules_of(source.read()), random.Random(seed))
+    for bits, tree, _ in several(maker, name, 8 * 22, int(many)):
+        print(f"{line(bits)}\tok {tree}")
+
+
+if __name__ == "__main__":
+    main(sys.argv[1:])
