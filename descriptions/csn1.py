@@ -275,6 +275,7 @@ class Made:
         self.maker, self.random = maker, maker.random
         self.bits, self.most = [], most
         self.windows = 0               # round the part that is made
+        self.deep = maker.random.random() < 0.5    # few optional parts, so that later additions are reached
         self.found = []
 
     def add(self, bits):
@@ -370,6 +371,11 @@ class Made:
         index = self.random.randrange(len(kept))
         if kept[0] == ("null",) and self.random.random() < 0.9:
             index = self.random.randrange(1, len(kept))
+        if self.deep and self.random.random() < 0.8:
+            if kept[0] == ("null",):
+                index = len(kept) - 1
+            elif kept[0] == ("literal", "0"):
+                index = 0
         return ("one", index, self.make(kept[index], path, frames))
 
     def make_many(self, part, path, frames):
