@@ -199,7 +199,12 @@ def rules_of(text):
     return Reader(text).rules()
 
 
-BUILT_IN = {"spare bit": ("spare", "0"), "spare L": ("spare", "L"), "spare padding": ("padding",), "no string": ("none",)}
+BUILT_IN = {
+    "spare bit": ("spare", "0"),
+    "spare L": ("spare", "L"),
+    "spare padding": ("padding",),
+    "no string": ("none",),
+}
 
 
 class Maker:
@@ -224,21 +229,16 @@ class Maker:
             self.counts.add(part[2][1])
 
     def tail(self, rule):
-        """A rule that ends in its own name is a repetition."""
-        part = rule.part
-        if part[0] != "sequence" or part[1][-1][0] != "choice" or len(part[1][-1][1]) != 2:
-            return part
-        first, last = part[1][:-1], None
-        for alternative in part[1][-1][1]:
-            if alternative[0] == "sequence" and alternative[1][1:] == [("rule", rule.name)]:
-                again = alternative[1][0]
-            else:
-                last = alternative
-        if last is None or last[0] != "literal" or part[1][-1][1] == [last, last]:
-            return part
-        if not any(a[0] == "sequence" and a[1][1:] == [("rule", rule.name)] for a in part[1][-1][1]):
-            return part
-        return ("sequence", first + [("many", ("sequence", [again] + first), None), last])
+        """A rule's part, written as a repetition where the rule ends in a literal and its own name."""
+        items = rule.part[1] if rule.part[0] == "sequence" else []
+        if len(items) < 2 or items[-1][0] != "choice" or len(items[-1][1]) != 2:
+            return rule.part
+        before, ends = items[:-1], items[-1][1]
+        again = [end[1][0] for end in ends if end[0] == "sequence" and end[1][1:] == [("rule", rule.name)]]
+        last = [end for end in ends if end[0] == "literal"]
+        if len(again) != 1 or len(last) != 1:
+            return rule.part
+        return ("sequence", before + [("many", ("sequence", again + before), None)] + last)
 
     def part_of(self, name):
         return self.tails[name] if name in self.tails else BUILT_IN[name]
