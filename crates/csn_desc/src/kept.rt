@@ -5,6 +5,9 @@ use csn_bits::NoMemory;
 use std::alloc::Global;
 use std::sync::Arc;
 
+/// Up to so many items are copied: that takes no more than to share them.
+const FEW: usize = 32;
+
 /// Items in their order, which have one owner, or are shared by several. What is shared is there once.
 #[derive(Drop)]
 pub(crate) enum Kept<T> {
@@ -73,15 +76,20 @@ impl<T: Copy> Kept<T> {
         }
     }
 
-    /// The same items, shared from now on: a copy of them takes no memory.
+    /// The same items. Where they are many they are shared from now on, so that a copy of them takes no memory.
     pub fn share(self) -> Result<Kept<T>, NoMemory>
         ensures { IfOk result (λ kept. items_in kept ≡ items_in self) }
     {
         match self {
-            Kept::Own(items) => match Arc::new(*items.allocator(), items) {
-                Ok(shared) => Ok(Kept::Shared(shared)),
-                Err(_) => Err(NoMemory),
-            },
+            Kept::Own(items) => {
+                if items.len() <= FEW {
+                    return Ok(Kept::Own(items));
+                }
+                match Arc::new(*items.allocator(), items) {
+                    Ok(shared) => Ok(Kept::Shared(shared)),
+                    Err(_) => Err(NoMemory),
+                }
+            }
             Kept::Shared(items) => Ok(Kept::Shared(items)),
         }
     }

@@ -83,7 +83,7 @@ impl Label {
         self.bytes.as_slice()
     }
 
-    /// The same label, whose copies take no memory from now on.
+    /// The same label. Copies of a long one take no memory from now on.
     pub fn share(self) -> Result<Label, NoMemory>
         ensures { IfOk result (λ label. label ≡ self) }
     {

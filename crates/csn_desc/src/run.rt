@@ -79,7 +79,7 @@ impl Run {
         &self.symbols.as_slice()[at as usize]
     }
 
-    /// The same run, whose copies take no memory from now on.
+    /// The same run. Copies of a long one take no memory from now on.
     pub fn share(self) -> Result<Run, NoMemory>
         ensures { IfOk result (λ run. run ≡ self) }
     {
