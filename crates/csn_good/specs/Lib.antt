@@ -8,6 +8,7 @@ pub mod Wanted
 pub mod Apart
 pub mod Told
 pub mod Made
+pub mod Behind
 pub mod Laws
 pub mod Covering
 pub mod Faults
