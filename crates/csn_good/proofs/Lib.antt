@@ -12,5 +12,6 @@ pub mod Meeting
 pub mod Conflicting
 pub mod Making
 pub mod Behind
+pub mod ListsMeeting
 pub mod Covered
 pub mod Faulting

@@ -6,6 +6,7 @@ pub mod Signs
 pub mod Tails
 pub mod Wanted
 pub mod Apart
+pub mod ListsMeeting
 pub mod Told
 pub mod Made
 pub mod Behind
