@@ -33,9 +33,10 @@ pub record AreBehind (first : List PatternV) (octet : ℕ) (rests behind : List 
       (size : ℕ) → size ≤ MOST_MARKS
       → AreBehindSize first size (patterns_in rests ((octet + size) % 8)) (patterns_in behind size)
 
--- a pattern as it is where it is cut, and else joined with each pattern of what stands behind as many marks
+-- a pattern as it is where it is cut, and else joined with each of these
+abbrev pub continued_with : List PatternV → PatternV → List PatternV
+continued_with rests first = if first.whole then map (joined first) rests else first ∷ []
+
+-- the same with each pattern of what stands behind as many marks
 abbrev pub continued_by : List (List PatternV) → PatternV → List PatternV
-continued_by behind first =
-    if first.whole
-    then map (joined first) (patterns_in behind (length first.marks))
-    else first ∷ []
+continued_by behind first = continued_with (patterns_in behind (length first.marks)) first

@@ -5,13 +5,16 @@ ghost use Rattle.csn_cert.specs.declared.pattern.TheConstants.{MOST_MARKS};
 ghost use Rattle.csn_cert.specs.PatternText.{ComesBefore};
 ghost use Rattle.csn_cert.specs.CertificateV.{Rises};
 ghost use Rattle.csn_certmake.specs.Patterns.{joined, continued, HasSame};
-ghost use Rattle.csn_certmake.specs.Behind.{cut_to, continued_by, HaveFewMarks, HasSize, AreBehindSize, AreBehind};
+ghost use Rattle.csn_certmake.specs.Behind.{cut_to, continued_with, continued_by, HaveFewMarks, HasSize, AreBehindSize, AreBehind};
 
 use crate::row::Row;
 use csn_bits::NoMemory;
 use csn_cert::laws::texts_are_of_one_pattern;
 use csn_cert::{MOST_MARKS, Pattern};
 use std::alloc::Global;
+
+/// So many first patterns are joined with all that stands behind them as soon as that is cut.
+const FEW: usize = 8;
 
 /// Adds the first marks of another pattern.
 fn push_marks(pattern: &mut Pattern, from: &Pattern, count: u8)
@@ -47,6 +50,40 @@ fn push_joined(
         patterns.push(joined(first, rest))?;
     }
     Ok(())
+}
+
+/// Adds the patterns of a first one: itself where it is cut, and else joined with each of those that stand behind it.
+fn push_continued(
+    patterns: &mut Vec<Pattern>,
+    first: &Pattern,
+    rests: &[Pattern],
+) -> Result<(), NoMemory>
+    ensures { OnOk result (patterns.new.items ≡ patterns.old.items ++ continued_with rests.now first.now) }
+{
+    if !first.whole() {
+        patterns.push(*first)?;
+        return Ok(());
+    }
+    push_joined(patterns, first, rests)
+}
+
+/// The patterns of a first part that begins at an octet position, with what comes after each.
+fn continued_at(
+    alloc: Global,
+    first: &[Pattern],
+    octet: u8,
+    rests: &Row,
+) -> Result<Vec<Pattern>, NoMemory>
+    requires octet { octet ≤ 7 }
+    requires row { length rests.now ≡ 8 }
+    ensures { IfOk result (λ patterns. patterns.items ≡ flat_map (continued rests.now octet) first.now) }
+{
+    let mut patterns = Vec::new(alloc);
+    for pattern in first {
+        let end = (octet + pattern.len()) % 8;
+        push_continued(&mut patterns, pattern, rests.at(end))?;
+    }
+    Ok(patterns)
 }
 
 /// The first marks of a pattern, as many as there is room for; cut where there are more.
@@ -119,25 +156,6 @@ fn behind_each(alloc: Global, first: &[Pattern], octet: u8, rests: &Row) -> Resu
     Ok(behind)
 }
 
-/// Adds the patterns of a first one: itself where it is cut, and else joined with those of what stands behind as many
-/// marks.
-fn push_continued(
-    patterns: &mut Vec<Pattern>,
-    first: &Pattern,
-    behind: &Row,
-) -> Result<(), NoMemory>
-    requires { length behind.now ≡ MOST_MARKS + 1 }
-    ensures few { length first.now.marks ≤ MOST_MARKS }
-    ensures added { OnOk result (patterns.new.items ≡ patterns.old.items ++ continued_by behind.now first.now) }
-{
-    let size = first.len();
-    if !first.whole() {
-        patterns.push(*first)?;
-        return Ok(());
-    }
-    push_joined(patterns, first, behind.at(size))
-}
-
 /// The patterns of the first ones, with what stands behind each number of marks.
 fn continued_by(alloc: Global, first: &[Pattern], behind: &Row) -> Result<Vec<Pattern>, NoMemory>
     requires { length behind.now ≡ MOST_MARKS + 1 }
@@ -146,7 +164,8 @@ fn continued_by(alloc: Global, first: &[Pattern], behind: &Row) -> Result<Vec<Pa
 {
     let mut patterns = Vec::new(alloc);
     for pattern in first {
-        push_continued(&mut patterns, pattern, behind)?;
+        let size = pattern.len();
+        push_continued(&mut patterns, pattern, behind.at(size))?;
     }
     Ok(patterns)
 }
@@ -164,6 +183,9 @@ pub(crate) fn after(
     ensures same { IfOk result (λ patterns. HasSame patterns.items (flat_map (continued rests.now octet) first.now)) }
     ensures rising { IfOk result (λ patterns. Rises ComesBefore patterns.items) }
 {
+    if first.len() <= FEW {
+        return Ok(in_order(continued_at(alloc, first, octet, rests)?));
+    }
     let behind = behind_each(alloc, first, octet, rests)?;
     Ok(in_order(continued_by(alloc, first, &behind)?))
 }

@@ -1,7 +1,9 @@
-use Rattle.std.proofs.Common.{List, ap, ◌∙◌, subst, flat_map, arith, ◌++◌, take}
+use Rattle.std.proofs.Common.{◌≡◌, ◌++◌, [], List, ap, sym, ◌∙◌, subst, flat_map, length, arith}
 use Rattle.std.proofs.lemmas.List.{take_all}
+use Rattle.std.proofs.lemmas.Option.{get_or_from_slice_get}
 use Rattle.csn_cert.specs.PatternV.{PatternV}
-use Rattle.csn_certmake.specs.Behind.{continued_by, HaveFewMarks}
+use Rattle.csn_certmake.specs.Patterns.{patterns_in}
+use Rattle.csn_certmake.specs.Behind.{continued_with, continued_by, HaveFewMarks}
 use Rattle.csn_certmake.proofs.Rows.{flat_next}
 use Rattle.csn_certmake.proofs.Behind.{none_few, next_few}
 use Rattle.csn_certmake.proofs.joining.continued_by.Goals as goal
@@ -11,11 +13,17 @@ loop-pattern-init c = (c.new-patterns.ensures.items, none_few c.args.first.now)
 
 pub loop-pattern-preserved : goal.loop-pattern-preserved
 loop-pattern-preserved c =
-    let own = continued_by c.args.behind.now in
-    let first = c.args.first.now in (
-      c.in_ok-push_continued.ensures.added ∙ ap (λ l. l ++ own c.pattern-item.result) c.loop-pattern.invariant.0
-          ∙ flat_next own first c.loop-pattern.pattern-index c.pattern-item.result c.loop-pattern-test.true c.pattern-item.is,
-      next_few first c.loop-pattern.pattern-index c.pattern-item.result c.loop-pattern-test.true c.pattern-item.is c.in_ok-push_continued.ensures.few c.loop-pattern.invariant.1,
+    let behind = c.args.behind.now in
+    let patterns = c.args.first.now in
+    let first = c.pattern-item.result in
+    let count = c.len-size.ensures.count in
+    let there : patterns_in behind (length first.marks) ≡ c.at.result.now =
+    ap (λ n. patterns_in behind n) (sym count) ∙ get_or_from_slice_get behind c.len-size.result c.at.result.now [] c.at.ensures in (
+      c.in_ok-push_continued.ensures
+          ∙ ap (λ l. c.loop-pattern.patterns.items ++ l) (ap (λ l. continued_with l first) (sym there))
+          ∙ ap (λ l. l ++ continued_by behind first) c.loop-pattern.invariant.0
+          ∙ flat_next (continued_by behind) patterns c.loop-pattern.pattern-index first c.loop-pattern-test.true c.pattern-item.is,
+      next_few patterns c.loop-pattern.pattern-index first c.loop-pattern-test.true c.pattern-item.is (omega (arith, count, c.len-size.ensures.few)) c.loop-pattern.invariant.1,
     )
 
 pub returns-clause-few : goal.returns-clause-few
