@@ -1,17 +1,17 @@
 -- What stands behind first patterns, cut to the marks that there is room for, makes the same with them.
-use Rattle.std.proofs.Common.{◌≡◌, ℕ, zero, suc, inl, inr, ◌+◌, ◌-◌, ◌%◌, ◌<◌, ◌≤◌, min, Bool, true, false, ◌&&◌, List, [], ◌∷◌, ◌++◌, length, take, map, flat_map, refl, sym, ap, ◌∙◌, subst, arith, get_or, length-append}
+use Rattle.std.proofs.Common.{◌≡◌, ℕ, zero, suc, inl, inr, ◌+◌, ◌-◌, ◌%◌, ◌<◌, ◌≤◌, Bool, true, false, ◌&&◌, List, [], ◌∷◌, ◌++◌, length, take, map, flat_map, refl, sym, ap, ◌∙◌, subst, arith, get_or, length-append}
 use Rattle.std.specs.Prelude.{nat_le}
 use Rattle.std.specs.List.{Contains}
 use Rattle.std.proofs.lemmas.Bool.Decides.{nat_tests}
 use Rattle.std.proofs.lemmas.List.{take_all, take_more, length-take-le}
-use Rattle.std.proofs.lemmas.List.Elements.{Contains-append_cases, Contains-append_left, Contains-append_right}
+use Rattle.std.proofs.lemmas.List.Elements.{Contains-append_cases}
 use Rattle.csn_cert.specs.declared.pattern.Mark.{Mark}
 use Rattle.csn_cert.specs.PatternV.{PatternV}
 use Rattle.csn_certmake.specs.Patterns.{joined, continued, patterns_in, HasSame}
 use Rattle.csn_certmake.specs.Behind.{cut_to, continued_by, HaveFewMarks, HasSize, AreBehindSize, AreBehind}
 use Rattle.csn_certmake.proofs.Shortening.{joined_is}
 use Rattle.csn_certmake.proofs.Rows.{one_more}
-use Rattle.csn_certmake.proofs.Members.{from_flat, to_flat, map_same, same_again}
+use Rattle.csn_certmake.proofs.Members.{from_flat, to_flat, map_same}
 
 -- ---- patterns cut to the room behind another
 

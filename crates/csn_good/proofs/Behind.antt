@@ -1,5 +1,5 @@
 -- What stands behind the patterns of a part makes the same where it is cut to the marks that there is room for.
-use Rattle.std.proofs.Common.{◌≡◌, ℕ, zero, suc, ◌+◌, ◌-◌, ◌%◌, ◌<◌, ◌≤◌, Bool, true, false, List, [], ◌∷◌, ◌++◌, length, take, inl, inr, refl, sym, ◌∙◌, ap, subst, arith, Option, Some, None, slice_get, length-append}
+use Rattle.std.proofs.Common.{◌≡◌, ℕ, ◌+◌, ◌-◌, ◌%◌, ◌<◌, ◌≤◌, Bool, true, false, List, [], ◌∷◌, ◌++◌, length, take, inl, inr, refl, sym, ◌∙◌, ap, subst, arith, Option, Some, None, slice_get, length-append}
 use Rattle.std.specs.Prelude.{◌⊎◌, ◌↔◌, Contains, nat_le, ◌&&◌, IfSome}
 use Rattle.std.proofs.lemmas.Bool.Decides.{nat_tests}
 use Rattle.std.proofs.Math.Seq.{take-append-add}
@@ -7,7 +7,7 @@ use Rattle.csn_cert.specs.declared.pattern.Mark.{Mark}
 use Rattle.csn_cert.specs.PatternV.{PatternV}
 use Rattle.csn_good.specs.Patterns.{shortened}
 use Rattle.csn_good.specs.Behind.{cut_to, CutsSome, JoinsOne, MakesSame, IsBehind}
-use Rattle.csn_good.proofs.Making.{take_part, take_whole, take_size, one_more, shorter, PushedAt, earlier, last, pushed_at}
+use Rattle.csn_good.proofs.Making.{take_part, take_whole, take_size, one_more, shorter, earlier, last, pushed_at}
 
 -- ---- one pattern
 

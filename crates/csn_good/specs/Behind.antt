@@ -1,6 +1,6 @@
 -- What stands behind the patterns of a part, cut: behind so many marks only as many count as there is room for. No
 -- public contract cites these words.
-use Rattle.std.specs.Prelude.{◌≡◌, ℕ, ◌+◌, ◌-◌, ◌%◌, ◌≤◌, ◌↔◌, if◌then◌else◌, nat_le, false, List, ◌++◌, length, take, Option, Some, slice_get, Contains}
+use Rattle.std.specs.Prelude.{◌≡◌, ℕ, ◌+◌, ◌-◌, ◌%◌, ◌↔◌, if◌then◌else◌, nat_le, false, List, ◌++◌, length, take, Option, Some, slice_get, Contains}
 use Rattle.csn_cert.specs.PatternV.{PatternV}
 use Rattle.csn_cert.specs.declared.pattern.TheConstants.{MOST_MARKS}
 use Rattle.csn_good.specs.Patterns.{shortened}

@@ -1,6 +1,6 @@
 -- Lists of patterns of which some meet, as the private functions find it: bit by bit. No public contract cites these
 -- words.
-use Rattle.std.specs.Prelude.{◌≡◌, ℕ, ◌+◌, ◌<◌, ◌≤◌, List, length, slice_get, Some, Contains}
+use Rattle.std.specs.Prelude.{◌≡◌, ℕ, ◌<◌, ◌≤◌, List, length, slice_get, Some, Contains}
 use Rattle.csn_cert.specs.declared.pattern.Mark.{Mark}
 use Rattle.csn_cert.specs.PatternV.{PatternV}
 use Rattle.csn_cert.specs.declared.pattern.TheConstants.{MOST_MARKS}

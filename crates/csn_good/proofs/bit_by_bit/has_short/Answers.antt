@@ -1,9 +1,6 @@
-use Rattle.std.proofs.Common.{length, refl, sym, subst, arith, List, take}
+use Rattle.std.proofs.Common.{length, refl, arith}
 use Rattle.std.proofs.lemmas.Option.{slice_get_read}
-use Rattle.csn_cert.specs.PatternV.{PatternV}
-use Rattle.csn_good.specs.ListsMeeting.{HasShort}
-use Rattle.csn_good.proofs.Making.{take_whole}
-use Rattle.csn_good.proofs.ListsMeeting.{short_none, short_next, short_here}
+use Rattle.csn_good.proofs.ListsMeeting.{short_none, short_next}
 use Rattle.csn_good.proofs.bit_by_bit.has_short.Goals as goal
 
 pub loop-pattern-init : goal.loop-pattern-init

@@ -1,4 +1,4 @@
-use Rattle.std.proofs.Common.{length, refl, ◌∙◌, ap, Some, sym, arith}
+use Rattle.std.proofs.Common.{length, refl, ◌∙◌, ap, Some, arith}
 use Rattle.std.proofs.lemmas.Option.{slice_get_read}
 use Rattle.csn_good.proofs.Behind.{same_cut}
 use Rattle.csn_good.proofs.made.Made.rests.Goals as goal

@@ -1,4 +1,4 @@
-use Rattle.std.proofs.Common.{length, refl, sym, ◌∙◌, subst, List, take}
+use Rattle.std.proofs.Common.{length, refl, subst, List}
 use Rattle.std.specs.Prelude.{◌↔◌, Contains}
 use Rattle.std.proofs.lemmas.Option.{slice_get_read}
 use Rattle.csn_cert.specs.PatternV.{PatternV}
