@@ -40,6 +40,7 @@ def main():
             run("certify.py", catalogue.name, *beside),
             run("judge.py", catalogue.name, *beside),
             run("certificates.py", *beside),
+            run("growth.py", *beside),
             run("refused.py"),
             run("limits.py"),
             run("hostile.py", "--cases", options.cases),

@@ -2,6 +2,7 @@ mod Orders
 mod Shortening
 mod Rows
 mod Members
+mod Behind
 mod Nodes
 mod Writing
 mod Later

@@ -43,7 +43,7 @@ flat_same g h xs same p = (
   λ has. let found = from_flat h xs p has in to_flat g xs found.1.0 found.0 p found.1.1 found.1.2 ((same found.0 p).1 found.2),
 )
 
-map_same : (f : PatternV → PatternV) (xs ys : List PatternV) → HasSame xs ys → HasSame (map f xs) (map f ys)
+pub map_same : (f : PatternV → PatternV) (xs ys : List PatternV) → HasSame xs ys → HasSame (map f xs) (map f ys)
 map_same f xs ys same p = (
   λ has. let found = from_map f xs has.0 p has.1 has.2 in let there = (same found.0).0 found.1 in subst (λ q. Contains (map f ys) q) found.2 (to_map f ys there.0 found.0 there.1 there.2),
   λ has. let found = from_map f ys has.0 p has.1 has.2 in let there = (same found.0).1 found.1 in subst (λ q. Contains (map f xs) q) found.2 (to_map f xs there.0 found.0 there.1 there.2),

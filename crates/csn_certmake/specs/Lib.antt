@@ -1,4 +1,5 @@
 pub mod Patterns
+pub mod Behind
 pub mod Digits
 pub mod Rows
 pub mod Claimed

@@ -11,5 +11,7 @@ pub mod Holding
 pub mod Meeting
 pub mod Conflicting
 pub mod Making
+pub mod Behind
+pub mod ListsMeeting
 pub mod Covered
 pub mod Faulting

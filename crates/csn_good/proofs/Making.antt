@@ -10,6 +10,7 @@ use Rattle.csn_cert.specs.PatternV.{PatternV}
 use Rattle.csn_cert.specs.CertificateV.{NodeV, PositionV}
 use Rattle.csn_good.specs.ClaimedSets.{patterns_at, patterns_of}
 use Rattle.csn_good.specs.Patterns.{shortened, PartsPatterns, TimesPatterns, parts_none, parts_cut, parts_whole, times_none, times_cut, times_whole}
+use Rattle.csn_good.specs.Behind.{JoinsOne}
 use Rattle.csn_good.specs.Made.{digit_of, marks_number, end_number, pattern_number, MadeAt, AreMade, FirstMakes, makes_cut, makes_whole, SomeMakes}
 use Rattle.indexmap.specs.IndexSet.{insert_key}
 use Rattle.std.proofs.lemmas.Option.{slice_get_within}
@@ -183,11 +184,6 @@ join_done first rest both k few long is whole test =
 
 -- ---- what patterns make
 
-pub record JoinsOne (first : PatternV) (rests : List PatternV) (p : PatternV) : Type 0 where
-  pub rest : PatternV
-  pub is_rest : Contains rests rest
-  pub joined : p ≡ shortened (first.marks ++ rest.marks) rest.whole
-
 pub joins_none : (first p : PatternV) (rests : List PatternV) → JoinsOne first (take 0 rests) p → ⊥
 joins_none first p rests h = absurd (omega (arith, h.is_rest.1))
 
@@ -205,12 +201,14 @@ joins_on first rest p rests k at =
       ]),
     )
 
-pub joins_done : (made : List (List PatternV)) (first p : PatternV) (octet k : ℕ) (rests : List PatternV) → first.whole ≡ true → slice_get made ((octet + length first.marks) % 8) ≡ Some rests → length rests ≤ k → JoinsOne first (take k rests) p ↔ FirstMakes (MadeAt made) first octet p
-joins_done made first p octet k rests whole at long =
-    subst (λ l. JoinsOne first l p ↔ FirstMakes (MadeAt made) first octet p) (sym (take_whole rests k long)) (
-      (λ h. makes_whole h.rest whole (record { patterns = rests; at = at; is_made = h.is_rest }) h.joined),
-      back,
-    )
+pub joins_whole : (first p : PatternV) (rests : List PatternV) (k : ℕ) → length rests ≤ k → JoinsOne first (take k rests) p ↔ JoinsOne first rests p
+joins_whole first p rests k long = subst (λ l. JoinsOne first l p ↔ JoinsOne first rests p) (sym (take_whole rests k long)) ((λ h. h), (λ h. h))
+
+pub joins_made : (made : List (List PatternV)) (first p : PatternV) (octet : ℕ) (rests : List PatternV) → first.whole ≡ true → slice_get made ((octet + length first.marks) % 8) ≡ Some rests → JoinsOne first rests p ↔ FirstMakes (MadeAt made) first octet p
+joins_made made first p octet rests whole at = (
+  (λ h. makes_whole h.rest whole (record { patterns = rests; at = at; is_made = h.is_rest }) h.joined),
+  back,
+)
   where
     back : FirstMakes (MadeAt made) first octet p → JoinsOne first rests p
     back (makes_cut is_cut same) = absurd (cc)
@@ -259,11 +257,11 @@ fill_none P = record { count = refl; are = λ o patterns at. absurd (cc) }
 pub fill_begin : (P : ℕ → PatternV → Type 0) (made : List (List PatternV)) → made ≡ [] → FilledTo made P 0
 fill_begin P made none = subst (λ l. FilledTo l P 0) (sym none) (fill_none P)
 
-data PushedAt {X : Type 0} (xs : List X) (x : X) (o : ℕ) (y : X) : Type 0 where
+pub data PushedAt {X : Type 0} (xs : List X) (x : X) (o : ℕ) (y : X) : Type 0 where
   earlier : slice_get xs o ≡ Some y → PushedAt xs x o y
   last : o ≡ length xs → y ≡ x → PushedAt xs x o y
 
-pushed_at : {X : Type 0} (xs : List X) (x : X) (o : ℕ) (y : X) → slice_get (xs ++ x ∷ []) o ≡ Some y → PushedAt xs x o y
+pub pushed_at : {X : Type 0} (xs : List X) (x : X) (o : ℕ) (y : X) → slice_get (xs ++ x ∷ []) o ≡ Some y → PushedAt xs x o y
 pushed_at [] x zero y at = last refl (cc)
 pushed_at [] x (suc o) y at = absurd (cc)
 pushed_at (z ∷ xs) x zero y at = earlier at
@@ -425,6 +423,12 @@ next_joins added before now same = (
     | inl o ↦ added.1 (inl (before.1 (inl o)))
     | inr k ↦ elim (now.0 k) [ inl j ↦ added.1 (inl (before.1 (inr j))) | inr e ↦ added.1 (inr (e ∙ sym same)) ]
   ]),
+)
+
+pub next_sames : {N M J K X : Type 0} {p x y : X} → N ↔ (M ⊎ (p ≡ x)) → M ↔ J → K ↔ (J ⊎ (p ≡ y)) → x ≡ y → N ↔ K
+next_sames added before now same = (
+  (λ n. elim (added.0 n) [ inl m ↦ now.1 (inl (before.0 m)) | inr e ↦ now.1 (inr (e ∙ same)) ]),
+  (λ k. elim (now.0 k) [ inl j ↦ added.1 (inl (before.1 j)) | inr e ↦ added.1 (inr (e ∙ sym same)) ]),
 )
 
 pub next_makes : {N M E J K : Type 0} → N ↔ (M ⊎ E) → M ↔ J → K ↔ (J ⊎ E) → N ↔ K

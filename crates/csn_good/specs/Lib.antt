@@ -6,8 +6,10 @@ pub mod Signs
 pub mod Tails
 pub mod Wanted
 pub mod Apart
+pub mod ListsMeeting
 pub mod Told
 pub mod Made
+pub mod Behind
 pub mod Laws
 pub mod Covering
 pub mod Faults

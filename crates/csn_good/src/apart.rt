@@ -1,24 +1,23 @@
 //! The rule of conflicts: a node has none.
 
-ghost use Rattle.std.specs.Prelude.{◌≡◌, ◌≢◌, ◌<◌, ◌≤◌, ◌↔◌, ℕ, true, false, length, slice_get, IsTrue, IsSome, Some};
+ghost use Rattle.std.specs.Prelude.{◌≡◌, ◌≢◌, ◌<◌, ◌≤◌, ◌↔◌, ℕ, true, false, length, slice_get, IsTrue, IsSome, IfOk, Some};
 ghost use Rattle.csn_cert.specs.CertificateV.{IsCertificate};
 ghost use Rattle.csn_claims.specs.Conflicts.{IsNull};
-ghost use Rattle.csn_good.specs.ClaimedSets.{claims_of};
+ghost use Rattle.csn_good.specs.ClaimedSets.{claims_of, patterns_at};
 ghost use Rattle.csn_good.specs.Good.{KeepsApart};
 ghost use Rattle.csn_good.specs.Octets.{has_octet, PartsWithin, NodeWithin};
-ghost use Rattle.csn_good.specs.Apart.{MarksMeet, PatternsMeet, SomeMeets, PartsMeet, HasEmpty, IsFirmNode, Overlaps, ClashesAt, Clashes, TurnsClash, BitBehind, AreApart, IsApart, EachApart};
+ghost use Rattle.csn_good.specs.Apart.{PatternsMeet, SomeMeets, PartsMeet, HasEmpty, IsFirmNode, Overlaps, ClashesAt, Clashes, TurnsClash, BitBehind, AreApart, IsApart, EachApart};
 
+use crate::bit_by_bit::{lists_meet, marks_meet};
 use crate::claims::{followed_by, may_end, nullable, starts_with};
 use crate::octets::{begins_of, through_many};
-use csn_cert::{Certificate, Mark, Pattern};
+use csn_bits::NoMemory;
+use csn_cert::{Certificate, Pattern};
 use csn_desc::{Desc, Node, Parts};
+use std::alloc::Global;
 
-/// Whether some bit is one of both marks.
-fn marks_meet(left: Mark, right: Mark) -> bool
-    ensures { IsTrue result ↔ MarksMeet left right }
-{
-    left == Mark::Any || right == Mark::Any || left == right
-}
+/// So many pairs of patterns are gone through as soon as lists of them are made.
+const FEW_PAIRS: u64 = 64;
 
 /// Whether a word of the one pattern begins with one of the other.
 fn patterns_meet(left: Pattern, right: Pattern) -> bool
@@ -49,8 +48,8 @@ fn some_meets(c: &Certificate, part: u16, octet: u8, pattern: Pattern) -> bool
     false
 }
 
-/// Whether some patterns of two parts meet.
-fn parts_meet(c: &Certificate, left: u16, right: u16, octet: u8) -> bool
+/// Whether some patterns of two parts meet, pair by pair.
+fn pairs_meet(c: &Certificate, left: u16, right: u16, octet: u8) -> bool
     requires octet { octet ≤ 7 }
     requires left { left < length c.now }
     requires right { right < length c.now }
@@ -65,6 +64,62 @@ fn parts_meet(c: &Certificate, left: u16, right: u16, octet: u8) -> bool
         }
     }
     false
+}
+
+/// How many patterns node `i` has at the octet position.
+fn patterns_count(c: &Certificate, i: u16, octet: u8) -> u32
+    requires octet { octet ≤ 7 }
+    requires node { i < length c.now }
+    ensures { result ≡ length (patterns_at c.now i octet) }
+{
+    if !c.has(i, octet) {
+        return 0;
+    }
+    c.patterns(i, octet)
+}
+
+/// The patterns of node `i` at the octet position.
+fn patterns_list(
+    alloc: Global,
+    c: &Certificate,
+    i: u16,
+    octet: u8,
+) -> Result<Vec<Pattern>, NoMemory>
+    requires octet { octet ≤ 7 }
+    requires node { i < length c.now }
+    ensures { IfOk result (λ list. list.items ≡ patterns_at c.now i octet) }
+{
+    let mut list = Vec::new(alloc);
+    if !c.has(i, octet) {
+        return Ok(list);
+    }
+    for k in 0..c.patterns(i, octet) {
+        list.push(c.pattern_at(i, octet, k))?;
+    }
+    Ok(list)
+}
+
+/// Whether some patterns of two parts meet: pair by pair where they are few, and else bit by bit.
+fn parts_meet(
+    alloc: Global,
+    c: &Certificate,
+    left: u16,
+    right: u16,
+    octet: u8,
+) -> Result<bool, NoMemory>
+    requires octet { octet ≤ 7 }
+    requires left { left < length c.now }
+    requires right { right < length c.now }
+    ensures { IfOk result (λ meet. IsTrue meet ↔ PartsMeet c.now left right octet) }
+{
+    let own = u64::from(patterns_count(c, left, octet));
+    let others = u64::from(patterns_count(c, right, octet));
+    if own * others <= FEW_PAIRS {
+        return Ok(pairs_meet(c, left, right, octet));
+    }
+    let lefts = patterns_list(alloc, c, left, octet)?;
+    let rights = patterns_list(alloc, c, right, octet)?;
+    Ok(lists_meet(alloc, lefts.as_slice(), rights.as_slice(), 0)?)
 }
 
 /// Whether node `i` takes no bits.
@@ -153,18 +208,18 @@ fn is_firm(c: &Certificate, i: u16) -> bool
 }
 
 /// Whether the patterns of two parts meet at an octet position that node `i` has.
-fn overlap(c: &Certificate, i: u16, left: u16, right: u16) -> bool
+fn overlap(alloc: Global, c: &Certificate, i: u16, left: u16, right: u16) -> Result<bool, NoMemory>
     requires node { i < length c.now }
     requires left { left < length c.now }
     requires right { right < length c.now }
-    ensures { IsTrue result ↔ Overlaps c.now i left right }
+    ensures { IfOk result (λ overlap. IsTrue overlap ↔ Overlaps c.now i left right) }
 {
     for octet in 0..8 {
-        if c.has(i, octet) && parts_meet(c, left, right, octet) {
-            return true;
+        if c.has(i, octet) && parts_meet(alloc, c, left, right, octet)? {
+            return Ok(true);
         }
     }
-    false
+    Ok(false)
 }
 
 /// Whether a part may begin with a bit that may follow node `i`, at an octet position that it has.
@@ -195,83 +250,109 @@ fn something_follows(c: &Certificate, i: u16) -> bool
 }
 
 /// Whether two alternatives of choice `i`, the one before the other, do not leave it open which is meant.
-fn are_apart(desc: &Desc, c: &Certificate, i: u16, left: u16, right: u16) -> bool
+fn are_apart(
+    alloc: Global,
+    desc: &Desc,
+    c: &Certificate,
+    i: u16,
+    left: u16,
+    right: u16,
+) -> Result<bool, NoMemory>
     requires number { length c.now ≡ length desc.now.nodes }
     requires node { i < length c.now }
     requires left { left < length c.now }
     requires right { right < length c.now }
-    ensures { IsTrue result ↔ AreApart desc.now c.now i left right }
+    ensures { IfOk result (λ apart. IsTrue apart ↔ AreApart desc.now c.now i left right) }
 {
     if is_null(desc, left) {
-        !is_null(desc, right) && !clashes(c, i, right)
-    } else if is_null(desc, right) {
-        !clashes(c, i, left)
-    } else {
-        !overlap(c, i, left, right)
+        return Ok(!is_null(desc, right) && !clashes(c, i, right));
     }
+    if is_null(desc, right) {
+        return Ok(!clashes(c, i, left));
+    }
+    Ok(!overlap(alloc, c, i, left, right)?)
 }
 
 /// Whether the alternative at a place takes no bits or is firm, and is apart from each later one.
-fn alternative_is_apart(desc: &Desc, c: &Certificate, i: u16, parts: &Parts, place: u16) -> bool
+fn alternative_is_apart(
+    alloc: Global,
+    desc: &Desc,
+    c: &Certificate,
+    i: u16,
+    parts: &Parts,
+    place: u16,
+) -> Result<bool, NoMemory>
     requires number { length c.now ≡ length desc.now.nodes }
     requires node { i < length c.now }
     requires parts { PartsWithin parts.now (length c.now) }
     requires place { place < length parts.now }
-    ensures { (part : ℕ) → slice_get parts.now place ≡ Some part → IsTrue result ↔ IsApart desc.now c.now i parts.now place part }
+    ensures { IfOk result (λ apart. (part : ℕ) → slice_get parts.now place ≡ Some part → IsTrue apart ↔ IsApart desc.now c.now i parts.now place part) }
 {
     let count = parts.len();
     let alternative = parts.get(place);
     if !is_null(desc, alternative) && !is_firm(c, alternative) {
-        return false;
+        return Ok(false);
     }
     for later in place + 1..count {
-        if !are_apart(desc, c, i, alternative, parts.get(later)) {
-            return false;
+        if !are_apart(alloc, desc, c, i, alternative, parts.get(later))? {
+            return Ok(false);
         }
     }
-    true
+    Ok(true)
 }
 
 /// Whether the alternatives of choice `i` are apart.
-fn choice_is_apart(desc: &Desc, c: &Certificate, i: u16, parts: &Parts) -> bool
+fn choice_is_apart(
+    alloc: Global,
+    desc: &Desc,
+    c: &Certificate,
+    i: u16,
+    parts: &Parts,
+) -> Result<bool, NoMemory>
     requires number { length c.now ≡ length desc.now.nodes }
     requires node { i < length c.now }
     requires parts { PartsWithin parts.now (length c.now) }
-    ensures { IsTrue result ↔ EachApart desc.now c.now i parts.now }
+    ensures { IfOk result (λ apart. IsTrue apart ↔ EachApart desc.now c.now i parts.now) }
 {
     for place in 0..parts.len() {
-        if !alternative_is_apart(desc, c, i, parts, place) {
-            return false;
+        if !alternative_is_apart(alloc, desc, c, i, parts, place)? {
+            return Ok(false);
         }
     }
-    true
+    Ok(true)
 }
 
 /// Rule 8: node `i` has no conflict.
-pub(crate) fn keeps_apart(desc: &Desc, c: &Certificate, i: u16, node: &Node) -> bool
+pub(crate) fn keeps_apart(
+    alloc: Global,
+    desc: &Desc,
+    c: &Certificate,
+    i: u16,
+    node: &Node,
+) -> Result<bool, NoMemory>
     requires certificate { IsCertificate c.now }
     requires number { length c.now ≡ length desc.now.nodes }
     requires node { i < length c.now }
     requires parts { NodeWithin node.now (length c.now) }
-    ensures { IsTrue result ↔ KeepsApart desc.now c.now i node.now }
+    ensures { IfOk result (λ keeps. IsTrue keeps ↔ KeepsApart desc.now c.now i node.now) }
 {
     match node {
-        Node::Lits(_) => true,
-        Node::Spare(_) => true,
-        Node::Pad => !something_follows(c, i),
-        Node::Null => true,
-        Node::Field { unit: _, count: _ } => true,
-        Node::Rest => !something_follows(c, i),
-        Node::Seq(_) => true,
-        Node::Choice(parts) => choice_is_apart(desc, c, i, parts),
-        Node::Times { count: _, part } => !nullable(c, *part),
-        Node::Many(part) => is_firm(c, *part) && !turns_clash(c, i, *part),
-        Node::Trunc(_) => !something_follows(c, i),
+        Node::Lits(_) => Ok(true),
+        Node::Spare(_) => Ok(true),
+        Node::Pad => Ok(!something_follows(c, i)),
+        Node::Null => Ok(true),
+        Node::Field { unit: _, count: _ } => Ok(true),
+        Node::Rest => Ok(!something_follows(c, i)),
+        Node::Seq(_) => Ok(true),
+        Node::Choice(parts) => Ok(choice_is_apart(alloc, desc, c, i, parts)?),
+        Node::Times { count: _, part } => Ok(!nullable(c, *part)),
+        Node::Many(part) => Ok(is_firm(c, *part) && !turns_clash(c, i, *part)),
+        Node::Trunc(_) => Ok(!something_follows(c, i)),
         Node::Window {
             unit: _,
             count: _,
             part: _,
-        } => true,
-        Node::Named { label: _, part: _ } => true,
+        } => Ok(true),
+        Node::Named { label: _, part: _ } => Ok(true),
     }
 }

@@ -63,14 +63,15 @@ fn broken_rule(
     if !keeps_follow(c, i, node) {
         return Ok(Some(7));
     }
-    if !keeps_apart(desc, c, i, node) {
+    if !keeps_apart(alloc, desc, c, i, node)? {
         return Ok(Some(8));
     }
     Ok(None)
 }
 
 /// Checks a certificate, node by node. It takes at most some steps in proportion to the number of patterns that it
-/// has, times the number of patterns that there are; memory for the patterns that the equation of one node makes.
+/// has, times the number of patterns that there are; memory for the patterns that the equation of one node makes, or
+/// for those of two alternatives.
 pub fn check_certificate(alloc: Global, desc: &Desc, c: &Certificate) -> Result<Checked, NoMemory>
     ensures proved { IfOk result (λ checked. (checked ≡ Checked.Proved) ↔ Good desc.now c.now) }
     ensures unproved { (rule node : ℕ) → IfOk result (λ checked. checked ≡ Checked.Unproved rule node → FirstFault desc.now c.now rule node) }

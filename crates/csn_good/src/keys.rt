@@ -1,8 +1,9 @@
 //! The rule of keys: some claimed pattern covers each that the equation of a node makes.
 
-ghost use Rattle.std.specs.Prelude.{◌≡◌, ◌<◌, ◌≤◌, ◌⊎◌, ◌↔◌, ℕ, length, slice_get, IsTrue, IfOk, Contains};
+ghost use Rattle.std.specs.Prelude.{◌≡◌, ◌<◌, ◌≤◌, ◌⊎◌, ◌↔◌, ℕ, length, slice_get, IsTrue, IsSome, IfOk, Contains};
 ghost use Rattle.csn_cert.specs.PatternV.{PatternV};
 ghost use Rattle.csn_cert.specs.CertificateV.{IsCertificate};
+ghost use Rattle.csn_cert.specs.Growing.{claimed};
 ghost use Rattle.csn_good.specs.Covering.{AreCovered, PartIsCovered, EachIsCovered, MadeIsCoveredAt, MadeIsCovered, LeafIsCovered};
 ghost use Rattle.csn_good.specs.ClaimedSets.{patterns_at, claims_of};
 ghost use Rattle.csn_good.specs.Patterns.{CoverMarks, Covers, IsCovered};
@@ -16,6 +17,9 @@ use csn_bits::NoMemory;
 use csn_cert::{Certificate, Mark, Pattern};
 use csn_desc::{Count, Desc, Node, Parts};
 use std::alloc::Global;
+
+/// So many patterns are gone through as soon as one is looked for among them.
+const FEW: u32 = 8;
 
 /// Whether one mark covers another.
 fn mark_covers(wide: Mark, mark: Mark) -> bool
@@ -64,6 +68,30 @@ fn part_is_covered(c: &Certificate, i: u16, part: u16) -> bool
     true
 }
 
+/// Whether one is met that covers this pattern where it is looked for among the claimed patterns of node `i` by the
+/// order of their texts. If not, another may cover it all the same.
+fn is_found(c: &Certificate, i: u16, octet: u8, pattern: Pattern) -> bool
+    requires octet { octet ≤ 7 }
+    requires has { IsSome (claimed c.now i octet) }
+    ensures { IsTrue result → IsCovered c.now i octet pattern }
+{
+    let mut low = 0;
+    let mut high = c.patterns(i, octet);
+    while low < high {
+        let middle = low + (high - low) / 2;
+        let own = c.pattern_at(i, octet, middle);
+        if covers(own, pattern) {
+            return true;
+        }
+        if own < pattern {
+            low = middle + 1;
+        } else {
+            high = middle;
+        }
+    }
+    false
+}
+
 /// Whether some claimed pattern of node `i` at the octet position covers this one.
 fn is_covered(c: &Certificate, i: u16, octet: u8, pattern: Pattern) -> bool
     requires node { i < length c.now }
@@ -72,6 +100,9 @@ fn is_covered(c: &Certificate, i: u16, octet: u8, pattern: Pattern) -> bool
 {
     if !c.has(i, octet) {
         return false;
+    }
+    if c.patterns(i, octet) > FEW && is_found(c, i, octet, pattern) {
+        return true;
     }
     for k in 0..c.patterns(i, octet) {
         if covers(c.pattern_at(i, octet, k), pattern) {

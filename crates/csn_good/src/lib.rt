@@ -2,6 +2,7 @@
 #![tactic(auto)]
 
 mod apart;
+mod bit_by_bit;
 mod checking;
 mod claims;
 mod ending;

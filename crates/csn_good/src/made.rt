@@ -1,11 +1,14 @@
 //! The patterns that the equations make.
 
-ghost use Rattle.std.specs.Prelude.{◌≡◌, ◌<◌, ◌≤◌, ◌+◌, ◌%◌, ◌++◌, ◌⊎◌, ◌↔◌, ◌∷◌, ℕ, [], true, length, slice_get, IsTrue, Contains, Some, OnOk, IfOk};
+ghost use Rattle.std.specs.Prelude.{◌≡◌, ◌<◌, ◌≤◌, ◌+◌, ◌-◌, ◌%◌, ◌++◌, ◌⊎◌, ◌↔◌, ◌∷◌, ℕ, [], List, true, length, slice_get, IsTrue, IsSome, Contains, Some, OnOk, IfOk, IfSome};
 ghost use Rattle.csn_cert.specs.PatternV.{PatternV};
 ghost use Rattle.csn_cert.specs.CertificateV.{IsPattern};
+ghost use Rattle.csn_cert.specs.Growing.{claimed};
+ghost use Rattle.csn_cert.specs.declared.pattern.TheConstants.{MOST_MARKS};
 ghost use Rattle.csn_good.specs.Octets.{PartsWithin};
 ghost use Rattle.csn_good.specs.Patterns.{shortened, PartsPatterns, TimesPatterns};
 ghost use Rattle.csn_good.specs.Made.{digit_of, pattern_number, MadeAt, AreMade, FirstMakes, PartMakes};
+ghost use Rattle.csn_good.specs.Behind.{cut_to, CutsSome, MakesSame, IsBehind, AreBehind};
 
 use csn_bits::NoMemory;
 use csn_cert::{Certificate, MOST_MARKS, Mark, Pattern};
@@ -13,6 +16,9 @@ use csn_desc::Parts;
 use indexmap::IndexSet;
 use std::alloc::Global;
 use std::marker::Model;
+
+/// So many patterns are joined with all that stands behind them as soon as that is cut.
+const FEW: u32 = 8;
 
 /// The number of a mark.
 fn digit_of(mark: Mark) -> u32
@@ -107,6 +113,18 @@ impl PatternSet {
         Ok(())
     }
 
+    /// The patterns, with no more marks than there is room for.
+    fn cut_to(&self, alloc: Global, room: u8) -> Result<PatternSet, NoMemory>
+        requires { room ≤ MOST_MARKS }
+        ensures { IfOk result (λ cut. (p : PatternV) → Contains cut p ↔ CutsSome room self.now p) }
+    {
+        let mut cut = PatternSet::new(alloc);
+        for pattern in self.as_slice() {
+            cut.add(cut_to(*pattern, room))?;
+        }
+        Ok(cut)
+    }
+
     /// Whether each of the patterns is in the other set; else it may be that the answer is no though they are.
     fn is_within(&self, other: &PatternSet) -> bool
         ensures { IsTrue result → (p : PatternV) → Contains self.now p → Contains other.now p }
@@ -118,6 +136,21 @@ impl PatternSet {
         }
         true
     }
+}
+
+/// The first marks of a pattern, as many as there is room for; cut where there are more.
+fn cut_to(pattern: Pattern, room: u8) -> Pattern
+    requires { room ≤ MOST_MARKS }
+    ensures { result ≡ cut_to room pattern }
+{
+    if pattern.len() <= room {
+        return pattern;
+    }
+    let mut cut = Pattern::new(false);
+    for at in 0..room {
+        cut.push(pattern.get(at));
+    }
+    cut
 }
 
 /// Two patterns one after the other, of which no more marks are kept than a pattern has.
@@ -164,18 +197,118 @@ impl Made {
         &self.at[octet as usize]
     }
 
-    /// Adds the patterns that one pattern makes at an octet position with these behind it.
-    fn add_made(&self, patterns: &mut PatternSet, first: Pattern, octet: u8) -> Result<(), NoMemory>
+    /// What stands behind the patterns of part `i` at an octet position that have so many marks, cut to the marks that
+    /// there is room for, where two patterns or more have so many. For one alone nothing would be spared.
+    fn behind_size(
+        &self,
+        alloc: Global,
+        c: &Certificate,
+        i: u16,
+        octet: u8,
+        size: u8,
+    ) -> Result<Option<PatternSet>, NoMemory>
         requires made { length self.now.at.items ≡ 8 }
         requires octet { octet ≤ 7 }
+        requires size { size ≤ MOST_MARKS }
+        requires has { IsSome (claimed c.now i octet) }
+        ensures { IfOk result (λ behind. IfSome behind (IsBehind self.now.at.items octet size)) }
+    {
+        let mut one = false;
+        for k in 0..c.patterns(i, octet) {
+            if c.pattern_at(i, octet, k).len() == size {
+                if one {
+                    let later = self.set_at((octet + size) % 8);
+                    return Ok(Some(later.cut_to(alloc, MOST_MARKS as u8 - size)?));
+                }
+                one = true;
+            }
+        }
+        Ok(None)
+    }
+
+    /// The same for each number of marks; nothing where the part has few patterns there.
+    fn behind_each(
+        &self,
+        alloc: Global,
+        c: &Certificate,
+        i: u16,
+        octet: u8,
+    ) -> Result<Vec<Option<PatternSet>>, NoMemory>
+        requires made { length self.now.at.items ≡ 8 }
+        requires octet { octet ≤ 7 }
+        requires has { IsSome (claimed c.now i octet) }
+        ensures { IfOk result (λ behind. AreBehind self.now.at.items octet behind.items) }
+    {
+        let mut behind = Vec::new(alloc);
+        if c.patterns(i, octet) <= FEW {
+            return Ok(behind);
+        }
+        for size in 0..MOST_MARKS as u8 + 1 {
+            behind.push(self.behind_size(alloc, c, i, octet, size)?)?;
+        }
+        Ok(behind)
+    }
+
+    /// What makes the same behind so many marks as these patterns at their octet position: cut ones, where they are
+    /// kept, and else these themselves.
+    fn rests<'a>(&'a self, behind: &'a [Option<PatternSet>], octet: u8, size: u8) -> &'a PatternSet
+        requires made { length self.now.at.items ≡ 8 }
+        requires octet { octet ≤ 7 }
+        requires size { size ≤ MOST_MARKS }
+        requires behind { AreBehind self.now.at.items octet behind.now }
+        ensures { MakesSame self.now.at.items octet size result.now }
+    {
+        let place = size as usize;
+        if place >= behind.len() {
+            return self.set_at((octet + size) % 8);
+        }
+        match &behind[place] {
+            Some(cut) => cut,
+            None => self.set_at((octet + size) % 8),
+        }
+    }
+
+    /// Adds the patterns that one pattern makes at an octet position with these behind it.
+    fn add_made(
+        &self,
+        patterns: &mut PatternSet,
+        first: Pattern,
+        octet: u8,
+        behind: &[Option<PatternSet>],
+    ) -> Result<(), NoMemory>
+        requires made { length self.now.at.items ≡ 8 }
+        requires octet { octet ≤ 7 }
+        requires behind { AreBehind self.now.at.items octet behind.now }
         ensures { OnOk result ((p : PatternV) → Contains patterns.new p ↔ (Contains patterns.old p ⊎ FirstMakes (MadeAt self.now.at.items) first octet p)) }
     {
         if !first.whole() {
             return patterns.add(first);
         }
-        let later = self.set_at((octet + first.len()) % 8);
-        for rest in later.as_slice() {
+        let rests = self.rests(behind, octet, first.len());
+        for rest in rests.as_slice() {
             patterns.add(joined(first, *rest))?;
+        }
+        Ok(())
+    }
+
+    /// Adds the patterns that those of part `i` make at an octet position with these behind them.
+    fn add_each(
+        &self,
+        patterns: &mut PatternSet,
+        c: &Certificate,
+        i: u16,
+        octet: u8,
+        behind: &[Option<PatternSet>],
+    ) -> Result<(), NoMemory>
+        requires made { length self.now.at.items ≡ 8 }
+        requires octet { octet ≤ 7 }
+        requires has { IsSome (claimed c.now i octet) }
+        requires behind { AreBehind self.now.at.items octet behind.now }
+        requires none { patterns.old ≡ [] }
+        ensures { OnOk result ((p : PatternV) → Contains patterns.new p ↔ PartMakes c.now (MadeAt self.now.at.items) i octet p) }
+    {
+        for k in 0..c.patterns(i, octet) {
+            self.add_made(patterns, c.pattern_at(i, octet, k), octet, behind)?;
         }
         Ok(())
     }
@@ -197,9 +330,8 @@ impl Made {
         if !c.has(i, octet) {
             return Ok(patterns);
         }
-        for k in 0..c.patterns(i, octet) {
-            self.add_made(&mut patterns, c.pattern_at(i, octet, k), octet)?;
-        }
+        let behind = self.behind_each(alloc, c, i, octet)?;
+        self.add_each(&mut patterns, c, i, octet, behind.as_slice())?;
         Ok(patterns)
     }
 

@@ -12,7 +12,7 @@ loop-later-preserved c = λ k other above less at.
           let here = ap (λ p. slice_get c.args.parts.now p) same.1 in
           let got = c.get.ensures in
           let part : other ≡ c.get.result = cc in
-          subst (λ q. AreApart c.args.desc.now c.args.c.now c.args.i c.get-alternative.result q) (sym part) (c.are_apart.ensures.0 c.if-not-are_apart.false)
+          subst (λ q. AreApart c.args.desc.now c.args.c.now c.args.i c.get-alternative.result q) (sym part) (c.in_ok-are_apart.ensures.0 c.if-not-branch.false)
       | inr apart ↦ (let differ = apart.1 in c.loop-later.invariant k other above (omega arith) at)
     ]
 

@@ -5,15 +5,15 @@ use Rattle.csn_good.specs.Apart.{IsApart}
 use Rattle.csn_good.proofs.Conflicting.{item_at}
 use Rattle.csn_good.proofs.apart.choice_is_apart.Goals as goal
 
-pub returns-then-not-alternative_is_apart : goal.returns-then-not-alternative_is_apart
-returns-then-not-alternative_is_apart c = (
+pub returns-then-not-branch : goal.returns-then-not-branch
+returns-then-not-branch c = (
   (λ h. absurd (cc)),
   (λ h.
       let long = c.len-place-end.ensures.len in
       let less = c.loop-place-test.true in
       let there = item_at c.args.parts.now c.loop-place.place (omega arith) in
-      let right = (c.alternative_is_apart.ensures there.0 there.1).1 (h c.loop-place.place there.0 there.1) in
-      let wrong = c.if-not-alternative_is_apart.true in
+      let right = (c.in_ok-alternative_is_apart.ensures there.0 there.1).1 (h c.loop-place.place there.0 there.1) in
+      let wrong = c.if-not-branch.true in
       absurd (cc)),
 )
 
@@ -21,7 +21,7 @@ pub loop-place-preserved : goal.loop-place-preserved
 loop-place-preserved c = λ place part less at.
     let Q : ℕ → Type 0 = λ n. slice_get c.args.parts.now n ≡ Some part → IsApart c.args.desc.now c.args.c.now c.args.i c.args.parts.now n part in
     elim (eqb_tells place c.loop-place.place) [
-      | inl same ↦ subst Q (sym same.1) (λ here. (c.alternative_is_apart.ensures part here).0 c.if-not-alternative_is_apart.false) at
+      | inl same ↦ subst Q (sym same.1) (λ here. (c.in_ok-alternative_is_apart.ensures part here).0 c.if-not-branch.false) at
       | inr apart ↦ (let differ = apart.1 in c.loop-place.invariant place part (omega arith) at)
     ]
 

@@ -14,8 +14,8 @@ returns-in-Rest c = along (λ n. IsTrue (not c.something_follows-in-Rest.result)
 pub returns-in-Trunc : goal.returns-in-Trunc
 returns-in-Trunc c = along (λ n. IsTrue (not c.something_follows-in-Trunc.result) ↔ KeepsApart c.args.desc.now c.args.c.now c.args.i n) c.in-Trunc.is (not_told c.something_follows-in-Trunc.ensures (trunc_apart c.args.desc.now c.args.c.now c.requires.certificate c.args.i c.in-Trunc.field-0) (trunc_back c.args.desc.now c.args.c.now c.requires.certificate c.args.i c.in-Trunc.field-0))
 
-pub returns-in-Choice : goal.returns-in-Choice
-returns-in-Choice c = along (λ n. IsTrue c.choice_is_apart.result ↔ KeepsApart c.args.desc.now c.args.c.now c.args.i n) c.in-Choice.is (tells c.choice_is_apart.ensures (choice_told c.args.desc.now c.args.c.now c.requires.certificate c.args.i c.in-Choice.parts))
+pub returns-in_ok-choice_is_apart-in-Choice : goal.returns-in_ok-choice_is_apart-in-Choice
+returns-in_ok-choice_is_apart-in-Choice c = along (λ n. IsTrue c.in_ok-choice_is_apart-in-Choice.field-0 ↔ KeepsApart c.args.desc.now c.args.c.now c.args.i n) c.in-Choice.is (tells c.in_ok-choice_is_apart-in-Choice.ensures (choice_told c.args.desc.now c.args.c.now c.requires.certificate c.args.i c.in-Choice.parts))
 
 pub returns-in-Times : goal.returns-in-Times
 returns-in-Times c = along (λ n. IsTrue (not c.nullable.result) ↔ KeepsApart c.args.desc.now c.args.c.now c.args.i n) c.in-Times.is (is_false c.nullable.ensures (times_apart c.args.desc.now c.args.c.now c.requires.certificate c.args.i c.in-Times.count c.in-Times.part) (times_back c.args.desc.now c.args.c.now c.requires.certificate c.args.i c.in-Times.count c.in-Times.part))

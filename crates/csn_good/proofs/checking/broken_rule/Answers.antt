@@ -20,11 +20,11 @@ returns-then-not-keeps_reached c = record { some = fault_reached c.args.desc.now
 pub returns-then-not-keeps_follow : goal.returns-then-not-keeps_follow
 returns-then-not-keeps_follow c = record { some = fault_follow c.args.desc.now c.args.c.now c.requires.number c.args.i c.args.node.now c.requires.node ((c.keeps_nullable.ensures c.args.desc.now).0 c.if-not-keeps_nullable.false) (c.keeps_ends.ensures.0 c.if-not-keeps_ends.false) (c.keeps_start.ensures.0 c.if-not-keeps_start.false) (c.in_ok-keeps_keys.ensures.0 c.if-not-branch.false) ((c.keeps_reached.ensures c.args.desc.now).0 c.if-not-keeps_reached.false) (denied (c.keeps_follow.ensures c.args.desc.now) c.if-not-keeps_follow.true); none = tt }
 
-pub returns-then-not-keeps_apart : goal.returns-then-not-keeps_apart
-returns-then-not-keeps_apart c = record { some = fault_apart c.args.desc.now c.args.c.now c.requires.number c.args.i c.args.node.now c.requires.node ((c.keeps_nullable.ensures c.args.desc.now).0 c.if-not-keeps_nullable.false) (c.keeps_ends.ensures.0 c.if-not-keeps_ends.false) (c.keeps_start.ensures.0 c.if-not-keeps_start.false) (c.in_ok-keeps_keys.ensures.0 c.if-not-branch.false) ((c.keeps_reached.ensures c.args.desc.now).0 c.if-not-keeps_reached.false) ((c.keeps_follow.ensures c.args.desc.now).0 c.if-not-keeps_follow.false) (denied c.keeps_apart.ensures c.if-not-keeps_apart.true); none = tt }
+pub returns-then-not-branch-2-clause-some : goal.returns-then-not-branch-2-clause-some
+returns-then-not-branch-2-clause-some c = fault_apart c.args.desc.now c.args.c.now c.requires.number c.args.i c.args.node.now c.requires.node ((c.keeps_nullable.ensures c.args.desc.now).0 c.if-not-keeps_nullable.false) (c.keeps_ends.ensures.0 c.if-not-keeps_ends.false) (c.keeps_start.ensures.0 c.if-not-keeps_start.false) (c.in_ok-keeps_keys.ensures.0 c.if-not-branch.false) ((c.keeps_reached.ensures c.args.desc.now).0 c.if-not-keeps_reached.false) ((c.keeps_follow.ensures c.args.desc.now).0 c.if-not-keeps_follow.false) (denied c.in_ok-keeps_apart.ensures c.if-not-branch-2.true)
 
 pub returns : goal.returns
-returns c = record { some = tt; none = record { nullable = ((c.keeps_nullable.ensures c.args.desc.now).0 c.if-not-keeps_nullable.false); ends = (c.keeps_ends.ensures.0 c.if-not-keeps_ends.false); start = (c.keeps_start.ensures.0 c.if-not-keeps_start.false); keys = (c.in_ok-keeps_keys.ensures.0 c.if-not-branch.false); reached = ((c.keeps_reached.ensures c.args.desc.now).0 c.if-not-keeps_reached.false); follow = ((c.keeps_follow.ensures c.args.desc.now).0 c.if-not-keeps_follow.false); apart = (c.keeps_apart.ensures.0 c.if-not-keeps_apart.false) } }
+returns c = record { some = tt; none = record { nullable = ((c.keeps_nullable.ensures c.args.desc.now).0 c.if-not-keeps_nullable.false); ends = (c.keeps_ends.ensures.0 c.if-not-keeps_ends.false); start = (c.keeps_start.ensures.0 c.if-not-keeps_start.false); keys = (c.in_ok-keeps_keys.ensures.0 c.if-not-branch.false); reached = ((c.keeps_reached.ensures c.args.desc.now).0 c.if-not-keeps_reached.false); follow = ((c.keeps_follow.ensures c.args.desc.now).0 c.if-not-keeps_follow.false); apart = (c.in_ok-keeps_apart.ensures.0 c.if-not-branch-2.false) } }
 
 pub keeps_nullable-requires : goal.keeps_nullable-requires
 keeps_nullable-requires c = record { node = c.requires.within; parts = c.requires.parts }

@@ -1,8 +1,12 @@
-use Rattle.std.proofs.Common.{◌+◌, ◌%◌, length, refl, sym, ◌∙◌, ap, Some, slice_get}
+use Rattle.std.proofs.Common.{◌+◌, ◌%◌, length, List, refl, sym, ◌∙◌, ap, subst, arith, slice_get}
+use Rattle.std.specs.Prelude.{◌↔◌}
 use Rattle.std.proofs.lemmas.Result.{on_ok_weaker}
 use Rattle.std.proofs.lemmas.Option.{slice_get_read}
+use Rattle.csn_cert.specs.PatternV.{PatternV}
+use Rattle.csn_good.specs.Behind.{JoinsOne}
 use Rattle.csn_good.specs.Made.{MadeAt}
-use Rattle.csn_good.proofs.Making.{either_as, flipped, next_joins, joins_on, joins_done, makes_only_itself}
+use Rattle.csn_good.proofs.Conflicting.{item_at as made_there}
+use Rattle.csn_good.proofs.Making.{either_as, flipped, in_turn, next_joins, joins_on, joins_whole, joins_made, makes_only_itself}
 use Rattle.csn_good.proofs.made.Made.add_made.Goals as goal
 
 pub returns-then-not-whole : goal.returns-then-not-whole
@@ -19,8 +23,15 @@ loop-rest-preserved c = λ p.
 
 pub returns : goal.returns
 returns c = λ p.
-    let items = c.as_slice-rest-items.result.now in
+    let these = c.as_slice-rest-items.result.now in
     let made = c.args.self.now.at.items in
     let place = ap (λ n. (c.args.octet + n) % 8) c.len.ensures.count in
-    let at = ap (λ n. slice_get made n) (sym place) ∙ c.set_at-later.ensures ∙ ap Some (sym c.as_slice-rest-items.ensures) in
-    either_as (c.loop-rest.invariant p) (flipped (joins_done made c.args.first p c.args.octet c.loop-rest.rest-index items (sym c.whole.ensures ∙ c.if-not-whole.false) at c.loop-rest-test.false))
+    let later = made_there made ((c.args.octet + length c.args.first.marks) % 8) (omega (arith, c.requires.made)) in
+    let own = later.1 in
+    let same = c.rests-rests.ensures later.0 c.args.first p (ap (λ n. slice_get made n) place ∙ own) (sym c.len.ensures.count) in
+    either_as (c.loop-rest.invariant p) (flipped (in_turn
+    (joins_whole c.args.first p these c.loop-rest.rest-index c.loop-rest-test.false)
+    (in_turn
+    (subst (λ (l : List PatternV). JoinsOne c.args.first l p ↔ JoinsOne c.args.first later.0 p) (sym c.as_slice-rest-items.ensures) same)
+    (joins_made made c.args.first p c.args.octet later.0 (sym c.whole.ensures ∙ c.if-not-whole.false) own)))
+    )

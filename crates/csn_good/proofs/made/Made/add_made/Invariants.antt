@@ -1,7 +1,7 @@
 use Rattle.std.proofs.Common.{take}
 use Rattle.std.specs.Prelude.{◌↔◌, ◌⊎◌, Contains}
 use Rattle.csn_cert.specs.PatternV.{PatternV}
-use Rattle.csn_good.proofs.Making.{JoinsOne}
+use Rattle.csn_good.specs.Behind.{JoinsOne}
 use Rattle.csn_good.proofs.made.Made.add_made.Given as goal
 
 abbrev pub invariant-loop-rest : goal.invariant-loop-rest

@@ -1,9 +1,8 @@
-use Rattle.std.proofs.Common.{sym, ◌∙◌, arith}
-use Rattle.csn_cert.specs.Growing.{claimed}
-use Rattle.csn_good.specs.ClaimedSets.{patterns_at}
-use Rattle.csn_good.specs.Made.{MadeAt}
+use Rattle.std.proofs.Common.{List, Option, sym, subst}
+use Rattle.csn_cert.specs.PatternV.{PatternV}
+use Rattle.csn_good.specs.Behind.{AreBehind}
 use Rattle.csn_good.proofs.Conflicting.{no_pattern}
-use Rattle.csn_good.proofs.Making.{in_none, in_turn, next_makes, some_none, some_on, some_done, claimed_pattern, claimed_count}
+use Rattle.csn_good.proofs.Making.{in_none}
 use Rattle.csn_good.proofs.made.Made.behind_at.Goals as goal
 
 pub returns-then-not-has : goal.returns-then-not-has
@@ -12,21 +11,5 @@ returns-then-not-has c = λ p. (
   (λ h. absurd (no_pattern c.args.c.now c.args.i c.args.octet h.first c.has.result c.has.ensures c.if-not-has.true h.is_first)),
 )
 
-pub loop-k-init : goal.loop-k-init
-loop-k-init c = λ p. (
-  (λ h. absurd (in_none c.new-patterns.ensures h)),
-  (λ h. absurd (some_none (MadeAt c.args.self.now.at.items) c.args.octet (patterns_at c.args.c.now c.args.i c.args.octet) p h)),
-)
-
-pub loop-k-preserved : goal.loop-k-preserved
-loop-k-preserved c = λ p.
-    let there = sym c.has.ensures ∙ c.if-not-has.false in
-    let at = claimed_pattern (claimed c.args.c.now c.args.i c.args.octet) c.loop-k.k c.pattern_at.result there c.pattern_at.ensures in
-    next_makes (c.in_ok-add_made.ensures p) (c.loop-k.invariant p) (some_on (MadeAt c.args.self.now.at.items) c.args.octet (patterns_at c.args.c.now c.args.i c.args.octet) c.loop-k.k c.pattern_at.result p at)
-
-pub returns : goal.returns
-returns c = λ p.
-    let there = sym c.has.ensures ∙ c.if-not-has.false in
-    let count = claimed_count (claimed c.args.c.now c.args.i c.args.octet) c.patterns-k-end.result there c.patterns-k-end.ensures in
-    let over = c.loop-k-test.false in
-    in_turn (c.loop-k.invariant p) (some_done (MadeAt c.args.self.now.at.items) c.args.octet (patterns_at c.args.c.now c.args.i c.args.octet) c.loop-k.k p (omega arith))
+pub add_each-requires-clause-behind : goal.add_each-requires-clause-behind
+add_each-requires-clause-behind c = subst (λ (l : List (Option (List PatternV))). AreBehind c.args.self.now.at.items c.args.octet l) (sym c.as_slice.ensures.value) c.in_ok-behind.ensures

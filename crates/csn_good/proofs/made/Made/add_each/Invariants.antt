@@ -3,7 +3,7 @@ use Rattle.std.specs.Prelude.{◌↔◌, Contains}
 use Rattle.csn_cert.specs.PatternV.{PatternV}
 use Rattle.csn_good.specs.ClaimedSets.{patterns_at}
 use Rattle.csn_good.specs.Made.{MadeAt, SomeMakes}
-use Rattle.csn_good.proofs.made.Made.behind_at.Given as goal
+use Rattle.csn_good.proofs.made.Made.add_each.Given as goal
 
 abbrev pub invariant-loop-k : goal.invariant-loop-k
 invariant-loop-k l =
