@@ -3,11 +3,13 @@
 
 pub mod examples;
 mod fault;
+mod form;
 pub mod laws;
 mod read;
 mod tag;
 mod write;
 
 pub use fault::JsonFault;
+pub use form::TreeForm;
 pub use read::read_json;
 pub use write::{json_fits, write_json};

@@ -8,7 +8,7 @@ use Rattle.csn_desc.specs.declared.node.Node.{Node}
 use Rattle.csn_desc.specs.Nodes.{DescV}
 use Rattle.csn_judge.specs.Told.{Tells, tells_none, tells_enter, tells_bit, tells_leave}
 use Rattle.csn_movetext.specs.WithNodes.{with_nodes, inside, with_node}
-use Rattle.csn_movetext.specs.declared.form.TreeForm.{TreeForm}
+use Rattle.csn_json.specs.declared.form.TreeForm.{TreeForm}
 use Rattle.csn_movetext.specs.Openings.{OpeningsV, opening_in}
 use Rattle.csn_movetext.specs.Writing.{WritingV, ready, behind, written_by}
 use Rattle.csn_movetext.specs.Kept.{begun, IsFront, Extends}

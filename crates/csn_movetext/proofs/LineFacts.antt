@@ -11,7 +11,7 @@ use Rattle.csn_bits.specs.Line.{octets_of_digits}
 use Rattle.csn_bits.proofs.Packing.{length-bits_of_octets, bits_of_octets-append}
 use Rattle.csn_bits.proofs.Written.{block_line-dot}
 use Rattle.csn_desc.specs.Nodes.{DescV}
-use Rattle.csn_movetext.specs.declared.form.TreeForm.{TreeForm}
+use Rattle.csn_json.specs.declared.form.TreeForm.{TreeForm}
 use Rattle.csn_judge.specs.declared.fed.Fed.{Fed as Answer}
 use Rattle.csn_judge.specs.declared.fed.Fed.TheVariants.{Going, Refused, NoMemory}
 use Rattle.csn_movetext.specs.declared.octet_text.OctetText.{OctetText}

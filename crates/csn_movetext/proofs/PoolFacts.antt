@@ -14,7 +14,7 @@ use Rattle.csn_desc.proofs.Numbering.{span_inside, span_parts, part_from}
 use Rattle.csn_movetext.specs.declared.openings.Place.{Place}
 use Rattle.csn_movetext.specs.Pool.{bytes_at, IsWithin}
 use Rattle.csn_movetext.specs.Numbers.{AreNumbers}
-use Rattle.csn_movetext.specs.declared.form.TreeForm.{TreeForm}
+use Rattle.csn_json.specs.declared.form.TreeForm.{TreeForm}
 use Rattle.csn_movetext.specs.Openings.{OpeningsV, AreOpened, AreOpenings, opening_in, opening_of, number_at, number_text, HasLabel}
 use Rattle.csn_movetext.proofs.NumberFacts.{parts_within}
 

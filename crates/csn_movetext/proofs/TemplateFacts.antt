@@ -19,8 +19,8 @@ use Rattle.csn_certify.specs.declared.layouts.Layout.{Layout}
 use Rattle.csn_certify.specs.Layouts.{HasLayout}
 use Rattle.csn_treetext.specs.declared.version.Version.TheVariants.{Second}
 use Rattle.csn_treetext.specs.Text.{leaf_text, text_of}
-use Rattle.csn_movetext.specs.declared.form.TreeForm.{TreeForm}
-use Rattle.csn_movetext.specs.declared.form.TreeForm.TheVariants.{Text}
+use Rattle.csn_json.specs.declared.form.TreeForm.{TreeForm}
+use Rattle.csn_json.specs.declared.form.TreeForm.TheVariants.{Text}
 use Rattle.csn_movetext.specs.declared.template.Piece.{Piece}
 use Rattle.csn_movetext.specs.declared.template.Template.{Template}
 use Rattle.csn_movetext.specs.Forms.{gap_after, label_text, text_in, width_text}

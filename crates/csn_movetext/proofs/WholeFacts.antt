@@ -16,8 +16,8 @@ use Rattle.csn_desc.specs.Values.{Values}
 use Rattle.csn_desc.specs.Walks.{Walk, walk_at}
 use Rattle.csn_judge.specs.Told.{Tells, WholeTold}
 use Rattle.csn_movetext.specs.WithNodes.{with_nodes, inside, with_node}
-use Rattle.csn_movetext.specs.declared.form.TreeForm.{TreeForm}
-use Rattle.csn_movetext.specs.declared.form.TreeForm.TheVariants.{Text, Json}
+use Rattle.csn_json.specs.declared.form.TreeForm.{TreeForm}
+use Rattle.csn_json.specs.declared.form.TreeForm.TheVariants.{Text, Json}
 use Rattle.csn_movetext.specs.declared.template.Template.{Template}
 use Rattle.csn_movetext.specs.Forms.{gap_after, text_in}
 use Rattle.csn_movetext.specs.Templates.{filled, template_at}

@@ -30,8 +30,8 @@ use Rattle.csn_treetext.specs.Text.{is_short, short_text, other_text, leaf_text,
 use Rattle.csn_json.specs.JsonText.{json_text}
 use Rattle.csn_json.specs.JsonText.{row_text as json_row}
 use Rattle.csn_json.specs.Laws.{TextsAreJoined}
-use Rattle.csn_movetext.specs.declared.form.TreeForm.{TreeForm}
-use Rattle.csn_movetext.specs.declared.form.TreeForm.TheVariants.{Text, Json}
+use Rattle.csn_json.specs.declared.form.TreeForm.{TreeForm}
+use Rattle.csn_json.specs.declared.form.TreeForm.TheVariants.{Text, Json}
 use Rattle.csn_movetext.specs.Forms.{text_in, nothing_text, mark_text, label_text, width_text, leaf_opening, gap_after}
 use Rattle.csn_movetext.specs.WithNodes.{with_nodes, inside, with_node}
 use Rattle.csn_movetext.specs.Openings.{AreOpenings, number_at, number_text, told_width, leaf_width, node_opening}

@@ -17,7 +17,7 @@ use Rattle.csn_judge.specs.Following as following
 use Rattle.csn_judge.specs.declared.verdict.Judged.{Judged}
 use Rattle.csn_judge.specs.declared.verdict.Judged.TheVariants as judged
 use Rattle.csn_movetext.specs.declared.block.BlockText.TheInside.{Inside}
-use Rattle.csn_movetext.specs.declared.form.TreeForm.{TreeForm}
+use Rattle.csn_json.specs.declared.form.TreeForm.{TreeForm}
 use Rattle.csn_movetext.specs.declared.fault.BlockFault.{BlockFault}
 use Rattle.csn_movetext.specs.declared.fault.BlockFault.TheVariants as fault
 use Rattle.csn_movetext.specs.Forms.{IsShown}

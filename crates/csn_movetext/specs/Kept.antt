@@ -4,7 +4,7 @@ use Rattle.std.specs.Prelude.{◌≡◌, ℕ, ◌+◌, ◌%◌, ◌<◌, Bool, t
 use Rattle.hex.specs.Hex.{encode_upper}
 use Rattle.csn_bits.specs.Octets.{IsBits, octets_of}
 use Rattle.csn_bits.specs.Numbers.{number_of}
-use Rattle.csn_movetext.specs.declared.form.TreeForm.{TreeForm}
+use Rattle.csn_json.specs.declared.form.TreeForm.{TreeForm}
 use Rattle.csn_movetext.specs.declared.writing.Writing.{Writing}
 use Rattle.csn_movetext.specs.Forms.{octets_sign}
 use Rattle.csn_movetext.specs.Writing.{WritingV}

@@ -6,7 +6,7 @@ use Rattle.csn_bits.specs.Line.{BlockLine, fault_of}
 use Rattle.csn_bits.specs.Feed.{Fed, octets_given, seen_of}
 use Rattle.csn_bits.specs.declared.feed.HexFeed.{HexFeed}
 use Rattle.csn_desc.specs.Nodes.{DescV}
-use Rattle.csn_movetext.specs.declared.form.TreeForm.{TreeForm}
+use Rattle.csn_json.specs.declared.form.TreeForm.{TreeForm}
 use Rattle.csn_judge.specs.declared.fed.Fed.TheVariants.{NoMemory}
 use Rattle.csn_movetext.specs.declared.line.LineText.TheInside.{Inside}
 use Rattle.csn_movetext.specs.declared.line.LineEnd.{LineEnd}

@@ -6,7 +6,6 @@ mod alternatives;
 mod block;
 mod digits;
 mod fault;
-mod form;
 pub mod laws;
 mod line;
 mod octet_text;
@@ -19,9 +18,9 @@ mod write;
 mod writing;
 
 pub use block::BlockText;
+pub use csn_json::TreeForm;
 pub use csn_judge::Fed;
 pub use fault::{BlockFault, Unwritten};
-pub use form::TreeForm;
 pub use line::{LineEnd, LineText};
 pub use openings::Openings;
 pub use write::write_block;

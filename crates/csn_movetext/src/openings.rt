@@ -6,13 +6,13 @@ ghost use Rattle.csn_movetext.specs.Templates.{template_at};
 
 use crate::alternatives::alternatives;
 use crate::digits::push_number;
-use crate::form::TreeForm;
 use crate::template::Template;
 use crate::templates::templates;
 use crate::writing::leaf_width;
 use csn_bits::NoMemory;
 use csn_certify::{Plan, Steps};
 use csn_desc::{Label, Node};
+use csn_json::TreeForm;
 use std::alloc::Global;
 use std::marker::{Brand, Model};
 use std::sync::ledger::{Blank, Ledger};

@@ -7,13 +7,13 @@ ghost use Rattle.csn_movetext.specs.Openings.{AreOpened, AreTemplates, IsTemplat
 ghost use Rattle.csn_movetext.specs.Templates.{is_later, template_at};
 ghost use Rattle.csn_movetext.specs.Making.{EndsAt, HasPart, WritesLeaf, WritesNode, WritesParts};
 
-use crate::form::TreeForm;
 use crate::openings::Openings;
 use crate::template::Template;
 use crate::writing::leaf_width;
 use csn_bits::NoMemory;
 use csn_certify::{Plan, Steps};
 use csn_desc::{Node, Parts};
+use csn_json::TreeForm;
 use std::alloc::Global;
 use std::sync::ledger::Ledger;
 

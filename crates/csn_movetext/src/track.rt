@@ -3,13 +3,13 @@ ghost use Rattle.csn_bits.specs.Numbers.{low_bits};
 ghost use Rattle.csn_movetext.specs.Kept.{Extends, kept_of};
 ghost use Rattle.csn_movetext.specs.Track.{Moves, TookAll};
 
-use crate::form::TreeForm;
 use crate::laws::moves_write_their_tree;
 use crate::openings::Openings;
 use crate::writing::Writing;
 use csn_bits::NoMemory;
 use csn_certify::{Layout, Plan};
 use csn_desc::{Move, Node};
+use csn_json::TreeForm;
 use csn_judge::Track;
 use std::marker::Model;
 

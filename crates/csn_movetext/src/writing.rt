@@ -4,11 +4,11 @@ ghost use Rattle.csn_movetext.specs.Openings.{leaf_width};
 ghost use Rattle.csn_movetext.specs.Told.{IsTold};
 
 use crate::digits::{push_number, push_octets};
-use crate::form::TreeForm;
 use crate::room::{push_within, room};
 use crate::template::Template;
 use csn_bits::NoMemory;
 use csn_desc::{Count, Node};
+use csn_json::TreeForm;
 
 /// The most bits of a leaf that is written as one number.
 const MOST_HELD: u32 = 64;

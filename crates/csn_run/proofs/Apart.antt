@@ -1,12 +1,11 @@
 -- Ends and faults that are not the same.
-use Rattle.std.proofs.Common.{◌≡◌, ℕ, Result, Ok, Err, T, not, eqb, T_not, true≢false, sym, ◌∙◌, ap, subst}
-use Rattle.std.specs.Result.{is_ok}
-use Rattle.csn_run.specs.declared.ended.Ended.{Ended}
-use Rattle.csn_run.specs.declared.ended.Ended.TheVariants.{Done, Usage, WriteFault, NoMemory}
-use Rattle.csn_run.specs.declared.fault.Fault.{Fault}
-use Rattle.csn_run.specs.declared.fault.Fault.TheVariants.{Memory}
-use Rattle.csn_run.specs.Ended.{status_of}
-use Rattle.csn_run.specs.Job.{end_by}
+use Rattle.std.proofs.Common.{◌≡◌, ℕ, Result, Ok, Err, T, not, eqb, T_not, sym, ◌∙◌, ap, subst}
+use Rattle.csn_plan.specs.declared.ended.Ended.{Ended}
+use Rattle.csn_plan.specs.declared.ended.Ended.TheVariants.{Done, Usage, WriteFault, NoMemory}
+use Rattle.csn_lines.specs.declared.fault.Fault.{Fault}
+use Rattle.csn_lines.specs.declared.fault.Fault.TheVariants.{Memory}
+use Rattle.csn_plan.specs.Ended.{status_of}
+use Rattle.csn_lines.specs.Ends.{end_by}
 use lib.Dec.{eqb_refl}
 
 -- numbers that a test tells apart are not the same
@@ -31,10 +30,6 @@ usage_alone is other = other_end is other
 
 pub want_alone : {end : Ended} → NoMemory ≡ end → EndsOtherwise NoMemory end → ⊥
 want_alone is other = other_end is other
-
--- what was done met no fault
-pub ok_not_err : {T E : Type 0} {x : T} {y : E} → ◌≡◌ {A = Result T E} (Ok x) (Err y) → ⊥
-ok_not_err is = true≢false (ap is_ok is)
 
 -- the exit status of a run that is over with what was met
 abbrev pub status_with : {A : Type 0} → Result A Fault → ℕ

@@ -7,12 +7,12 @@ use Rattle.csn_catalogue.specs.declared.entry.Entry.TheVariants.{Uplink, Downlin
 use Rattle.csn_catalogue.specs.Entries.{entry_word}
 use Rattle.csn_desc.specs.declared.reading.Reading.{Reading}
 use Rattle.csn_desc.specs.declared.reading.Reading.TheVariants.{Received, Sent}
-use Rattle.csn_run.specs.declared.command.RuleCommand.{RuleCommand}
-use Rattle.csn_run.specs.declared.command.RuleCommand.TheVariants.{Show, Write}
-use Rattle.csn_movetext.specs.declared.form.TreeForm.TheVariants.{Text, Json}
-use Rattle.csn_run.specs.declared.command.RuleReport.{RuleReport}
-use Rattle.csn_run.specs.declared.command.RuleReport.TheVariants.{Check, Certificate}
-use Rattle.csn_run.specs.Command.{IsArgument, IsCommand, NamesRule, NamesReading, IsSoak, IsCompat, IsVerify, command_word, report_word, word_of, rule_row, entries_row, migrate_row, compat_row, verify_row, over_downlink, over_soaked, over_all}
+use Rattle.csn_command.specs.declared.command.RuleCommand.{RuleCommand}
+use Rattle.csn_command.specs.declared.command.RuleCommand.TheVariants.{Show, Write}
+use Rattle.csn_json.specs.declared.form.TreeForm.TheVariants.{Text, Json}
+use Rattle.csn_command.specs.declared.command.RuleReport.{RuleReport}
+use Rattle.csn_command.specs.declared.command.RuleReport.TheVariants.{Check, Certificate}
+use Rattle.csn_command.specs.Command.{IsArgument, IsCommand, NamesRule, NamesReading, IsSoak, IsCompat, IsVerify, command_word, report_word, word_of, rule_row, entries_row, migrate_row, compat_row, verify_row, over_downlink, over_soaked, over_all}
 
 -- there are words, and each can be an argument
 abbrev pub AreArguments : List (List ℕ) → Type 0

@@ -1,9 +1,9 @@
 -- Words, and the rows of the command table.
 use Rattle.std.proofs.Common.{◌≡◌, ◌↔◌, ◌≤◌, inl, ℕ, List, [], ◌∷◌, ◌++◌, length, Option, Some, None, IsSome, is_some, false, true≢false, refl, sym, ◌∙◌, ap, subst, arith, map, Bor}
 use Rattle.csn_desc.specs.declared.reading.Reading.{Reading}
-use Rattle.csn_run.specs.declared.command.RuleCommand.{RuleCommand}
-use Rattle.csn_run.specs.Command.{IsCommand, IsRowOf, IsOverRule, IsAnswer, IsMigrate, IsCompat, IsVerify, NamesFile, NamesFiles, names_one, names_pair, names_certificate, rule_row, compat_row, verify_row, ReadsLines, leaves_report, leaves_soak, leaves_compat, leaves_verify}
-use Rattle.csn_run.specs.declared.command.Command.{Command}
+use Rattle.csn_command.specs.declared.command.RuleCommand.{RuleCommand}
+use Rattle.csn_command.specs.Command.{IsCommand, IsRowOf, IsOverRule, IsAnswer, IsMigrate, IsCompat, IsVerify, NamesFile, NamesFiles, names_one, names_pair, names_certificate, rule_row, compat_row, verify_row, ReadsLines, leaves_report, leaves_soak, leaves_compat, leaves_verify}
+use Rattle.csn_command.specs.declared.command.Command.{Command}
 use Rattle.csn_run.specs.Job.{ComesTo}
 use Rattle.csn_run.specs.Result.{comes_first, comes_second, comes_certificate}
 use Rattle.csn_run.proofs.OneResult.{one_rule, one_pair, one_verify, not_compat, over, answers, not_both, not_migrate, migrate_not_three, not_two, not_three, not_five, two_not_three}

@@ -2,16 +2,18 @@
 use Rattle.std.proofs.Common.{◌≡◌, ℕ, ◌<◌, ◌≤◌, Bool, true, false, ◌||◌, eqb, List, [], ◌∷◌, ◌++◌, length, take, refl, sym, ◌∙◌, ap, subst, arith, inl, inr, append_assoc, append-nil, length-append}
 use Rattle.std.proofs.lemmas.Bool.{cases_Bool, cases_lt}
 use Rattle.std.proofs.lemmas.List.{take_all}
-use Rattle.csn_run.specs.declared.ended.Ended.{Ended}
-use Rattle.csn_run.specs.declared.ended.Ended.TheVariants.{TooLong}
-use Rattle.csn_run.specs.declared.lines.TheConstants.{MOST_INPUT}
-use Rattle.csn_run.specs.Lines.{begin_first, between_feeds, answered}
-use Rattle.csn_run.specs.LineState.{LineState, closing}
-use Rattle.csn_run.specs.Progress.{AllSteps, Answers, EndsIn, StopsWithin}
-use Rattle.csn_run.specs.Result.{LineJob, Steps, beginning, end_of, AnswersInput, answers_all, answers_front}
-use Rattle.csn_run.proofs.LinesLemmas.{between_feeds-one, HasNoFeed-append}
-use Rattle.csn_run.proofs.ProgressLemmas.{adds_more}
-use Rattle.csn_run.proofs.StandingLemmas.{answers_of}
+use Rattle.csn_plan.specs.declared.ended.Ended.{Ended}
+use Rattle.csn_plan.specs.declared.ended.Ended.TheVariants.{TooLong}
+use Rattle.csn_lines.specs.declared.lines.TheConstants.{MOST_INPUT}
+use Rattle.csn_lines.specs.Lines.{begin_first, between_feeds, answered}
+use Rattle.csn_lines.specs.LineState.{LineState, closing}
+use Rattle.csn_lines.specs.Progress.{AllSteps, Answers, EndsIn, StopsWithin}
+use Rattle.csn_lines.specs.Jobs.{LineJob, Steps, beginning}
+use Rattle.csn_lines.specs.Ends.{end_of}
+use Rattle.csn_run.specs.Result.{AnswersInput, answers_all, answers_front}
+use Rattle.csn_lines.proofs.LinesLemmas.{between_feeds-one, HasNoFeed-append}
+use Rattle.csn_lines.proofs.ProgressLemmas.{adds_more}
+use Rattle.csn_lines.proofs.StandingLemmas.{answers_of}
 
 -- ---- where the last line of some bytes begins
 

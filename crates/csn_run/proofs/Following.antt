@@ -1,11 +1,11 @@
 -- What a command keeps of the lines before, and the states that it stands for: what it gives for the lines, the job gives.
 use Rattle.std.proofs.Common.{◌≡◌, ℕ, Bool, List, [], ◌∷◌, ◌++◌, Option, refl, sym, ◌∙◌, ap, subst}
 use Rattle.csn_replay.specs.Watched.{reports}
-use Rattle.csn_run.specs.declared.fault.Fault.{Fault}
-use Rattle.csn_run.specs.declared.fault.Fault.TheVariants.{Read, Write, Memory, TooLong}
-use Rattle.csn_run.specs.Lines.{answered}
-use Rattle.csn_run.specs.LineState.{LineState, Kept, closing, closing_of, AnswersAlone}
-use Rattle.csn_run.specs.Progress.{AllSteps, Answers, AnswersAll, KeepsUp, StopsAfter, StopsWithin, StopsBy, Stops}
+use Rattle.csn_lines.specs.declared.fault.Fault.{Fault}
+use Rattle.csn_lines.specs.declared.fault.Fault.TheVariants.{Read, Write, Memory, TooLong}
+use Rattle.csn_lines.specs.Lines.{answered}
+use Rattle.csn_lines.specs.LineState.{LineState, Kept, closing, closing_of, AnswersAlone}
+use Rattle.csn_lines.specs.Progress.{AllSteps, Answers, AnswersAll, KeepsUp, StopsAfter, StopsWithin, StopsBy, Stops}
 
 -- the command goes on from what it keeps to what it keeps then, and from each state that the first stands for a line
 -- takes the job to one that the second stands for

@@ -9,41 +9,41 @@ use Rattle.csn_catalogue.specs.Entries.{all_entries, entry_root}
 use Rattle.csn_catalogue.specs.Text.{catalogue_text}
 use Rattle.csn_replay.specs.Watched.{Watched, reports}
 use Rattle.csn_segment.specs.Joining.{JoinsFor}
-use Rattle.csn_run.specs.OutLine.{TellsWatchers, Replays, ReplaysBy, Segments, Joins}
+use Rattle.csn_lines.specs.OutLine.{TellsWatchers, Replays, ReplaysBy, Segments, Joins}
 use Rattle.csn_desc.specs.declared.reading.Reading.{Reading}
 use Rattle.csn_desc.specs.declared.reading.Reading.TheVariants.{Sent}
 use Rattle.csn_soak.specs.declared.soaking.Soaked.{Soaked}
 use Rattle.csn_soak.specs.Soaking.{IsSoaked}
 use Rattle.csn_desc.specs.Nodes.{DescV}
 use Rattle.csn_grammar.specs.declared.fault.GrammarFault.TheVariants.{Syntax, NoMemory as no_memory_for_rules}
-use Rattle.csn_resolve.specs.declared.fault.ResolveFault.{ResolveFault}
 use Rattle.csn_resolve.specs.declared.fault.ResolveFault.TheVariants.{Refused, NoMemory as no_memory_for_nodes}
-use Rattle.csn_resolve.specs.declared.why.Why.{Why}
-use Rattle.csn_resolve.specs.Resolved.{IsRefused}
 use Rattle.csn_grammar.specs.RulesV.{RulesV}
-use Rattle.csn_grammar.specs.Place.{HasRules}
 use Rattle.csn_certify.specs.declared.certifying.CertifyFault.TheVariants.{Conflict, NoMemory as no_memory_for_plan}
 use Rattle.csn_io.specs.ShelfFault.{BeginsFile}
-use Rattle.csn_run.specs.declared.command.RuleWords.{RuleWords}
-use Rattle.csn_run.specs.declared.compile.NoPlan.{NoPlan}
-use Rattle.csn_run.specs.declared.compile.NoPlan.TheVariants.{Rules, Description, Plan}
-use Rattle.csn_run.specs.declared.compile.TheConstants.{MOST_DESCRIPTION}
-use Rattle.csn_run.specs.declared.ended.Ended.{Ended}
-use Rattle.csn_run.specs.declared.ended.Ended.TheVariants.{Done, TooLong as Long}
-use Rattle.csn_run.specs.declared.fault.Fault.{Fault}
-use Rattle.csn_run.specs.declared.fault.Fault.TheVariants.{Read, Write, Memory, TooLong}
+use Rattle.csn_command.specs.declared.command.RuleWords.{RuleWords}
+use Rattle.csn_plan.specs.declared.compiling.NoPlan.{NoPlan}
+use Rattle.csn_plan.specs.declared.compiling.NoPlan.TheVariants.{Rules, Description, Plan}
+use Rattle.csn_plan.specs.declared.compiling.TheConstants.{MOST_DESCRIPTION}
+use Rattle.csn_plan.specs.declared.ended.Ended.{Ended}
+use Rattle.csn_plan.specs.declared.ended.Ended.TheVariants.{Done, TooLong as Long}
+use Rattle.csn_lines.specs.declared.fault.Fault.{Fault}
+use Rattle.csn_lines.specs.declared.fault.Fault.TheVariants.{Read, Write, Memory, TooLong}
 use Rattle.csn_run.specs.declared.planned.Unplanned.{Unplanned}
 use Rattle.csn_run.specs.declared.planned.Unplanned.TheVariants.{File, Text}
-use Rattle.csn_run.specs.LineState.{LineState, Kept, closing, closing_of}
-use Rattle.csn_run.specs.Progress.{AnswersAll, Stops}
-use Rattle.csn_run.specs.declared.command.RuleCommand.{RuleCommand}
-use Rattle.csn_run.specs.declared.command.RuleReport.{RuleReport}
-use Rattle.csn_run.specs.Command.{IsReport, IsAnswer, IsMigrate, IsSegments, IsReplay, IsSoak, IsOverRule, over_downlink, over_all, over_soaked, leaves_report, leaves_soak}
-use Rattle.csn_run.specs.Compiled.{RuleOf, rule_of_entry, IsCompiled, HasNoPlan, no_rules, rules_refused, not_certified, IsReason, Tells, soaked_line, AreCompiled}
+use Rattle.csn_lines.specs.LineState.{LineState, Kept, closing, closing_of}
+use Rattle.csn_lines.specs.Progress.{AnswersAll, Stops}
+use Rattle.csn_command.specs.declared.command.RuleCommand.{RuleCommand}
+use Rattle.csn_command.specs.declared.command.RuleReport.{RuleReport}
+use Rattle.csn_command.specs.Command.{IsReport, IsAnswer, IsMigrate, IsSegments, IsReplay, IsSoak, IsOverRule, over_downlink, over_all, over_soaked, leaves_report, leaves_soak}
+use Rattle.csn_plan.specs.Compiled.{RuleOf, rule_of_entry, IsCompiled, HasNoPlan, no_rules, rules_refused, not_certified, IsReason, Tells, AreCompiled}
+use Rattle.csn_run.specs.Told.{soaked_line}
 use Rattle.csn_run.specs.Planned.{IsPlanned, IsWhy, Refuses}
 use Rattle.csn_run.specs.Job.{IsDescription, IsWhole, IsBeforeLines, Asked, EndedBefore, JobEnds, unread, before_lines, all_lines, some_lines}
 use Rattle.csn_run.proofs.Following.{Follows, all_follow, stops_follow, Watches}
-use Rattle.csn_run.specs.Result.{LineJob, by_rule, migrating, Steps, beginning, segmenting, asks_by_rule, asks_migrate, asks_segments, HasJob, Compiles, of_file, of_catalogue, long_text, no_plan, no_job, Reports, reported, soaked, end_of, replaying, asks_replay}
+use Rattle.csn_lines.specs.Jobs.{LineJob, by_rule, migrating, Steps, beginning, segmenting, replaying}
+use Rattle.csn_lines.specs.Ends.{end_of}
+use Rattle.csn_run.specs.Result.{asks_by_rule, asks_migrate, asks_segments, Compiles, of_file, of_catalogue, long_text, no_plan, no_job, Reports, reported, soaked, asks_replay}
+use Rattle.csn_plan.specs.Compiled.{HasJob}
 
 -- ---- what the words ask for over told files
 
@@ -254,14 +254,6 @@ soak_ends words None watchers entry n rules d counts left taken waits (Ok ended)
 soak_ends words (Some files) watchers entry n rules d counts left taken waits (Ok ended) row fits is from ok err =
     before_lines (soaked entry n rules d counts row fits is from ok.1 ok.0) refl refl
 soak_ends words files watchers entry n rules d counts left taken waits (Err fault) row fits is from ok err = unread refl refl err.1 (inr (ap Err err.0))
-
--- why rules that are refused give no plan
-pub resolved_reason :
-    {T : Type 0} (text name : List ℕ) (reading : Reading) (rules : RulesV) (fault : ResolveFault) → HasRules text rules
-    → ((why : Why) (place : ℕ) → ◌≡◌ {A = Result T ResolveFault} (Err fault) (Err (Refused why place)) → IsRefused rules name reading why place)
-    → IsReason text name reading (Description fault)
-resolved_reason text name reading rules (Refused why place) has is = (rules, has, is why place refl)
-resolved_reason text name reading rules no_memory_for_nodes has is = tt
 
 -- ---- a job that is over before it has a plan
 

@@ -1,57 +1,25 @@
 -- What a job does with the outside, by what the functions that do it ensure.
-use Rattle.std.proofs.Common.{◌≡◌, ℕ, ◌≤◌, ◌⊎◌, Bool, true, false, inl, inr, List, [], ◌∷◌, length, Option, Result, Ok, Err, IfOk, refl, sym, ◌∙◌, ap, subst}
+use Rattle.std.proofs.Common.{◌≡◌, ℕ, ◌≤◌, ◌⊎◌, Bool, true, false, inl, inr, List, [], ◌∷◌, length, Option, Result, Ok, Err, IfOk, refl, sym, subst}
 use Rattle.std.specs.Prelude.{Vec}
 use Rattle.std.specs.declared.alloc.Global.{Global}
 use Rattle.csn_desc.specs.declared.reading.Reading.{Reading}
-use Rattle.csn_io.specs.Faults.{Keeps, Rose}
 use Rattle.csn_io.specs.ShelfFault.{LacksFile}
 use Rattle.csn_io.specs.declared.shelf.ShelfFault.{ShelfFault}
 use Rattle.csn_replay.specs.Watched.{Watched}
-use Rattle.csn_run.specs.declared.compile.NoPlan.{NoPlan}
-use Rattle.csn_run.specs.declared.ended.Ended.{Ended}
-use Rattle.csn_run.specs.declared.ended.Ended.TheVariants.{Done, SomeRefused, BadDescription, NotCertified}
-use Rattle.csn_run.specs.declared.fault.Fault.{Fault}
-use Rattle.csn_run.specs.declared.fault.Fault.TheVariants.{Read, Write, Memory}
+use Rattle.csn_plan.specs.declared.compiling.NoPlan.{NoPlan}
+use Rattle.csn_plan.specs.declared.ended.Ended.{Ended}
+use Rattle.csn_plan.specs.declared.ended.Ended.TheVariants.{Done, SomeRefused, BadDescription, NotCertified}
+use Rattle.csn_lines.specs.declared.fault.Fault.{Fault}
+use Rattle.csn_lines.specs.declared.fault.Fault.TheVariants.{Read, Write, Memory}
 use Rattle.csn_run.specs.declared.planned.Unplanned.TheVariants.{Text}
-use Rattle.csn_run.specs.Command.{IsCompat, IsOverRule, IsVerify, NamesFiles, ReadsLines, names_one, names_pair, names_certificate}
-use Rattle.csn_run.specs.Job.{Asked, AsksFiles, BlamesStreams, ComesTo, LeavesStreams}
+use Rattle.csn_command.specs.Command.{IsCompat, IsOverRule, IsVerify, NamesFiles, ReadsLines, names_one, names_pair, names_certificate}
+use Rattle.csn_run.specs.Job.{Asked, AsksFiles, ComesTo, LeavesStreams}
 use Rattle.csn_run.specs.Outside.{LeftByFetch, LeftByFetches}
 use Rattle.csn_run.specs.Planned.{Refuses}
-use Rattle.csn_run.specs.Result.{LineJob, end_of}
-use Rattle.csn_run.proofs.Apart.{ok_not_err}
+use Rattle.csn_lines.specs.Ends.{BlamesStreams, end_of}
+use Rattle.csn_lines.specs.Jobs.{LineJob}
 use Rattle.csn_run.proofs.CommandLemmas.{comes_to_none, no_files, one_comes, one_file, two_files, verify_files}
-use Rattle.csn_run.proofs.OutsideLemmas.{keeps_along, keeps_still}
-
--- ---- the faults of the source and the sink
-
--- of lines that were all answered nothing is to blame
-pub blames_none :
-    {T : Type 0} {x : T} {ended : Ended} {steady steady' sink_steady sink_steady' : Type 0} {faults faults' sink_faults sink_faults' : ℕ}
-    → Keeps steady steady' faults faults' (◌≡◌ {A = Result T Fault} (Ok x) (Err Read)) → Keeps sink_steady sink_steady' sink_faults sink_faults' (◌≡◌ {A = Result T Fault} (Ok x) (Err Write))
-    → BlamesStreams (Ok ended) steady steady' faults faults' sink_steady sink_steady' sink_faults sink_faults'
-blames_none input out = record {
-  read = λ e. absurd (ok_not_err e);
-  write = λ e. absurd (ok_not_err e);
-  input = keeps_along (λ e. absurd (ok_not_err e)) input;
-  out = keeps_along (λ e. absurd (ok_not_err e)) out;
-}
-
--- one fault in two results
-one_fault : {T U : Type 0} {end : Result T Fault} {met fault : Fault} → end ≡ Err met → end ≡ Err fault → ◌≡◌ {A = Result U Fault} (Err met) (Err fault)
-one_fault {met = met} {fault = fault} is e = let same : met ≡ fault = cc in ap Err same
-
--- a job that is over by the fault that its lines met
-pub blames_same :
-    {T : Type 0} {met : Fault} {end : Result Ended Fault} {steady steady' sink_steady sink_steady' : Type 0} {faults faults' sink_faults sink_faults' : ℕ}
-    → end ≡ Err met → (◌≡◌ {A = Result T Fault} (Err met) (Err Read) → Rose faults faults') → (◌≡◌ {A = Result T Fault} (Err met) (Err Write) → Rose sink_faults sink_faults')
-    → Keeps steady steady' faults faults' (◌≡◌ {A = Result T Fault} (Err met) (Err Read)) → Keeps sink_steady sink_steady' sink_faults sink_faults' (◌≡◌ {A = Result T Fault} (Err met) (Err Write))
-    → BlamesStreams end steady steady' faults faults' sink_steady sink_steady' sink_faults sink_faults'
-blames_same is read write input out = record {
-  read = λ e. read (one_fault is e);
-  write = λ e. write (one_fault is e);
-  input = keeps_along (λ e. is ∙ one_fault refl e) input;
-  out = keeps_along (λ e. is ∙ one_fault refl e) out;
-}
+use Rattle.csn_lines.proofs.OutsideLemmas.{keeps_still}
 
 -- ---- the source and the sink
 

@@ -7,21 +7,22 @@ use Rattle.csn_grammar.specs.RulesV.{RulesV}
 use Rattle.csn_grammar.specs.Strings.{Strings}
 use Rattle.csn_compat.specs.Takes.{Takes}
 use Rattle.csn_replay.specs.Watched.{Watched}
-use Rattle.csn_movetext.specs.declared.form.TreeForm.TheVariants.{Text}
-use Rattle.csn_run.specs.declared.ended.Ended.{Ended}
-use Rattle.csn_run.specs.declared.ended.Ended.TheVariants.{Done}
-use Rattle.csn_run.specs.declared.fault.Fault.{Fault}
-use Rattle.csn_run.specs.declared.fault.Fault.TheVariants.{Read, Memory}
+use Rattle.csn_json.specs.declared.form.TreeForm.TheVariants.{Text}
+use Rattle.csn_plan.specs.declared.ended.Ended.{Ended}
+use Rattle.csn_plan.specs.declared.ended.Ended.TheVariants.{Done}
+use Rattle.csn_lines.specs.declared.fault.Fault.{Fault}
+use Rattle.csn_lines.specs.declared.fault.Fault.TheVariants.{Read, Memory}
 use Rattle.csn_run.specs.Known.{Known}
-use Rattle.csn_run.specs.Command.{IsCompat}
-use Rattle.csn_run.specs.Compiled.{IsCompiled, no_rules, rules_refused, not_certified, compares_ok, compares_no}
+use Rattle.csn_command.specs.Command.{IsCompat}
+use Rattle.csn_plan.specs.Compiled.{IsCompiled, no_rules, rules_refused, not_certified}
+use Rattle.csn_run.specs.Told.{compares_ok, compares_no}
 use Rattle.csn_run.specs.Job.{JobEnds, unread, before_lines, all_lines, some_lines, end_with}
-use Rattle.csn_run.specs.OutLine.{shows_block, shows_tree}
+use Rattle.csn_lines.specs.OutLine.{shows_block, shows_tree}
 use Rattle.csn_run.specs.Result.{EndsBefore, no_job, reported, soaked, of_two, long_text, no_plan, EndsPair, long_before, long_after, compared, of_certificate, BlocksStay, OldBlocksStay}
-use Rattle.csn_run.proofs.FormsAgree.{told}
+use Rattle.csn_lines.proofs.FormsAgree.{told}
 use Rattle.csn_run.proofs.OneResult.{over, not_compat, not_five, one_pair, one_held, pair_no_job}
 use Rattle.csn_run.proofs.ResultLemmas.{ended_apart, fault_answered}
-use Rattle.csn_run.proofs.ShownLines.{description, meant_by, string_of, tree_text}
+use Rattle.csn_lines.proofs.ShownLines.{description, meant_by, string_of, tree_text}
 
 -- the descriptions of a rule have its reading
 readings_agree : {was now name : List ℕ} {reading : Reading} {rules others : RulesV} {d e : DescV} → IsCompiled was name reading rules d → IsCompiled now name reading others e → d.reading ≡ e.reading
@@ -30,8 +31,8 @@ readings_agree is js = cc (ap (λ (x : DescV). x.reading) is.resolved.is, ap (λ
 module _ (known : Known) (was now name : List ℕ) (reading : Reading) (rules others : RulesV) (d e : DescV) (is : IsCompiled was name reading rules d) (js : IsCompiled now name reading others e) (takes : Takes d e 0 0 []) where
   strings_stay : (b : List ℕ) (t : TreeV) → Strings rules name reading b t → (u : TreeV) × Strings others name reading b u
   strings_stay b t string =
-      let taken = known.of_takers d e (description known was rules name reading d is) (description known now others name reading e js) (readings_agree is js) takes b t (meant_by known was rules name reading d is b t string) in
-      (taken.0, string_of known now others name reading e js b taken.0 taken.1)
+      let taken = known.of_takers d e (description known.of_answers was rules name reading d is) (description known.of_answers now others name reading e js) (readings_agree is js) takes b t (meant_by known.of_answers was rules name reading d is b t string) in
+      (taken.0, string_of known.of_answers now others name reading e js b taken.0 taken.1)
 
   pub blocks_stay : BlocksStay rules others name reading
   blocks_stay = record {
@@ -39,7 +40,7 @@ module _ (known : Known) (was now name : List ℕ) (reading : Reading) (rules ot
     shown = λ line text shown. (
         let a = told Text rules name reading line text shown in
         let u = strings_stay a.block a.tree a.string in
-        let written = tree_text known now others name reading e js Text a.block u.0 a.spells.few u.1 in
+        let written = tree_text known.of_answers now others name reading e js Text a.block u.0 a.spells.few u.1 in
         (written.0, shows_block a.block a.spells (shows_tree u.0 written.0 u.1 written.1 refl))
         );
   }

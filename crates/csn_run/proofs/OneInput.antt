@@ -2,14 +2,16 @@
 use Rattle.std.proofs.Common.{◌≡◌, ℕ, Bool, List, [], ◌∷◌, ◌++◌, take, refl, sym, ◌∙◌, ap, subst, arith}
 use Rattle.std.proofs.lemmas.List.{append-nil}
 use Rattle.std.specs.List.{list_any}
-use Rattle.csn_run.specs.declared.ended.Ended.{Ended}
-use Rattle.csn_run.specs.declared.lines.TheConstants.{MOST_INPUT}
-use Rattle.csn_run.specs.Lines.{between_feeds, answered, text_of, is_refusal}
-use Rattle.csn_run.specs.LineState.{LineState, closing}
-use Rattle.csn_run.specs.Progress.{AllSteps, Answers, EndsIn}
-use Rattle.csn_run.specs.Result.{LineJob, Steps, beginning, end_of, AnswersInput, answers_all, answers_front}
-use Rattle.csn_run.proofs.LinesLemmas.{between_feeds-one}
-use Rattle.csn_run.proofs.Words.{last_apart}
+use Rattle.csn_plan.specs.declared.ended.Ended.{Ended}
+use Rattle.csn_lines.specs.declared.lines.TheConstants.{MOST_INPUT}
+use Rattle.csn_lines.specs.Lines.{between_feeds, answered, text_of, is_refusal}
+use Rattle.csn_lines.specs.LineState.{LineState, closing}
+use Rattle.csn_lines.specs.Progress.{AllSteps, Answers, EndsIn}
+use Rattle.csn_lines.specs.Jobs.{LineJob, Steps, beginning}
+use Rattle.csn_lines.specs.Ends.{end_of}
+use Rattle.csn_run.specs.Result.{AnswersInput, answers_all, answers_front}
+use Rattle.csn_lines.proofs.LinesLemmas.{between_feeds-one}
+use Rattle.csn_command.proofs.Words.{last_apart}
 
 -- bytes have one list of lines that have ended in them
 pub one_end : (bytes line other : List ℕ) (ended others : List (List ℕ)) → EndsIn bytes ended line → EndsIn bytes others other → ended ≡ others

@@ -19,20 +19,24 @@ use Rattle.csn_resolve.specs.Resolved.{IsResolved, IsRefused}
 use Rattle.csn_look.specs.declared.word.TheConstants.{MOST_WORD}
 use Rattle.csn_certify.specs.declared.conflict.Conflict.{Conflict}
 use Rattle.csn_certify.specs.Conflicts.{IsFirstConflict}
-use Rattle.csn_run.specs.declared.command.RuleCommand.{RuleCommand}
-use Rattle.csn_run.specs.declared.command.RuleCommand.TheVariants.{Show, Write}
-use Rattle.csn_run.specs.declared.command.RuleReport.{RuleReport}
-use Rattle.csn_run.specs.declared.command.RuleReport.TheVariants.{Check, Certificate}
-use Rattle.csn_movetext.specs.declared.form.TreeForm.TheVariants.{Text, Json}
-use Rattle.csn_run.specs.declared.ended.Ended.{Ended}
-use Rattle.csn_run.specs.declared.ended.Ended.TheVariants.{NotCertified}
-use Rattle.csn_run.specs.declared.compile.TheConstants.{MOST_DESCRIPTION}
+use Rattle.csn_command.specs.declared.command.RuleCommand.{RuleCommand}
+use Rattle.csn_command.specs.declared.command.RuleCommand.TheVariants.{Show, Write}
+use Rattle.csn_command.specs.declared.command.RuleReport.{RuleReport}
+use Rattle.csn_command.specs.declared.command.RuleReport.TheVariants.{Check, Certificate}
+use Rattle.csn_json.specs.declared.form.TreeForm.TheVariants.{Text, Json}
+use Rattle.csn_plan.specs.declared.ended.Ended.{Ended}
+use Rattle.csn_plan.specs.declared.ended.Ended.TheVariants.{NotCertified}
+use Rattle.csn_plan.specs.declared.compiling.TheConstants.{MOST_DESCRIPTION}
 use Rattle.csn_run.specs.Known.{KnownOfTexts}
-use Rattle.csn_run.specs.Command.{word_of, command_word, report_word, NamesRule, NamesReading, IsReport, IsAnswer, IsMigrate, IsSegments, IsReplay, IsSoak, IsCompat, IsVerify, IsOverRule, IsOverEntries, over_downlink, over_all, over_soaked}
-use Rattle.csn_run.specs.Compiled.{RuleOf, rule_of_entry, line_of, conflict_line, soaked_line, AreCompiled, IsCompiled, HasNoPlan, no_rules, rules_refused, not_certified, Compares, compares_ok, compares_no, Verifies, verifies_good, verifies_fault, verifies_none}
-use Rattle.csn_run.specs.Result.{LineJob, by_rule, segmenting, replaying, AsksFor, asks_by_rule, asks_migrate, asks_segments, asks_replay, AnswersInput, HasJob, Compiles, of_file, of_catalogue, of_pair, HasNoJob, long_text, no_plan, Reports, EndsPair, long_before, long_after, compared, IsDescribed, EndsVerify, no_description, long_certificate, verified, EndsBefore, no_job, reported, soaked, of_two, of_certificate, no_line, lines}
+use Rattle.csn_command.specs.Command.{word_of, command_word, report_word, NamesRule, NamesReading, IsReport, IsAnswer, IsMigrate, IsSegments, IsReplay, IsSoak, IsCompat, IsVerify, IsOverRule, IsOverEntries, over_downlink, over_all, over_soaked}
+use Rattle.csn_plan.specs.Compiled.{RuleOf, rule_of_entry, line_of, conflict_line, AreCompiled, IsCompiled, HasNoPlan, no_rules, rules_refused, not_certified}
+use Rattle.csn_run.specs.Told.{soaked_line, Compares, compares_ok, compares_no, Verifies, verifies_good, verifies_fault, verifies_none}
+use Rattle.csn_lines.specs.Jobs.{LineJob, by_rule, segmenting, replaying}
+use Rattle.csn_run.specs.Result.{AsksFor, asks_by_rule, asks_migrate, asks_segments, asks_replay, AnswersInput, Compiles, of_file, of_catalogue, of_pair, HasNoJob, long_text, no_plan, Reports, EndsPair, long_before, long_after, compared, IsDescribed, EndsVerify, no_description, long_certificate, verified, EndsBefore, no_job, reported, soaked, of_two, of_certificate, no_line, lines}
+use Rattle.csn_plan.specs.Compiled.{HasJob}
 use Rattle.csn_run.specs.Laws.{LinesHaveOneAnswer, RunsHaveOneResult}
 use Rattle.csn_soak.specs.Soaking.{IsSoaked}
+use Rattle.csn_plan.proofs.EntryPlans.{all_have_jobs}
 use Rattle.csn_run.proofs.OneInput.{Written, one_input}
 use Rattle.csn_run.proofs.SoakedBlocks.{one_soak, one_soaked}
 
@@ -269,12 +273,6 @@ holds_at (first ∷ front) rule behind h = holds_at front rule behind h.1
 pub rules_compiled : (reading : Reading) (rules : RulesV) (plans : List DescV) → AreCompiled rules reading all_entries plans → HasRules catalogue_text rules
 rules_compiled reading rules [] compiled = absurd compiled
 rules_compiled reading rules (d ∷ ds) compiled = compiled.0.has_rules
-
--- they give each entry a job
-pub all_have_jobs : length catalogue_text ≤ MOST_DESCRIPTION → (reading : Reading) (rules : RulesV) (entries : List Entry) (plans : List DescV) → AreCompiled rules reading entries plans → AllByRecursion HasJob (map (rule_of_entry reading) entries)
-all_have_jobs fits reading rules [] plans compiled = tt
-all_have_jobs fits reading rules (entry ∷ entries) [] compiled = absurd compiled
-all_have_jobs fits reading rules (entry ∷ entries) (d ∷ ds) compiled = ((fits, rules, d, compiled.0), all_have_jobs fits reading rules entries ds compiled.1)
 
 module _ (known : KnownOfTexts) where
   -- ---- a text without a plan

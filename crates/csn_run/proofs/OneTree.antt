@@ -12,17 +12,20 @@ use Rattle.csn_grammar.specs.Place.{HasRules}
 use Rattle.csn_grammar.specs.Strings.{Strings}
 use Rattle.csn_resolve.specs.Resolved.{IsResolved}
 use Rattle.csn_replay.specs.Watched.{Watched}
-use Rattle.csn_run.specs.declared.ended.Ended.{Ended}
-use Rattle.csn_run.specs.declared.fault.Fault.TheVariants.{Read, Memory}
-use Rattle.csn_run.specs.declared.fault.Fault.{Fault}
+use Rattle.csn_plan.specs.declared.ended.Ended.{Ended}
+use Rattle.csn_lines.specs.declared.fault.Fault.TheVariants.{Read, Memory}
+use Rattle.csn_lines.specs.declared.fault.Fault.{Fault}
 use Rattle.csn_run.specs.Known.{Known}
-use Rattle.csn_run.specs.Command.{IsVerify}
-use Rattle.csn_run.specs.Compiled.{RuleOf, no_rules, rules_refused, not_certified, verifies_good, verifies_fault, verifies_none}
+use Rattle.csn_command.specs.Command.{IsVerify}
+use Rattle.csn_plan.specs.Compiled.{RuleOf, no_rules, rules_refused, not_certified}
+use Rattle.csn_run.specs.Told.{verifies_good, verifies_fault, verifies_none}
 use Rattle.csn_run.specs.Job.{JobEnds, unread, before_lines, all_lines, some_lines, end_with}
-use Rattle.csn_run.specs.Result.{LineJob, AsksFor, HasJob, Compiles, EndsBefore, no_job, reported, soaked, of_two, long_text, no_plan, long_before, long_after, compared, IsDescribed, of_certificate, no_description, long_certificate, verified, goes_by_compiled, goes_by_verified, RulesHaveOneTree}
+use Rattle.csn_lines.specs.Jobs.{LineJob}
+use Rattle.csn_run.specs.Result.{AsksFor, Compiles, EndsBefore, no_job, reported, soaked, of_two, long_text, no_plan, long_before, long_after, compared, IsDescribed, of_certificate, no_description, long_certificate, verified, goes_by_compiled, goes_by_verified, RulesHaveOneTree}
+use Rattle.csn_plan.specs.Compiled.{HasJob}
 use Rattle.csn_run.proofs.OneResult.{holds_at, one_held, one_list_compiles, one_verify, checked_compiles, soaked_compiles, pair_compiles, verify_compiles, verify_no_job, jobs_compile}
 use Rattle.csn_run.proofs.ResultLemmas.{IsAnswered, fault_answered, ended_apart}
-use Rattle.csn_run.proofs.ShownLines.{one_tree}
+use Rattle.csn_lines.proofs.ShownLines.{one_tree}
 
 module _ (known : Known) (words : List (List ℕ)) (files : List ℕ → Option (List ℕ)) where
   -- the rules that were compiled are those that are meant
@@ -32,7 +35,7 @@ module _ (known : Known) (words : List (List ℕ)) (files : List ℕ → Option 
       let job = holds_at front rule behind (subst (λ (l : List RuleOf). AllByRecursion HasJob l) (one_list_compiles words files all _ compiles compiles') has) in
       let same : rules ≡ job.1 = known.of_texts.one_list rule.text rules job.1 has_rules job.3.has_rules in
       let Q : RulesV → TreeV → Type 0 = λ r x. Strings r rule.name rule.reading b x in
-      one_tree known rule.text job.1 rule.name rule.reading job.2 job.3 b t u (subst (λ r. Q r t) same first) (subst (λ r. Q r u) same second)
+      one_tree known.of_answers rule.text job.1 rule.name rule.reading job.2 job.3 b t u (subst (λ r. Q r t) same first) (subst (λ r. Q r u) same second)
 
   asked_one_tree : {watchers : List Watched} (job : LineJob) → AsksFor words files watchers job → RulesHaveOneTree words files
   asked_one_tree job asked rule rules (goes_by_compiled front behind compiles) =
@@ -53,7 +56,7 @@ module _ (known : Known) (words : List (List ℕ)) (files : List ℕ → Option 
       let S : Reading → Type 0 = λ r. IsResolved rules' rule.name r d in
       let resolved = subst S same.reading_is (subst R same.name_is (subst Q one is.resolved)) in
       let shaped = known.of_texts.shaped rule.text rules' has_rules in
-      let meant : (x : TreeV) → Strings rules' rule.name rule.reading b x → NMeans d 0 0 [] b x = λ x h. (known.of_blocks.strings rules' rule.reading rule.name d shaped resolved b x).0 h in
+      let meant : (x : TreeV) → Strings rules' rule.name rule.reading b x → NMeans d 0 0 [] b x = λ x h. (known.of_answers.of_blocks.strings rules' rule.reading rule.name d shaped resolved b x).0 h in
       known.of_good d c b t u (known.of_texts.descriptions rules' rule.reading rule.name d shaped resolved) good (meant t first) (meant u second)
 
   before_one_tree : (written : List ℕ) (ended : Ended) → EndsBefore words files written ended → IsAnswered ended → RulesHaveOneTree words files

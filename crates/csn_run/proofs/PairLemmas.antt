@@ -7,13 +7,14 @@ use Rattle.csn_desc.specs.Nodes.{DescV}
 use Rattle.csn_grammar.specs.RulesV.{RulesV}
 use Rattle.csn_io.specs.ShelfFault.{BeginsFile, LacksFile}
 use Rattle.csn_replay.specs.Watched.{Watched}
-use Rattle.csn_run.specs.declared.command.PairWords.{PairWords}
-use Rattle.csn_run.specs.declared.compile.TheConstants.{MOST_DESCRIPTION}
-use Rattle.csn_run.specs.declared.ended.Ended.{Ended}
-use Rattle.csn_run.specs.declared.fault.Fault.{Fault}
-use Rattle.csn_run.specs.declared.fault.Fault.TheVariants.{Read, Write, Memory, TooLong}
-use Rattle.csn_run.specs.Command.{IsCompat, names_pair, leaves_compat}
-use Rattle.csn_run.specs.Compiled.{IsCompiled, Compares, compares_ok, compares_no}
+use Rattle.csn_command.specs.declared.command.PairWords.{PairWords}
+use Rattle.csn_plan.specs.declared.compiling.TheConstants.{MOST_DESCRIPTION}
+use Rattle.csn_plan.specs.declared.ended.Ended.{Ended}
+use Rattle.csn_lines.specs.declared.fault.Fault.{Fault}
+use Rattle.csn_lines.specs.declared.fault.Fault.TheVariants.{Read, Write, Memory, TooLong}
+use Rattle.csn_command.specs.Command.{IsCompat, names_pair, leaves_compat}
+use Rattle.csn_plan.specs.Compiled.{IsCompiled}
+use Rattle.csn_run.specs.Told.{Compares, compares_ok, compares_no}
 use Rattle.csn_run.specs.Job.{IsDescription, ComesTo, JobEnds, unread, before_lines}
 use Rattle.csn_run.specs.Planned.{IsLongPair, is_long_before, is_long_after, ComparesTexts, compares_none, refuses_before, refuses_after, compares_both}
 use Rattle.csn_run.specs.Result.{Compiles, of_pair, long_before, long_after, compared, of_two, comes_first, comes_second, comes_certificate}

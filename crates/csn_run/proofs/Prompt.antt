@@ -2,10 +2,10 @@
 use Rattle.std.proofs.Common.{◌≡◌, ℕ, List, ◌++◌, Option, Some, Result, ap, ◌∙◌, append_assoc}
 use Rattle.csn_io.specs.Put.{Appended}
 use Rattle.csn_replay.specs.Watched.{Watched}
-use Rattle.csn_run.specs.declared.ended.Ended.{Ended}
-use Rattle.csn_run.specs.declared.fault.Fault.{Fault}
+use Rattle.csn_plan.specs.declared.ended.Ended.{Ended}
+use Rattle.csn_lines.specs.declared.fault.Fault.{Fault}
 use Rattle.csn_run.specs.Job.{JobEnds, unread, before_lines, all_lines, some_lines}
-use Rattle.csn_run.specs.Progress.{KeepsUp}
+use Rattle.csn_lines.specs.Progress.{KeepsUp}
 use Rattle.csn_run.specs.Result.{AnswersPromptly, nothing_read, some_read}
 use Rattle.csn_run.proofs.ResultLemmas.{given_front, handed_front, taken_then}
 

@@ -16,17 +16,20 @@ use Rattle.csn_grammar.specs.Place.{HasRules}
 use Rattle.csn_replay.specs.Watched.{Watched}
 use Rattle.csn_resolve.specs.Why.{number_of}
 use Rattle.csn_resolve.specs.Resolved.{IsResolved}
-use Rattle.csn_run.specs.declared.ended.Ended.{Ended}
-use Rattle.csn_run.specs.declared.ended.Ended.TheVariants.{Done, SomeRefused, BadDescription, NotCertified, TooLong}
-use Rattle.csn_run.specs.declared.compile.TheConstants.{MOST_DESCRIPTION}
+use Rattle.csn_plan.specs.declared.ended.Ended.{Ended}
+use Rattle.csn_plan.specs.declared.ended.Ended.TheVariants.{Done, SomeRefused, BadDescription, NotCertified, TooLong}
+use Rattle.csn_plan.specs.declared.compiling.TheConstants.{MOST_DESCRIPTION}
 use Rattle.csn_run.specs.declared.verifying.TheConstants.{MOST_CERTIFICATE}
 use Rattle.csn_run.specs.Known.{KnownOfTexts}
-use Rattle.csn_run.specs.declared.command.RuleReport.{RuleReport}
-use Rattle.csn_run.specs.declared.command.RuleReport.TheVariants.{Check, Certificate}
-use Rattle.csn_run.specs.Command.{IsReport, IsOverRule, IsOverEntries, IsCompat, IsVerify, over_downlink, over_all, over_soaked, rule_row, entries_row, migrate_row, compat_row, verify_row, names_one, names_pair, names_certificate}
-use Rattle.csn_run.specs.Compiled.{RuleOf, rule_of_entry, line_of, conflict_line, certified_line, soaked_line, HasNoPlan, no_rules, rules_refused, not_certified, AreCompiled, IsCompiled, compares_ok, compares_no}
+use Rattle.csn_command.specs.declared.command.RuleReport.{RuleReport}
+use Rattle.csn_command.specs.declared.command.RuleReport.TheVariants.{Check, Certificate}
+use Rattle.csn_command.specs.Command.{IsReport, IsOverRule, IsOverEntries, IsCompat, IsVerify, over_downlink, over_all, over_soaked, rule_row, entries_row, migrate_row, compat_row, verify_row, names_one, names_pair, names_certificate}
+use Rattle.csn_plan.specs.Compiled.{RuleOf, rule_of_entry, line_of, conflict_line, certified_line, HasNoPlan, no_rules, rules_refused, not_certified, AreCompiled, IsCompiled}
+use Rattle.csn_run.specs.Told.{soaked_line, compares_ok, compares_no}
 use Rattle.csn_run.specs.Laws.{IsDecided, HasCertificate, LinesHaveAnswers, RunsHaveResults}
-use Rattle.csn_run.specs.Result.{LineJob, by_rule, migrating, segmenting, AsksFor, asks_by_rule, asks_migrate, asks_segments, HasJob, Compiles, of_file, of_catalogue, of_pair, HasNoJob, long_text, no_plan, no_job, reported, soaked, of_two, long_before, long_after, compared, of_certificate, no_description, long_certificate, verified, IsDescribed, Result, no_line, lines, replaying, asks_replay}
+use Rattle.csn_lines.specs.Jobs.{LineJob, by_rule, migrating, segmenting, replaying}
+use Rattle.csn_run.specs.Result.{AsksFor, asks_by_rule, asks_migrate, asks_segments, Compiles, of_file, of_catalogue, of_pair, HasNoJob, long_text, no_plan, no_job, reported, soaked, of_two, long_before, long_after, compared, of_certificate, no_description, long_certificate, verified, IsDescribed, Result, no_line, lines, asks_replay}
+use Rattle.csn_plan.specs.Compiled.{HasJob}
 use Rattle.csn_look.specs.declared.word.TheConstants.{MOST_WORD}
 use Rattle.csn_certify.specs.declared.conflict.Conflict.{Conflict}
 use Rattle.csn_certify.specs.Conflicts.{Certified, IsFirstConflict}

@@ -6,21 +6,24 @@ use Rattle.csn_desc.specs.declared.reading.Reading.{Reading}
 use Rattle.csn_io.specs.Got.{Gave, NothingLeft}
 use Rattle.csn_io.specs.Put.{Appended}
 use Rattle.csn_replay.specs.Watched.{Watched}
-use Rattle.csn_run.specs.declared.ended.Ended.{Ended}
-use Rattle.csn_run.specs.declared.ended.Ended.TheVariants.{Done, SomeRefused, Usage, BadDescription, NotCertified, ReadFault, WriteFault, NoMemory, TooLong as Long}
-use Rattle.csn_run.specs.declared.fault.Fault.{Fault}
-use Rattle.csn_run.specs.declared.fault.Fault.TheVariants.{Read, Write, Memory, TooLong}
-use Rattle.csn_run.specs.declared.lines.TheConstants.{MOST_INPUT}
-use Rattle.csn_run.specs.Progress.{EndsIn, StopsBy}
-use Rattle.csn_run.specs.Command.{ReadsLines, leaves_report, leaves_soak, leaves_compat, leaves_verify}
+use Rattle.csn_plan.specs.declared.ended.Ended.{Ended}
+use Rattle.csn_plan.specs.declared.ended.Ended.TheVariants.{Done, SomeRefused, Usage, BadDescription, NotCertified, ReadFault, WriteFault, NoMemory, TooLong as Long}
+use Rattle.csn_lines.specs.declared.fault.Fault.{Fault}
+use Rattle.csn_lines.specs.declared.fault.Fault.TheVariants.{Read, Write, Memory, TooLong}
+use Rattle.csn_lines.specs.declared.lines.TheConstants.{MOST_INPUT}
+use Rattle.csn_lines.specs.Progress.{EndsIn, StopsBy}
+use Rattle.csn_command.specs.Command.{ReadsLines, leaves_report, leaves_soak, leaves_compat, leaves_verify}
 use Rattle.csn_run.specs.Known.{KnownOfTexts}
-use Rattle.csn_run.specs.Compiled.{no_rules, rules_refused, not_certified, compares_ok, compares_no, verifies_good, verifies_fault, verifies_none}
-use Rattle.csn_run.specs.Job.{JobEnds, unread, before_lines, all_lines, some_lines, end_by, end_with, IsBeforeLines, EndedBefore, Asked}
+use Rattle.csn_plan.specs.Compiled.{no_rules, rules_refused, not_certified}
+use Rattle.csn_run.specs.Told.{compares_ok, compares_no, verifies_good, verifies_fault, verifies_none}
+use Rattle.csn_run.specs.Job.{JobEnds, unread, before_lines, all_lines, some_lines, end_with, IsBeforeLines, EndedBefore, Asked}
+use Rattle.csn_lines.specs.Ends.{end_by, end_of}
+use Rattle.csn_lines.specs.Jobs.{LineJob, Steps, beginning}
 use Rattle.csn_run.specs.Result as whole
 use Rattle.csn_run.specs.Laws.{LinesHaveAnswers}
 use Rattle.csn_run.proofs.Extends.{extends}
 use Rattle.csn_run.proofs.OneResult.{before_or_job}
-use Rattle.csn_run.proofs.Within.{within_input}
+use Rattle.csn_lines.proofs.Within.{within_input}
 
 -- ---- what is told
 
@@ -50,7 +53,7 @@ handed_front before front taken' taken'' same handed = handed ∙ ap (option_map
 
 -- ---- the end of a run
 
-end_after_lines : (refused : Bool) (ended : Ended) (end : Result Ended Fault) → ended ≡ end_with end → end ≡ Ok (whole.end_of refused) → ended ≡ whole.end_of refused
+end_after_lines : (refused : Bool) (ended : Ended) (end : Result Ended Fault) → ended ≡ end_with end → end ≡ Ok (end_of refused) → ended ≡ end_of refused
 end_after_lines refused ended end is e = is ∙ ap end_with e
 
 -- how `compat` ends over two files that are there, and are certified or too long
@@ -132,12 +135,12 @@ module _ (words : List (List ℕ)) (files : List ℕ → Option (List ℕ)) (wat
       let text_is : a.took ++ waits ≡ (a.took ++ front) ++ rest = ap (λ l. a.took ++ l) split ∙ sym (append_assoc a.took front rest) in (
         a.took ++ front,
         taken_then before taken' taken'' a.took front a.sink handed,
-        whole.begins_whole rest (whole.end_of refused) (whole.lines job asked (subst (λ (i : List ℕ). whole.AnswersInput job i ((a.took ++ front) ++ rest) (whole.end_of refused)) (sym all) (whole.answers_all a.text a.after refused a.fits a.answers (sym text_is ∙ a.closed) refl))),
+        whole.begins_whole rest (end_of refused) (whole.lines job asked (subst (λ (i : List ℕ). whole.AnswersInput job i ((a.took ++ front) ++ rest) (end_of refused)) (sym all) (whole.answers_all a.text a.after refused a.fits a.answers (sym text_is ∙ a.closed) refl))),
       )
   begun_of each_in_job left' taken' taken'' waits front rest end (some_lines job fault asked s e) split handed =
       let given = given_front input s.given left' s.source in
       let text_is : s.took ++ waits ≡ (s.took ++ front) ++ rest = ap (λ l. s.took ++ l) split ∙ sym (append_assoc s.took front rest) in
-      let within = within_input (whole.Steps job) fault input s.given given.0 (s.took ++ waits) (s.took ++ front) rest given.1 text_is s.by in
+      let within = within_input (Steps job) fault input s.given given.0 (s.took ++ waits) (s.took ++ front) rest given.1 text_is s.by in
       let all = extends job (each_in_job words files watchers job asked) input (s.took ++ front) within in (
         s.took ++ front,
         taken_then before taken' taken'' s.took front s.sink handed,
@@ -167,7 +170,7 @@ module _ (words : List (List ℕ)) (files : List ℕ → Option (List ℕ)) (wat
       no_read written (whole.of_certificate file name reading certificate row ends) = verify_apart ends ((λ h. cc), (λ h. cc), (λ h. cc), (λ h. cc))
   read_of left' taken' taken'' waits end (all_lines job refused asked a e) handed fault = absurd (no_read refused (fault ∙ ap end_with e))
     where
-      no_read : (refused : Bool) → ReadFault ≡ whole.end_of refused → ⊥
+      no_read : (refused : Bool) → ReadFault ≡ end_of refused → ⊥
       no_read true e = cc
       no_read false e = cc
   read_of left' taken' taken'' waits end (some_lines job cause asked s e) handed fault =
@@ -178,7 +181,7 @@ module _ (words : List (List ℕ)) (files : List ℕ → Option (List ℕ)) (wat
         whole.while_reading s.given given.0 given.1 given.2 (record {
           job = job;
           asked = asked;
-          stopped = (subst (λ (f : Fault). StopsBy (whole.Steps job) (whole.beginning job) f s.given (s.took ++ waits)) is_read s.by).1;
+          stopped = (subst (λ (f : Fault). StopsBy (Steps job) (beginning job) f s.given (s.took ++ waits)) is_read s.by).1;
         }),
       )
     where
@@ -267,7 +270,7 @@ bounded_of words files watchers whole rest left' taken taken' waits end (some_li
 pub untouched :
     {S : Type 0} (known : KnownOfTexts) (words : List (List ℕ)) (files : List ℕ → Option (List ℕ)) (watchers : List Watched) (written : List ℕ) (ended : Ended) (old new : S)
     → whole.EndsBefore words files written ended
-    → (new ≡ old) ⊎ (ReadsLines words × (job : whole.LineJob) × Asked words (Some files) watchers job) → new ≡ old
+    → (new ≡ old) ⊎ (ReadsLines words × (job : LineJob) × Asked words (Some files) watchers job) → new ≡ old
 untouched known words files watchers written ended old new before (inl same) = same
 untouched known words files watchers written ended old new before (inr (reads, job, asked)) = absurd (before_or_job known words files job before asked)
 
@@ -353,7 +356,7 @@ by_fault {words} {files} {waits = waits} end x (before_lines gives same_left sam
     let P : Ended → Type 0 = λ y. EndedBefore words files waits y in absurd (before_apart words files waits x (subst P is gives) only)
 by_fault end x (all_lines job refused asked a e) is only = absurd (answered refused (sym (ap end_with e) ∙ is))
   where
-    answered : (refused : Bool) → whole.end_of refused ≡ x → ⊥
+    answered : (refused : Bool) → end_of refused ≡ x → ⊥
     answered true same = only.1 (sym same)
     answered false same = only.0 (sym same)
 by_fault end x (some_lines job fault asked s e) is only = (fault, e, sym (ap end_with e) ∙ is)

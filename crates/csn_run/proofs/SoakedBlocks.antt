@@ -11,7 +11,7 @@ use Rattle.csn_replay.proofs.Heads.{one_word}
 use Rattle.csn_soak.specs.declared.soaking.Soaked.{Soaked}
 use Rattle.csn_soak.specs.Generator.{block}
 use Rattle.csn_soak.specs.Soaking.{IsString, Counted, of_none, one_more, no_more, bits_in, IsSoaked}
-use Rattle.csn_run.specs.Command.{IsSoak}
+use Rattle.csn_command.specs.Command.{IsSoak}
 
 -- ---- what the words name
 

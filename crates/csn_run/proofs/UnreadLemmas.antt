@@ -1,8 +1,8 @@
 -- A run that comes to no job: its words are no row of the command table, or there was no memory to read them.
 use Rattle.std.proofs.Common.{◌≡◌, ◌≢◌, ◌↔◌, ◌⊎◌, inl, inr, ℕ, List, sym, ◌∙◌, subst}
-use Rattle.csn_run.specs.declared.ended.Ended.{Ended}
-use Rattle.csn_run.specs.declared.ended.Ended.TheVariants.{Done, SomeRefused, Usage, NoMemory}
-use Rattle.csn_run.specs.Command.{IsCommand}
+use Rattle.csn_plan.specs.declared.ended.Ended.{Ended}
+use Rattle.csn_plan.specs.declared.ended.Ended.TheVariants.{Done, SomeRefused, Usage, NoMemory}
+use Rattle.csn_command.specs.Command.{IsCommand}
 use Rattle.csn_run.specs.Job.{EndsUnread, ends_usage, ends_wanting}
 use Rattle.csn_run.specs.Result.{IsFinished}
 

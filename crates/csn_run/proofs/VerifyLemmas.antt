@@ -13,20 +13,21 @@ use Rattle.csn_grammar.specs.RulesV.{RulesV}
 use Rattle.csn_io.specs.ShelfFault.{LacksFile}
 use Rattle.csn_replay.specs.Watched.{Watched}
 use Rattle.csn_resolve.specs.declared.fault.ResolveFault.TheVariants.{Refused, NoMemory as no_memory_for_nodes}
-use Rattle.csn_run.specs.declared.command.RuleWords.{RuleWords}
-use Rattle.csn_run.specs.declared.compile.NoPlan.{NoPlan}
-use Rattle.csn_run.specs.declared.compile.NoPlan.TheVariants.{Rules, Description, Plan}
-use Rattle.csn_run.specs.declared.compile.TheConstants.{MOST_DESCRIPTION}
-use Rattle.csn_run.specs.declared.ended.Ended.{Ended}
-use Rattle.csn_run.specs.declared.ended.Ended.TheVariants.{NotCertified, BadDescription}
-use Rattle.csn_run.specs.declared.fault.Fault.{Fault}
-use Rattle.csn_run.specs.declared.fault.Fault.TheVariants.{Read, Write, Memory, TooLong}
+use Rattle.csn_command.specs.declared.command.RuleWords.{RuleWords}
+use Rattle.csn_plan.specs.declared.compiling.NoPlan.{NoPlan}
+use Rattle.csn_plan.specs.declared.compiling.NoPlan.TheVariants.{Rules, Description, Plan}
+use Rattle.csn_plan.specs.declared.compiling.TheConstants.{MOST_DESCRIPTION}
+use Rattle.csn_plan.specs.declared.ended.Ended.{Ended}
+use Rattle.csn_plan.specs.declared.ended.Ended.TheVariants.{NotCertified, BadDescription}
+use Rattle.csn_lines.specs.declared.fault.Fault.{Fault}
+use Rattle.csn_lines.specs.declared.fault.Fault.TheVariants.{Read, Write, Memory, TooLong}
 use Rattle.csn_run.specs.declared.planned.Unplanned.{Unplanned}
 use Rattle.csn_run.specs.declared.planned.Unplanned.TheVariants.{File, Text}
 use Rattle.csn_run.specs.declared.verifying.TheConstants.{MOST_CERTIFICATE}
 use Rattle.csn_run.specs.Known.{KnownOfTexts}
-use Rattle.csn_run.specs.Command.{IsVerify, names_certificate, leaves_verify}
-use Rattle.csn_run.specs.Compiled.{Tells, Verifies, verifies_good, verifies_fault, verifies_none, line_of}
+use Rattle.csn_command.specs.Command.{IsVerify, names_certificate, leaves_verify}
+use Rattle.csn_plan.specs.Compiled.{Tells, line_of}
+use Rattle.csn_run.specs.Told.{Verifies, verifies_good, verifies_fault, verifies_none}
 use Rattle.csn_run.specs.Job.{IsWhole, IsLonger, ComesTo, EndedBefore, JobEnds, unread, before_lines}
 use Rattle.csn_run.specs.Planned.{HasDescription, IsWhy, IsChecked, TellsChecked, Refuses}
 use Rattle.csn_run.specs.Result.{IsDescribed, long_text, no_plan, of_certificate, no_description, long_certificate, verified, comes_first, comes_second, comes_certificate}

@@ -5,16 +5,18 @@ use Rattle.csn_io.specs.Faults.{Keeps, Rose}
 use Rattle.csn_io.specs.ShelfFault.{BeginsFile, LacksFile}
 use Rattle.csn_io.specs.declared.shelf.ShelfFault.{ShelfFault}
 use Rattle.csn_replay.specs.Watched.{Watched}
-use Rattle.csn_run.specs.declared.ended.Ended.{Ended}
-use Rattle.csn_run.specs.declared.ended.Ended.TheVariants.{Done, SomeRefused, Usage, BadDescription, NotCertified, ReadFault, WriteFault, NoMemory, TooLong as Long}
-use Rattle.csn_run.specs.declared.fault.Fault.{Fault}
-use Rattle.csn_run.specs.declared.fault.Fault.TheVariants.{Read, Write, Memory, TooLong}
-use Rattle.csn_run.specs.declared.compile.TheConstants.{MOST_DESCRIPTION}
-use Rattle.csn_run.specs.Command.{IsCommand, NamesFile, NamesFiles, ReadsLines}
-use Rattle.csn_run.specs.LineState.{closing}
+use Rattle.csn_plan.specs.declared.ended.Ended.{Ended}
+use Rattle.csn_plan.specs.declared.ended.Ended.TheVariants.{Done, SomeRefused, Usage, BadDescription, NotCertified, NoMemory, TooLong as Long}
+use Rattle.csn_lines.specs.declared.fault.Fault.{Fault}
+use Rattle.csn_lines.specs.declared.fault.Fault.TheVariants.{Read, Write, Memory}
+use Rattle.csn_plan.specs.declared.compiling.TheConstants.{MOST_DESCRIPTION}
+use Rattle.csn_command.specs.Command.{IsCommand, NamesFile, NamesFiles, ReadsLines}
+use Rattle.csn_lines.specs.Ends.{end_by, end_of}
+use Rattle.csn_lines.specs.LineState.{closing}
 use Rattle.csn_run.specs.Outside.{LeftByFetches}
-use Rattle.csn_run.specs.Progress.{AnswersAll, Stops}
-use Rattle.csn_run.specs.Result.{LineJob, Steps, beginning, AsksFor, ComesToFile, EndsBefore, end_of}
+use Rattle.csn_lines.specs.Progress.{AnswersAll, Stops}
+use Rattle.csn_lines.specs.Jobs.{LineJob, Steps, beginning}
+use Rattle.csn_run.specs.Result.{AsksFor, ComesToFile, EndsBefore}
 
 -- the text is all that is in a file, and has at most so many bytes
 pub record IsWhole (most : ℕ) (files : Option (List ℕ → Option (List ℕ))) (file text : List ℕ) : Type 0 where
@@ -28,13 +30,6 @@ IsLonger most files file = (front : List ℕ) × BeginsFile files file (most + 1
 -- the text is the whole description in a file
 abbrev pub IsDescription : Option (List ℕ → Option (List ℕ)) → List ℕ → List ℕ → Type 0
 IsDescription = IsWhole MOST_DESCRIPTION
-
--- the end of a run that a fault stopped
-abbrev pub end_by : Fault → Ended
-end_by Read = ReadFault
-end_by Write = WriteFault
-end_by Memory = NoMemory
-end_by TooLong = Long
 
 -- the end of a run whose job was over so, where all that waited was handed on and flushed
 abbrev pub end_with : Result Ended Fault → Ended
@@ -74,14 +69,6 @@ pub data JobEnds (words : List (List ℕ)) (files : Option (List ℕ → Option 
   some_lines : (job : LineJob) (fault : Fault) → Asked words files watchers job
       → Stops (Steps job) (beginning job) fault left left' taken taken' waits → end ≡ Err fault
       → JobEnds words files watchers left left' taken taken' waits end
-
--- what a job over lines tells of its source and its sink: it is over by a fault of one only where that shows it, and the
--- faults of one are as many as before where it does not blame it
-pub record BlamesStreams (end : Result Ended Fault) (steady steady' : Type 0) (faults faults' : ℕ) (sink_steady sink_steady' : Type 0) (sink_faults sink_faults' : ℕ) : Type 0 where
-  pub read : end ≡ Err Read → Rose faults faults'
-  pub write : end ≡ Err Write → Rose sink_faults sink_faults'
-  pub input : Keeps steady steady' faults faults' (end ≡ Err Read)
-  pub out : Keeps sink_steady sink_steady' sink_faults sink_faults' (end ≡ Err Write)
 
 -- what a job does with its source and its sink, where `comes` holds of one that comes to its lines: before that it leaves
 -- the source alone. That it could not read may be the fault of a file

@@ -1,8 +1,7 @@
 -- Laws over the definitions.
-use Rattle.std.specs.Prelude.{◌≡◌, ◌⊎◌, ◌↔◌, ℕ, List, [], ◌∷◌, ◌++◌, Option, Some, IsSome, codes}
+use Rattle.std.specs.Prelude.{◌≡◌, ◌⊎◌, ℕ, List, [], ◌∷◌, ◌++◌, Option, Some, IsSome}
 use Rattle.csn_desc.specs.declared.reading.Reading.{Reading}
 use Rattle.csn_desc.specs.Nodes.{DescV}
-use Rattle.csn_desc.specs.TreeV.{TreeV}
 use Rattle.csn_grammar.specs.RulesV.{RulesV}
 use Rattle.csn_grammar.specs.Place.{HasRules}
 use Rattle.csn_replay.specs.Watched.{Watched}
@@ -12,17 +11,14 @@ use Rattle.csn_certify.specs.declared.conflict.Conflict.{Conflict}
 use Rattle.csn_certify.specs.Conflicts.{Certified, IsFirstConflict}
 use Rattle.csn_certmake.specs.Claimed.{IsCertificateText}
 use Rattle.csn_compat.specs.Takes.{Takes}
-use Rattle.csn_treetext.specs.Place.{TreeText}
-use Rattle.csn_json.specs.JsonText.{JsonText}
-use Rattle.csn_movetext.specs.declared.form.TreeForm.{TreeForm}
-use Rattle.csn_movetext.specs.declared.form.TreeForm.TheVariants.{Text, Json}
-use Rattle.csn_run.specs.declared.command.RuleReport.TheVariants.{Certificate}
-use Rattle.csn_run.specs.declared.ended.Ended.{Ended}
-use Rattle.csn_run.specs.LineState.{LineState}
-use Rattle.csn_run.specs.Command.{IsCommand, IsCompat, IsReport, IsVerify, NamesFile}
-use Rattle.csn_run.specs.Compiled.{IsCompiled, RuleOf, Verifies}
-use Rattle.csn_run.specs.OutLine.{ShowsLine}
-use Rattle.csn_run.specs.Result.{LineJob, Steps, AsksFor, Compiles, Result}
+use Rattle.csn_command.specs.declared.command.RuleReport.TheVariants.{Certificate}
+use Rattle.csn_plan.specs.declared.ended.Ended.{Ended}
+use Rattle.csn_lines.specs.LineState.{LineState}
+use Rattle.csn_command.specs.Command.{IsCommand, IsCompat, IsReport, IsVerify, NamesFile}
+use Rattle.csn_plan.specs.Compiled.{IsCompiled, RuleOf}
+use Rattle.csn_run.specs.Told.{Verifies}
+use Rattle.csn_lines.specs.Jobs.{LineJob, Steps}
+use Rattle.csn_run.specs.Result.{AsksFor, Compiles, Result}
 
 -- each line has an answer, in each job over lines that words ask for and each state
 abbrev pub LinesHaveAnswers : Type 0
@@ -38,23 +34,6 @@ LinesHaveOneAnswer =
     → AsksFor words files watchers job
     → (before : LineState) (line text other : List ℕ) (after end : LineState)
     → Steps job before line text after → Steps job before line other end → (text ≡ other) × (after ≡ end)
-
--- the line is answered by this text of a tree in a form
-abbrev pub Tells : TreeForm → RulesV → List ℕ → Reading → List ℕ → List ℕ → Type 0
-Tells form rules name reading line text = ShowsLine form rules name reading line (codes "ok " ++ text)
-
--- a line is answered by a tree in JSON exactly where it is answered by a tree as text
-abbrev pub FormsAreShownTogether : Type 0
-FormsAreShownTogether =
-    (rules : RulesV) (name : List ℕ) (reading : Reading) (line : List ℕ)
-    → ((text : List ℕ) × Tells Json rules name reading line text) ↔ ((text : List ℕ) × Tells Text rules name reading line text)
-
--- and both are of one tree, where the rule is certified
-abbrev pub FormsShowOneTree : Type 0
-FormsShowOneTree =
-    (file : List ℕ) (rules : RulesV) (name : List ℕ) (reading : Reading) (d : DescV) (line text json : List ℕ)
-    → IsCompiled file name reading rules d → Tells Text rules name reading line text → Tells Json rules name reading line json
-    → (t : TreeV) × TreeText t text × JsonText t json
 
 -- what the program finds out is decided
 pub record IsDecided (words : List (List ℕ)) (files : List ℕ → Option (List ℕ)) : Type 0 where

@@ -11,18 +11,19 @@ use Rattle.csn_grammar.specs.RulesV.{RulesV}
 use Rattle.csn_grammar.specs.Place.{HasRules}
 use Rattle.csn_resolve.specs.Resolved.{IsResolved}
 use Rattle.csn_io.specs.ShelfFault.{BeginsFile}
-use Rattle.csn_run.specs.declared.command.RuleWords.{RuleWords}
-use Rattle.csn_run.specs.declared.command.PairWords.{PairWords}
-use Rattle.csn_run.specs.declared.compile.NoPlan.{NoPlan}
-use Rattle.csn_run.specs.declared.compile.TheConstants.{MOST_DESCRIPTION}
-use Rattle.csn_run.specs.declared.ended.Ended.{Ended}
-use Rattle.csn_run.specs.declared.ended.Ended.TheVariants.{Done, NotCertified}
-use Rattle.csn_run.specs.declared.fault.Fault.{Fault}
-use Rattle.csn_run.specs.declared.fault.Fault.TheVariants.{Write, Memory, TooLong}
-use Rattle.csn_run.specs.declared.lines.TheConstants.{LINE_FEED}
+use Rattle.csn_command.specs.declared.command.RuleWords.{RuleWords}
+use Rattle.csn_command.specs.declared.command.PairWords.{PairWords}
+use Rattle.csn_plan.specs.declared.compiling.NoPlan.{NoPlan}
+use Rattle.csn_plan.specs.declared.compiling.TheConstants.{MOST_DESCRIPTION}
+use Rattle.csn_plan.specs.declared.ended.Ended.{Ended}
+use Rattle.csn_plan.specs.declared.ended.Ended.TheVariants.{Done, NotCertified}
+use Rattle.csn_lines.specs.declared.fault.Fault.{Fault}
+use Rattle.csn_lines.specs.declared.fault.Fault.TheVariants.{Write, Memory, TooLong}
+use Rattle.csn_lines.specs.declared.lines.TheConstants.{LINE_FEED}
 use Rattle.csn_run.specs.declared.planned.Unplanned.{Unplanned}
 use Rattle.csn_run.specs.declared.planned.Unplanned.TheVariants.{File, Text}
-use Rattle.csn_run.specs.Compiled.{Compares, IsCompiled, IsReason, Tells, line_of}
+use Rattle.csn_run.specs.Told.{Compares}
+use Rattle.csn_plan.specs.Compiled.{IsCompiled, IsReason, Tells, line_of}
 use Rattle.csn_run.specs.Job.{IsDescription}
 
 -- the rule has this certified description

@@ -1,7 +1,7 @@
 -- What a run writes, and how it ends: for the words, the files that they name, the watchers that are handed in and the
 -- whole input. The order of the ends is this project's own choice: first the length of the description, then what it is,
 -- then the lines.
-use Rattle.std.specs.Prelude.{◌≡◌, ℕ, ◌<◌, ◌≤◌, ◌⊎◌, Bool, if◌then◌else◌, List, [], ◌∷◌, ◌++◌, length, take, map, codes, Option, Some}
+use Rattle.std.specs.Prelude.{◌≡◌, ℕ, ◌<◌, ◌≤◌, ◌⊎◌, Bool, List, [], ◌∷◌, ◌++◌, length, take, map, codes, Option, Some}
 use Rattle.std.specs.List.{AllByRecursion}
 use Rattle.csn_catalogue.specs.declared.entry.Entry.{Entry}
 use Rattle.csn_catalogue.specs.declared.entry.Entry.TheVariants.{Downlink}
@@ -18,44 +18,25 @@ use Rattle.csn_grammar.specs.Strings.{Strings}
 use Rattle.csn_replay.specs.Watched.{Watched}
 use Rattle.csn_soak.specs.declared.soaking.Soaked.{Soaked}
 use Rattle.csn_soak.specs.Soaking.{IsSoaked}
-use Rattle.csn_run.specs.declared.ended.Ended.{Ended}
-use Rattle.csn_run.specs.declared.ended.Ended.TheVariants.{Done, SomeRefused, Usage, BadDescription, NotCertified, ReadFault, WriteFault, NoMemory, TooLong}
-use Rattle.csn_run.specs.declared.lines.TheConstants.{LINE_FEED, MOST_INPUT}
-use Rattle.csn_run.specs.declared.compile.TheConstants.{MOST_DESCRIPTION}
+use Rattle.csn_plan.specs.declared.ended.Ended.{Ended}
+use Rattle.csn_plan.specs.declared.ended.Ended.TheVariants.{Done, SomeRefused, Usage, BadDescription, NotCertified, ReadFault, WriteFault, NoMemory, TooLong}
+use Rattle.csn_lines.specs.declared.lines.TheConstants.{LINE_FEED, MOST_INPUT}
+use Rattle.csn_plan.specs.declared.compiling.TheConstants.{MOST_DESCRIPTION}
 use Rattle.csn_run.specs.declared.verifying.TheConstants.{MOST_CERTIFICATE}
 use Rattle.csn_resolve.specs.Resolved.{IsResolved}
-use Rattle.csn_run.specs.declared.command.RuleCommand.{RuleCommand}
-use Rattle.csn_run.specs.declared.command.RuleReport.{RuleReport}
-use Rattle.csn_run.specs.declared.command.RuleReport.TheVariants.{Check, Certificate}
-use Rattle.csn_run.specs.Command.{IsReport, IsAnswer, IsMigrate, IsSegments, IsSoak, IsOverRule, IsOverEntries, IsReplay, IsCompat, IsVerify, NamesFiles}
-use Rattle.csn_run.specs.Compiled.{RuleOf, rule_of_entry, IsCompiled, HasNoPlan, certified_line, soaked_line, AreCompiled, Compares, Verifies}
-use Rattle.csn_run.specs.Lines.{between_feeds}
-use Rattle.csn_run.specs.LineState.{LineState, nothing_yet, closing, AnswersAlone}
-use Rattle.csn_movetext.specs.declared.form.TreeForm.TheVariants.{Text}
-use Rattle.csn_run.specs.OutLine.{AnswersByRule, MigratesLine, Replays, Segments, ShowsLine}
-use Rattle.csn_run.specs.Progress.{Answers, EndsIn, KeepsUp, StopsAfter}
-
--- the jobs that answer the lines of the input: a command by a rule of some rules, `migrate`, `segments` by the rule of
--- some rules that describes downlink blocks, and `replay` by those that describe the blocks of the entries, with watchers
-pub data LineJob : Type 0 where
-  by_rule : RuleCommand → RulesV → List ℕ → Reading → LineJob
-  migrating : LineJob
-  segmenting : RulesV → Reading → LineJob
-  replaying : RulesV → Reading → List Watched → LineJob
-
--- what a line gives in such a job, and how it takes the state further
-abbrev pub Steps : LineJob → LineState → List ℕ → List ℕ → LineState → Type 0
-Steps (by_rule command rules name reading) = AnswersAlone (AnswersByRule command rules name reading)
-Steps migrating = AnswersAlone MigratesLine
-Steps (segmenting rules reading) = Segments rules reading
-Steps (replaying rules reading watchers) = Replays rules reading
-
--- the state in front of the first line
-abbrev pub beginning : LineJob → LineState
-beginning (by_rule command rules name reading) = nothing_yet
-beginning migrating = nothing_yet
-beginning (segmenting rules reading) = nothing_yet
-beginning (replaying rules reading watchers) = record { blocks = []; watchers = watchers }
+use Rattle.csn_command.specs.declared.command.RuleCommand.{RuleCommand}
+use Rattle.csn_command.specs.declared.command.RuleReport.{RuleReport}
+use Rattle.csn_command.specs.declared.command.RuleReport.TheVariants.{Check, Certificate}
+use Rattle.csn_command.specs.Command.{IsReport, IsAnswer, IsMigrate, IsSegments, IsSoak, IsOverRule, IsOverEntries, IsReplay, IsCompat, IsVerify, NamesFiles}
+use Rattle.csn_plan.specs.Compiled.{RuleOf, rule_of_entry, HasJob, IsCompiled, HasNoPlan, certified_line, AreCompiled}
+use Rattle.csn_run.specs.Told.{soaked_line, Compares, Verifies}
+use Rattle.csn_lines.specs.Ends.{end_of}
+use Rattle.csn_lines.specs.Lines.{between_feeds}
+use Rattle.csn_lines.specs.Jobs.{LineJob, by_rule, migrating, segmenting, replaying, Steps, beginning}
+use Rattle.csn_lines.specs.LineState.{LineState, closing}
+use Rattle.csn_json.specs.declared.form.TreeForm.TheVariants.{Text}
+use Rattle.csn_lines.specs.OutLine.{ShowsLine}
+use Rattle.csn_lines.specs.Progress.{Answers, EndsIn, KeepsUp, StopsAfter}
 
 -- the words ask for this job, with these watchers. By a rule the file that they name is there, is no longer than a
 -- description may be, and the rule that they name has a certified description; for `segments` the rule of the catalogue
@@ -71,10 +52,6 @@ pub data AsksFor (words : List (List ℕ)) (files : List ℕ → Option (List �
   asks_replay : (reading : Reading) (rules : RulesV) (plans : List DescV) → IsReplay words reading
       → length catalogue_text ≤ MOST_DESCRIPTION → AreCompiled rules reading all_entries plans
       → job ≡ replaying rules reading watchers → AsksFor words files watchers job
-
--- the end of a command that answered all lines, by whether it refused one
-abbrev pub end_of : Bool → Ended
-end_of refused = if refused then SomeRefused else Done
 
 -- what a job writes: what all lines of the input give, and then what closes it; of an input past its limit, what the
 -- lines give that end within it, and nothing behind that
@@ -122,12 +99,6 @@ pub data Compiles (words : List (List ℕ)) (files : List ℕ → Option (List �
       → files before ≡ Some was → files after ≡ Some now → length was ≤ MOST_DESCRIPTION → length now ≤ MOST_DESCRIPTION
       → all ≡ record { text = was; name = name; reading = reading } ∷ record { text = now; name = name; reading = reading } ∷ []
       → Compiles words files all
-
--- the text is no longer than a description may be, and its rule has a certified description
-abbrev pub HasJob : RuleOf → Type 0
-HasJob rule =
-    (length rule.text ≤ MOST_DESCRIPTION) × (rules : RulesV) × (d : DescV)
-    × IsCompiled rule.text rule.name rule.reading rules d
 
 -- a report on a rule writes this of its certified description: a line that tells of it, or its certificate
 abbrev pub Reports : RuleReport → DescV → List ℕ → Type 0

@@ -4,22 +4,21 @@ ghost use Rattle.std.specs.Prelude.{◌≡◌, ◌≢◌, ◌⊎◌, ◌≤◌, 
 ghost use Rattle.csn_io.specs.Faults.{Keeps};
 ghost use Rattle.csn_io.specs.ShelfFault.{LacksFile};
 ghost use Rattle.csn_replay.specs.Watched.{Watched};
-ghost use Rattle.csn_run.specs.declared.compile.TheConstants.{MOST_DESCRIPTION};
-ghost use Rattle.csn_run.specs.declared.lines.TheConstants.{LINE_FEED};
-ghost use Rattle.csn_run.specs.Command.{IsRowOf};
-ghost use Rattle.csn_run.specs.Compiled.{Compares};
+ghost use Rattle.csn_plan.specs.declared.compiling.TheConstants.{MOST_DESCRIPTION};
+ghost use Rattle.csn_lines.specs.declared.lines.TheConstants.{LINE_FEED};
+ghost use Rattle.csn_command.specs.Command.{IsRowOf};
+ghost use Rattle.csn_run.specs.Told.{Compares};
 ghost use Rattle.csn_run.specs.Job.{ComesTo, IsDescription, JobEnds};
 ghost use Rattle.csn_run.specs.Outside.{CannotRead, LeftByFetches};
 ghost use Rattle.csn_run.specs.Planned.{ComparesTexts, IsLongPair};
 
-use crate::command::{Command, PairWords};
-use crate::compile::{MOST_DESCRIPTION, certified_text};
-use crate::ended::Ended;
-use crate::fault::Fault;
 use crate::planned::{Unplanned, description, end_line, refuse};
+use csn_command::{Command, PairWords};
 use csn_compat::compat;
 use csn_desc::Desc;
 use csn_io::Shelf;
+use csn_lines::Fault;
+use csn_plan::{Ended, MOST_DESCRIPTION, certified_text};
 use std::alloc::{AllocError, Global};
 
 /// The texts of two descriptions.

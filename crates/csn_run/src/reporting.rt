@@ -2,19 +2,17 @@
 
 ghost use Rattle.std.specs.Prelude.{◌≡◌, ◌++◌, ◌∷◌, [], IfOk, IfErr};
 ghost use Rattle.csn_certmake.specs.Claimed.{IsCertificateText};
-ghost use Rattle.csn_run.specs.declared.lines.TheConstants.{LINE_FEED};
-ghost use Rattle.csn_run.specs.Compiled.{certified_line};
+ghost use Rattle.csn_lines.specs.declared.lines.TheConstants.{LINE_FEED};
+ghost use Rattle.csn_plan.specs.Compiled.{certified_line};
 ghost use Rattle.csn_run.specs.Result.{Reports};
 
-use crate::command::RuleReport;
-use crate::compile::push_certified;
-use crate::ended::Ended;
-use crate::fault::Fault;
 use crate::planned::end_line;
-use crate::text_plan::TextPlan;
 use csn_bits::NoMemory;
 use csn_cert::write_certificate;
 use csn_certmake::make_certificate;
+use csn_command::RuleReport;
+use csn_lines::Fault;
+use csn_plan::{Ended, TextPlan, push_certified};
 use std::alloc::Global;
 
 /// Writes the line that tells of a certified description.

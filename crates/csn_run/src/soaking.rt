@@ -3,17 +3,17 @@
 ghost use Rattle.std.specs.Prelude.{◌≡◌, ◌≢◌, ◌≤◌, ◌++◌, ◌∷◌, [], List, ℕ, Err, IfOk, IfErr, OnOk, Option};
 ghost use Rattle.csn_soak.specs.declared.soaking.TheConstants.{MOST_BLOCKS};
 ghost use Rattle.csn_replay.specs.Watched.{Watched};
-ghost use Rattle.csn_run.specs.declared.lines.TheConstants.{LINE_FEED};
-ghost use Rattle.csn_run.specs.Command.{IsSoak};
-ghost use Rattle.csn_run.specs.Compiled.{line_of, soaked_line};
+ghost use Rattle.csn_lines.specs.declared.lines.TheConstants.{LINE_FEED};
+ghost use Rattle.csn_command.specs.Command.{IsSoak};
+ghost use Rattle.csn_plan.specs.Compiled.{line_of};
+ghost use Rattle.csn_run.specs.Told.{soaked_line};
 ghost use Rattle.csn_run.specs.Job.{JobEnds};
 
-use crate::answers::push_numbers;
-use crate::ended::Ended;
-use crate::fault::Fault;
-use crate::planned::{Unplanned, end_line, plan_of_entry, refuse};
+use crate::planned::{Unplanned, end_line, refuse};
 use csn_catalogue::Entry;
 use csn_desc::Reading;
+use csn_lines::Fault;
+use csn_plan::{Ended, plan_of_entry, push_numbers};
 use csn_soak::{Soaked, soak};
 use std::alloc::{AllocError, Global};
 

@@ -4,75 +4,37 @@ ghost use Rattle.csn_io.specs.Faults.{Keeps, Rose};
 ghost use Rattle.csn_io.specs.Got.{NothingLeft};
 ghost use Rattle.csn_io.specs.Put.{Appended, FlushedAll};
 ghost use Rattle.csn_io.specs.ShelfFault.{LacksFile};
-ghost use Rattle.csn_run.specs.declared.lines.TheConstants.{LINE_FEED, MOST_INPUT};
+ghost use Rattle.csn_lines.specs.declared.lines.TheConstants.{LINE_FEED, MOST_INPUT};
 ghost use Rattle.csn_replay.specs.Watched.{Watched};
-ghost use Rattle.csn_run.specs.Command.{IsCommand, IsReplay, IsRowOf, IsSegments, NamesFile, NamesFiles, ReadsLines};
-ghost use Rattle.csn_run.specs.Progress.{AnswersAll, Stops};
-ghost use Rattle.csn_run.specs.Reading.{IsReady};
-ghost use Rattle.csn_run.specs.LineState.{closing_of, nothing_kept};
-ghost use Rattle.csn_run.specs.OutLine.{Works, by_plan};
+ghost use Rattle.csn_command.specs.Command.{IsCommand, IsReplay, IsRowOf, IsSegments, NamesFile, NamesFiles, ReadsLines};
+ghost use Rattle.csn_lines.specs.Ends.{BlamesStreams, end_of};
+ghost use Rattle.csn_lines.specs.Progress.{AnswersAll, Stops};
+ghost use Rattle.csn_lines.specs.Reading.{IsReady};
+ghost use Rattle.csn_lines.specs.LineState.{closing_of, nothing_kept};
+ghost use Rattle.csn_lines.specs.OutLine.{Works, by_plan};
 ghost use Rattle.csn_run.specs.Outside.{CannotRead, LeftByFetch, LeftByFetches};
-ghost use Rattle.csn_run.specs.Job.{Asked, AsksFiles, BlamesStreams, ComesTo, EndsUnread, JobEnds, LeavesStreams, end_with};
-ghost use Rattle.csn_run.specs.Result.{AnswersPromptly, BeginsResult, EndsBefore, IsFinished, IsStopped, LineJob, OldBlocksStay, Result, RulesHaveOneTree, StopsReading, end_of};
+ghost use Rattle.csn_run.specs.Job.{Asked, AsksFiles, ComesTo, EndsUnread, JobEnds, LeavesStreams, end_with};
+ghost use Rattle.csn_run.specs.Result.{AnswersPromptly, BeginsResult, EndsBefore, IsFinished, IsStopped, OldBlocksStay, Result, RulesHaveOneTree, StopsReading};
+ghost use Rattle.csn_lines.specs.Jobs.{LineJob};
 
-use crate::capture_text::CaptureText;
-use crate::command::{Command, RuleCommand, RuleReport, RuleWords, command_of};
-use crate::command_line::read_words;
 use crate::comparing::compare_files;
-use crate::ended::Ended;
-use crate::fault::Fault;
 use crate::laws::{known, lines_have_one_answer};
-use crate::lines::{LineCommand, Lines};
-use crate::migrate::Migrate;
-use crate::output::{flush, pass_on};
-use crate::planned::{Unplanned, plan_of, plan_of_entry, plans_of_entries, refuse};
-use crate::replay::Replay;
+use crate::planned::{Unplanned, plan_of, refuse};
 use crate::reporting::report_plan;
-use crate::segments::Segments;
-use crate::show::ShowLines;
 use crate::soaking::soak_entry;
-use crate::text_plan::TextPlan;
 use crate::verifying::verify_file;
-use crate::whole_lines::WholeLines;
-use crate::write::WriteLines;
 use csn_catalogue::Entry;
+use csn_command::{Command, RuleCommand, RuleReport, RuleWords, command_of, read_words};
 use csn_desc::Reading;
 use csn_io::{Shelf, Sink, Source};
+use csn_lines::{
+    CaptureText, Fault, Lines, Migrate, Segments, ShowLines, WholeLines, WriteLines,
+    answer_captures, answer_lines, flush, pass_on,
+};
+use csn_plan::{Ended, TextPlan, plan_of_entry, plans_of_entries};
 use csn_replay::Watcher;
 use csn_segment::Joiner;
 use std::alloc::Global;
-
-/// The end of a job that answered all lines, by whether it refused one.
-fn end_by_lines(refused: bool) -> Ended
-    ensures { result ≡ end_of refused }
-{
-    if refused {
-        Ended::SomeRefused
-    } else {
-        Ended::Done
-    }
-}
-
-/// Answers each line of the input.
-fn answer_lines<C: LineCommand, S: Source, K: Sink>(
-    alloc: Global,
-    command: &mut C,
-    input: &mut S,
-    out: &mut K,
-    lines: &mut Lines,
-) -> Result<Ended, Fault>
-    requires begin { C.reads command.old [] }
-    requires ready { IsReady lines.old }
-    ensures ok { IfOk result (λ ended. AnswersAll (Works (C.work command.old)) closing_of (C.kept command.old)
-        (S.left input.old) (S.left input.new) (K.taken out.old) (K.taken out.new) lines.new.pending.items lines.new.refused × (ended ≡ end_of lines.new.refused)) }
-    ensures err { IfErr result (λ fault. Stops (Works (C.work command.old)) (C.kept command.old) fault
-        (S.left input.old) (S.left input.new) (K.taken out.old) (K.taken out.new) lines.new.pending.items) }
-    ensures blames { BlamesStreams result (S.steady input.old) (S.steady input.new) (S.faults input.old) (S.faults input.new)
-        (K.steady out.old) (K.steady out.new) (K.faults out.old) (K.faults out.new) }
-{
-    lines.answer_all(command, alloc, input, out)?;
-    Ok(end_by_lines(lines.refused))
-}
 
 /// Reports on the rule of a file.
 fn report<B: Shelf>(
@@ -221,8 +183,7 @@ fn answer_replay<S: Source, K: Sink>(
     let Ok(text) = CaptureText::new(alloc, &plans) else {
         return Err(Fault::Memory);
     };
-    let mut command = Replay { text, watchers };
-    answer_lines(alloc, &mut command, input, out, lines)
+    answer_captures(alloc, text, watchers, input, out, lines)
 }
 
 /// Does the job of a command, up to the answers that wait.

@@ -6,27 +6,25 @@ ghost use Rattle.csn_desc.specs.Nodes.{DescV};
 ghost use Rattle.csn_io.specs.Faults.{Keeps};
 ghost use Rattle.csn_io.specs.ShelfFault.{LacksFile};
 ghost use Rattle.csn_replay.specs.Watched.{Watched};
-ghost use Rattle.csn_run.specs.declared.compile.NoPlan.TheVariants.{Plan};
-ghost use Rattle.csn_run.specs.declared.lines.TheConstants.{LINE_FEED};
+ghost use Rattle.csn_plan.specs.declared.compiling.NoPlan.TheVariants.{Plan};
+ghost use Rattle.csn_lines.specs.declared.lines.TheConstants.{LINE_FEED};
 ghost use Rattle.csn_run.specs.declared.verifying.TheConstants.{MOST_CERTIFICATE};
-ghost use Rattle.csn_run.specs.Command.{IsVerify};
-ghost use Rattle.csn_run.specs.Compiled.{Verifies};
+ghost use Rattle.csn_command.specs.Command.{IsVerify};
+ghost use Rattle.csn_run.specs.Told.{Verifies};
 ghost use Rattle.csn_run.specs.Job.{ComesTo, JobEnds};
 ghost use Rattle.csn_run.specs.Outside.{CannotRead, LeftByFetch, LeftByFetches};
 ghost use Rattle.csn_run.specs.Planned.{HasDescription, IsChecked, IsWhy, TellsChecked};
 
-use crate::answers::push_numbers;
-use crate::command::RuleWords;
-use crate::compile::described_text;
-use crate::ended::Ended;
-use crate::fault::Fault;
 use crate::laws::known;
 use crate::planned::{Unplanned, description, end_line, refuse, whole_file};
 use csn_bits::NoMemory;
 use csn_cert::{CertFault, MOST_TEXT, read_certificate};
+use csn_command::RuleWords;
 use csn_desc::Desc;
 use csn_good::{Checked, check_certificate};
 use csn_io::Shelf;
+use csn_lines::Fault;
+use csn_plan::{Ended, described_text, push_numbers};
 use std::alloc::{AllocError, Global};
 
 /// The most bytes that the text of a certificate may have.

@@ -1,7 +1,7 @@
 use Rattle.std.proofs.Common.{◌≡◌, ℕ, ◌<◌, length, arith, ◌∙◌, sym, subst, ap, Some, get_or}
 use Rattle.std.specs.Prelude.{slice_get}
 use Rattle.std.proofs.lemmas.Option.{slice_get-get_or}
-use Rattle.csn_movetext.specs.declared.form.TreeForm.{TreeForm}
+use Rattle.csn_json.specs.declared.form.TreeForm.{TreeForm}
 use Rattle.csn_movetext.specs.Openings.{OpeningsV}
 use Rattle.csn_movetext.proofs.PoolFacts.{AreBegun, begun_next, are_opened}
 use Rattle.csn_movetext.proofs.openings.bare_openings.Goals as goal

@@ -1,7 +1,7 @@
 use Rattle.std.proofs.Common.{◌≡◌, ℕ, List, take, refl, subst, ◌∙◌}
 use Rattle.csn_bits.specs.Octets.{bits_of_octets}
 use Rattle.csn_desc.specs.Nodes.{DescV}
-use Rattle.csn_movetext.specs.declared.form.TreeForm.{TreeForm}
+use Rattle.csn_json.specs.declared.form.TreeForm.{TreeForm}
 use Rattle.csn_movetext.specs.Blocks.{AddsText, IsFaultOf}
 use Rattle.csn_movetext.proofs.BlockFacts.{whole_text, whole_fault}
 use Rattle.csn_movetext.proofs.write.write_block.Goals as goal

@@ -1,5 +1,5 @@
 use Rattle.std.proofs.Common.{◌≡◌, Err, inl, inr, ap}
-use Rattle.csn_run.specs.declared.fault.Fault.TheVariants.{Read}
+use Rattle.csn_lines.specs.declared.fault.Fault.TheVariants.{Read}
 use Rattle.csn_run.proofs.PairLemmas.{comes_after, comes_before, fault_ends, lacks_one, same_fault, texts_end}
 use Rattle.csn_run.proofs.Apart.{the_fault}
 use Rattle.csn_run.proofs.comparing.compare_files.Goals as goal

@@ -1,9 +1,10 @@
 use Rattle.std.proofs.Common.{◌≡◌, Err, ap}
-use Rattle.csn_run.specs.declared.fault.Fault.TheVariants.{TooLong}
+use Rattle.csn_lines.specs.declared.fault.Fault.TheVariants.{TooLong}
 use Rattle.csn_run.specs.Planned.{is_long_before, is_long_after}
-use Rattle.csn_run.proofs.OutsideLemmas.{keeps_along}
+use Rattle.csn_lines.proofs.OutsideLemmas.{keeps_along}
 use Rattle.csn_run.proofs.PairLemmas.{same_fault}
-use Rattle.csn_run.proofs.Apart.{ok_not_err, the_fault}
+use Rattle.csn_lines.proofs.Blames.{ok_not_err}
+use Rattle.csn_run.proofs.Apart.{the_fault}
 use Rattle.csn_run.proofs.comparing.texts_of.Goals as goal
 
 pub returns-in-Err-clause-too_long : goal.returns-in-Err-clause-too_long

@@ -2,7 +2,7 @@ use Rattle.std.proofs.Common.{[], subst}
 use Rattle.csn_desc.specs.Nodes.{DescV}
 use Rattle.csn_desc.specs.declared.reading.Reading.TheVariants.{Sent}
 use Rattle.csn_soak.specs.Soaking.{IsSoaked}
-use Rattle.csn_run.specs.Compiled.{rule_of_entry}
+use Rattle.csn_plan.specs.Compiled.{rule_of_entry}
 use Rattle.csn_run.proofs.JobLemmas.{soak_compiles, soak_ends, reason_ends}
 use Rattle.csn_run.proofs.soaking.soak_entry.Goals as goal
 

@@ -1,11 +1,11 @@
 use Rattle.std.proofs.Common.{inl, inr, refl, ap, Err}
-use Rattle.csn_run.specs.LineState.{nothing_kept}
-use Rattle.csn_run.specs.OutLine.{by_plan, Works}
-use Rattle.csn_run.specs.Result.{by_rule}
+use Rattle.csn_lines.specs.LineState.{nothing_kept}
+use Rattle.csn_lines.specs.OutLine.{by_plan, Works}
+use Rattle.csn_lines.specs.Jobs.{by_rule}
 use Rattle.csn_run.proofs.Following.{Watches, alone_follows, watches_close}
 use Rattle.csn_run.proofs.JobLemmas.{asked_by_rule, lines_end, refused_by_file, refused_ends, refused_missing, refused_read, refused_write}
 use Rattle.csn_run.proofs.JobParts.{streams_alone, streams_of_lines}
-use Rattle.csn_run.proofs.OutsideLemmas.{keeps_along}
+use Rattle.csn_lines.proofs.OutsideLemmas.{keeps_along}
 use Rattle.csn_run.proofs.top.answer_by_rule.Goals as goal
 
 pub refuse-requires : goal.refuse-requires

@@ -1,10 +1,10 @@
 use Rattle.std.proofs.Common.{[], map, length, refl, sym, ap, ◌∙◌, subst, inr}
 use Rattle.csn_catalogue.specs.Entries.{all_entries}
-use Rattle.csn_run.specs.Compiled.{AreCompiled, rule_of_entry}
+use Rattle.csn_plan.specs.Compiled.{AreCompiled, rule_of_entry}
 use Rattle.csn_run.specs.Job.{unread}
-use Rattle.csn_run.specs.LineState.{Kept}
-use Rattle.csn_run.specs.OutLine.{replaying_by, Works}
-use Rattle.csn_run.specs.Result.{replaying}
+use Rattle.csn_lines.specs.LineState.{Kept}
+use Rattle.csn_lines.specs.OutLine.{replaying_by, Works}
+use Rattle.csn_lines.specs.Jobs.{replaying}
 use Rattle.csn_run.proofs.Following.{Watches, watches_close}
 use Rattle.csn_run.proofs.JobLemmas.{replay_compiles, asked_replay, replays_follow, reason_ends, lines_end}
 use Rattle.csn_run.proofs.JobParts.{streams_alone, streams_of_lines, text_no_read, text_no_write}
@@ -30,8 +30,8 @@ new-requires g c = ap length c.deref.ensures.value ∙ c.in-Ok.ensures.count
 pub returns-in_default : goal.returns-in_default
 returns-in_default g c = record { ends = λ words files row. unread refl refl c.requires.ready.pending (inr refl); read = λ e. absurd (memory_alone e tt); streams = streams_alone (λ e. memory_alone e tt) }
 
-pub answer_lines-requires : goal.answer_lines-requires
-answer_lines-requires g c = record { begin = c.in-Ok-new.ensures.reads; ready = c.requires.ready }
+pub answer_captures-requires : goal.answer_captures-requires
+answer_captures-requires g c = record { begin = c.in-Ok-new.ensures.reads; ready = c.requires.ready }
 
 pub returns-clause-ends : goal.returns-clause-ends
 returns-clause-ends g c = λ words files row.
@@ -40,14 +40,14 @@ returns-clause-ends g c = λ words files row.
     let are = subst (λ l. AreCompiled is.0 c.args.reading all_entries l) (sym c.deref.ensures.value) is.1 in
     let watched = map (λ b. (goal.Watcher-dyn g (b.vtable, b.value)).watched b.value) c.args.watchers.items in
     let kept : Kept = record { bodies = []; watchers = watched } in
-    let ended = rw c.in-Ok-new.ensures.descs at c.answer_lines.ensures.ok in
-    let stopped = rw c.in-Ok-new.ensures.descs at c.answer_lines.ensures.err in
+    let ended = rw c.in-Ok-new.ensures.descs at c.answer_captures.ensures.ok in
+    let stopped = rw c.in-Ok-new.ensures.descs at c.answer_captures.ensures.err in
     lines_end Watches (Works (replaying_by plans)) kept words files watched (replaying is.0 c.args.reading watched) _ _ _ _ _ _ _ (asked_replay words files watched c.args.reading is.0 plans row c.plans_of_entries.ensures.fits are) (replays_follow plans is.0 c.args.reading are) watches_close refl ended stopped
 
 pub returns-clause-read : goal.returns-clause-read
-returns-clause-read g c = c.answer_lines.ensures.blames.read
+returns-clause-read g c = c.answer_captures.ensures.blames.read
 
 pub returns-clause-streams : goal.returns-clause-streams
 returns-clause-streams g c =
     let is = c.in-Ok.ensures.plans in
-    streams_of_lines (λ words files row. (replaying is.0 c.args.reading _, asked_replay words files _ c.args.reading is.0 c.in-Ok.plans.items row c.plans_of_entries.ensures.fits is.1)) _ _ c.answer_lines.ensures.ok c.answer_lines.ensures.blames
+    streams_of_lines (λ words files row. (replaying is.0 c.args.reading _, asked_replay words files _ c.args.reading is.0 c.in-Ok.plans.items row c.plans_of_entries.ensures.fits is.1)) _ _ c.answer_captures.ensures.ok c.answer_captures.ensures.blames

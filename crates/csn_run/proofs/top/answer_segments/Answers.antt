@@ -1,8 +1,8 @@
 use Rattle.std.proofs.Common.{[], refl}
 use Rattle.csn_catalogue.specs.declared.entry.Entry.TheVariants.{Downlink}
-use Rattle.csn_run.specs.Compiled.{rule_of_entry}
-use Rattle.csn_run.specs.OutLine.{joining, Works}
-use Rattle.csn_run.specs.Result.{segmenting}
+use Rattle.csn_plan.specs.Compiled.{rule_of_entry}
+use Rattle.csn_lines.specs.OutLine.{joining, Works}
+use Rattle.csn_lines.specs.Jobs.{segmenting}
 use Rattle.csn_run.proofs.JobLemmas.{KeepsBodies, keeps_close, joins_follow, segments_compile, asked_segments, reason_ends, lines_end}
 use Rattle.csn_run.proofs.JobParts.{streams_alone, streams_of_lines, text_no_read, text_no_write}
 use Rattle.csn_run.proofs.top.answer_segments.Goals as goal

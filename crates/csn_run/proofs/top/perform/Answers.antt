@@ -1,9 +1,9 @@
 use Rattle.std.proofs.Common.{inl, inr, refl, length, ap, arith}
-use Rattle.csn_run.specs.LineState.{nothing_kept}
-use Rattle.csn_run.specs.OutLine.{renewing, Works}
-use Rattle.csn_run.specs.Result.{migrating}
+use Rattle.csn_lines.specs.LineState.{nothing_kept}
+use Rattle.csn_lines.specs.OutLine.{renewing, Works}
+use Rattle.csn_lines.specs.Jobs.{migrating}
 use Rattle.csn_run.proofs.CommandLemmas.{answer_reads, migrate_reads, two_read, comes_to_one}
-use Rattle.csn_run.proofs.OutsideLemmas.{keeps_still}
+use Rattle.csn_lines.proofs.OutsideLemmas.{keeps_still}
 use Rattle.csn_run.proofs.Following.{Watches, alone_follows, watches_close}
 use Rattle.csn_run.proofs.JobLemmas.{asked_migrate, lines_end}
 use Rattle.csn_run.proofs.JobParts.{asks_certificate, asks_none, asks_one, asks_pair, lacking_alone, reads_for, streams_alone, streams_of_lines, streams_within}

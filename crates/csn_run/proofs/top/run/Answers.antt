@@ -3,7 +3,7 @@ use Rattle.csn_run.specs.Result.{begins_none, nothing_read}
 use Rattle.csn_io.proofs.Told.{rose_early, rose_late}
 use Rattle.csn_run.proofs.CommandLemmas.{no_row, row_named, comes_named, row_read, command_read}
 use Rattle.csn_run.proofs.OldBlocks.{stays_of}
-use Rattle.csn_run.proofs.OutsideLemmas.{keeps_along, keeps_both, keeps_still}
+use Rattle.csn_lines.proofs.OutsideLemmas.{keeps_along, keeps_both, keeps_still}
 use Rattle.csn_run.proofs.ResultLemmas.{complete_of, result_of, begun_of, read_of, nothing_left_of, as_before, bounded_of, untouched, finished_no_write, finished_no_memory, handed_all, nothing_taken, unread_ends, unwritten_ends, not_usage, ok_of, no_fault_bad, no_fault_uncertified, read_stopped, write_stopped}
 use Rattle.csn_run.proofs.OneTree.{one_tree_of}
 use Rattle.csn_run.proofs.Prompt.{prompt_of}

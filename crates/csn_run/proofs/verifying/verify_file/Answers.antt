@@ -1,9 +1,10 @@
-use Rattle.std.proofs.Common.{◌≡◌, Err, inl, inr, ap, sym}
-use Rattle.csn_run.specs.declared.fault.Fault.TheVariants.{Read}
+use Rattle.std.proofs.Common.{◌≡◌, Err, inl, inr, ap}
+use Rattle.csn_lines.specs.declared.fault.Fault.TheVariants.{Read}
 use Rattle.csn_run.proofs.JobLemmas.{refused_read}
 use Rattle.csn_run.proofs.PairLemmas.{same_fault}
 use Rattle.csn_run.proofs.VerifyLemmas.{certificate_ends, comes_behind, comes_description, fault_ends, lacks_certificate, refused_ends, refused_lacks, same_why}
-use Rattle.csn_run.proofs.Apart.{the_fault, ok_not_err}
+use Rattle.csn_lines.proofs.Blames.{ok_not_err}
+use Rattle.csn_run.proofs.Apart.{the_fault}
 use Rattle.csn_run.proofs.verifying.verify_file.Goals as goal
 
 pub returns-in-Err-clause-ends : goal.returns-in-Err-clause-ends

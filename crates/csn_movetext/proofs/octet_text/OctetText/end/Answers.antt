@@ -1,7 +1,7 @@
 use Rattle.std.proofs.Common.{◌≡◌, ℕ, List, ◌++◌, take, Ok, Err, ap, subst, arith}
 use Rattle.csn_bits.specs.Octets.{bits_of_octet}
 use Rattle.csn_desc.specs.Nodes.{DescV}
-use Rattle.csn_movetext.specs.declared.form.TreeForm.{TreeForm}
+use Rattle.csn_json.specs.declared.form.TreeForm.{TreeForm}
 use Rattle.csn_judge.specs.declared.fed.Fed.TheVariants.{NoMemory}
 use Rattle.csn_movetext.specs.declared.fault.BlockFault.TheVariants as fault
 use Rattle.csn_judge.specs.Following.{IsNoString}

@@ -2,7 +2,7 @@ use Rattle.std.proofs.Common.{Bool, false, sym, subst, ap, ◌∙◌, OnOk}
 use Rattle.csn_bits.specs.Numbers.{low_bits}
 use Rattle.csn_judge.specs.Told.{BitsTold}
 use Rattle.csn_movetext.specs.Kept.{KeptV, kept_of}
-use Rattle.csn_movetext.specs.declared.form.TreeForm.{TreeForm}
+use Rattle.csn_json.specs.declared.form.TreeForm.{TreeForm}
 use Rattle.csn_movetext.specs.Track.{TrackV, TookAll, Writes}
 use Rattle.csn_movetext.proofs.TrackFacts.{view, told_still, told_taken}
 use Rattle.csn_movetext.proofs.track.TextTrackTrack.bits.Goals as goal

@@ -1,0 +1,21 @@
+use Rattle.std.proofs.Common.{ap, ◌∙◌, Err}
+use Rattle.std.proofs.lemmas.Result.{IfOk-from_err, err_from_is_err_and}
+use Rattle.csn_lines.proofs.Blames.{blames_none, blames_same}
+use Rattle.csn_lines.proofs.jobs.answer_lines.Goals as goal
+
+pub answer_all-requires : goal.answer_all-requires
+answer_all-requires g c = record { begin = c.requires.begin; line = c.requires.ready.line; pending = c.requires.ready.pending; refused = c.requires.ready.refused }
+
+pub returns-in_err-answer_all-clause-ok : goal.returns-in_err-answer_all-clause-ok
+returns-in_err-answer_all-clause-ok g c = IfOk-from_err c.from_residual.result _ c.from_residual.ensures.0
+
+pub returns-in_err-answer_all-clause-blames : goal.returns-in_err-answer_all-clause-blames
+returns-in_err-answer_all-clause-blames g c =
+    let p = err_from_is_err_and c.from_residual.result c.from_residual.ensures.1 in
+    let met = c.in_err-answer_all.ensures in
+    blames_same (p.1 ∙ ap Err p.2) met.read met.write met.input met.out
+
+pub returns : goal.returns
+returns g c =
+    let all = c.in_ok-answer_all.ensures in
+    record { ok = (all.ok, c.end_by_lines.ensures); err = tt; blames = blames_none all.input all.out }

@@ -1,0 +1,10 @@
+pub mod Ends
+pub mod Jobs
+pub mod Known
+pub mod Laws
+pub mod LineState
+pub mod Lines
+pub mod OutLine
+pub mod Progress
+pub mod Reading
+pub mod Replaying

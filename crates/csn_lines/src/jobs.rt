@@ -1,0 +1,74 @@
+//! Jobs over the lines of an input.
+
+ghost use Rattle.std.specs.Prelude.{◌≡◌, [], IfOk, IfErr, map};
+ghost use Rattle.csn_lines.specs.Ends.{BlamesStreams, end_of};
+ghost use Rattle.csn_lines.specs.LineState.{closing_of};
+ghost use Rattle.csn_lines.specs.OutLine.{Works, replaying_by};
+ghost use Rattle.csn_lines.specs.Progress.{AnswersAll, Stops};
+ghost use Rattle.csn_lines.specs.Reading.{IsReady};
+ghost use Rattle.csn_lines.specs.Replaying.{ReadsCapture, desc_of};
+
+use crate::capture_text::CaptureText;
+use crate::fault::Fault;
+use crate::lines::{LineCommand, Lines};
+use crate::replay::Replay;
+use csn_io::{Sink, Source};
+use csn_plan::Ended;
+use csn_replay::Watcher;
+use std::alloc::Global;
+
+/// The end of a job that answered all lines, by whether it refused one.
+fn end_by_lines(refused: bool) -> Ended
+    ensures { result ≡ end_of refused }
+{
+    if refused {
+        Ended::SomeRefused
+    } else {
+        Ended::Done
+    }
+}
+
+/// Answers each line of the input.
+pub fn answer_lines<C: LineCommand, S: Source, K: Sink>(
+    alloc: Global,
+    command: &mut C,
+    input: &mut S,
+    out: &mut K,
+    lines: &mut Lines,
+) -> Result<Ended, Fault>
+    requires begin { C.reads command.old [] }
+    requires ready { IsReady lines.old }
+    ensures ok { IfOk result (λ ended. AnswersAll (Works (C.work command.old)) closing_of (C.kept command.old)
+        (S.left input.old) (S.left input.new) (K.taken out.old) (K.taken out.new) lines.new.pending.items lines.new.refused × (ended ≡ end_of lines.new.refused)) }
+    ensures err { IfErr result (λ fault. Stops (Works (C.work command.old)) (C.kept command.old) fault
+        (S.left input.old) (S.left input.new) (K.taken out.old) (K.taken out.new) lines.new.pending.items) }
+    ensures blames { BlamesStreams result (S.steady input.old) (S.steady input.new) (S.faults input.old) (S.faults input.new)
+        (K.steady out.old) (K.steady out.new) (K.faults out.old) (K.faults out.new) }
+{
+    lines.answer_all(command, alloc, input, out)?;
+    Ok(end_by_lines(lines.refused))
+}
+
+/// Shows the blocks of a capture, and lets the watchers count them.
+pub fn answer_captures<S: Source, K: Sink>(
+    alloc: Global,
+    text: CaptureText<'_>,
+    watchers: Vec<Box<dyn Watcher>>,
+    input: &mut S,
+    out: &mut K,
+    lines: &mut Lines,
+) -> Result<Ended, Fault>
+    requires begin { ReadsCapture text.writers.items text.head [] }
+    requires ready { IsReady lines.old }
+    ensures ok { IfOk result (λ ended. AnswersAll (Works (replaying_by (map desc_of text.entry.writers.items))) closing_of
+        (record { bodies = []; watchers = map (λ b. watched b) watchers.items })
+        (S.left input.old) (S.left input.new) (K.taken out.old) (K.taken out.new) lines.new.pending.items lines.new.refused × (ended ≡ end_of lines.new.refused)) }
+    ensures err { IfErr result (λ fault. Stops (Works (replaying_by (map desc_of text.entry.writers.items)))
+        (record { bodies = []; watchers = map (λ b. watched b) watchers.items }) fault
+        (S.left input.old) (S.left input.new) (K.taken out.old) (K.taken out.new) lines.new.pending.items) }
+    ensures blames { BlamesStreams result (S.steady input.old) (S.steady input.new) (S.faults input.old) (S.faults input.new)
+        (K.steady out.old) (K.steady out.new) (K.faults out.old) (K.faults out.new) }
+{
+    let mut command = Replay { text, watchers };
+    answer_lines(alloc, &mut command, input, out, lines)
+}

@@ -1,8 +1,0 @@
-/// The form in which trees stand in lines.
-#[derive(Clone, Copy)]
-pub enum TreeForm {
-    /// The text of csn_treetext.
-    Text,
-    /// The JSON of csn_json, with no space.
-    Json,
-}

@@ -1,0 +1,3 @@
+pub mod EntryPlans
+pub mod Reasons
+pub mod Texts

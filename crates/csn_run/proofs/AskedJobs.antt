@@ -1,0 +1,19 @@
+-- Jobs that words ask for have plans, so each line has one answer in them.
+use Rattle.std.proofs.Common.{ℕ, List, Option, sym, subst}
+use Rattle.csn_replay.specs.Watched.{Watched}
+use Rattle.csn_lines.specs.Jobs.{LineJob, HasPlans}
+use Rattle.csn_lines.specs.Laws.{JobsHaveAnswers, JobsHaveOneAnswer}
+use Rattle.csn_run.specs.Laws.{LinesHaveAnswers, LinesHaveOneAnswer}
+use Rattle.csn_run.specs.Result.{AsksFor, asks_by_rule, asks_migrate, asks_segments, asks_replay}
+
+has_plans : {words : List (List ℕ)} {files : List ℕ → Option (List ℕ)} {watchers : List Watched} {job : LineJob} → AsksFor words files watchers job → HasPlans job
+has_plans (asks_by_rule command file name text reading rules d row held fits compiled is) = subst HasPlans (sym is) (text, d, compiled)
+has_plans (asks_migrate row is) = subst HasPlans (sym is) tt
+has_plans (asks_segments reading rules d row fits compiled is) = subst HasPlans (sym is) (d, compiled)
+has_plans (asks_replay reading rules plans row fits compiled is) = subst HasPlans (sym is) (plans, compiled)
+
+pub each_asked : JobsHaveAnswers → LinesHaveAnswers
+each_asked law words files watchers job asked before line = law job (has_plans asked) before line
+
+pub one_asked : JobsHaveOneAnswer → LinesHaveOneAnswer
+one_asked law words files watchers job asked before line text other after end a b = law job (has_plans asked) before line text other after end a b

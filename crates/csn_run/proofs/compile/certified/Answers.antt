@@ -1,5 +1,0 @@
-use Rattle.csn_run.proofs.JobLemmas.{resolved_reason}
-use Rattle.csn_run.proofs.compile.certified.Goals as goal
-
-pub returns-in-Err-clause-none : goal.returns-in-Err-clause-none
-returns-in-Err-clause-none c = λ text has. resolved_reason text _ _ c.args.rules.now c.in-Err.fault has c.in-Err.ensures.refused

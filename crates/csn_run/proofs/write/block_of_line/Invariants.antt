@@ -1,5 +1,0 @@
-use Rattle.csn_run.proofs.write.block_of_line.Given as goal
-
--- the steps are counted on a ledger of their own
-abbrev pub ghosts-block_along : goal.ghosts-block_along
-ghosts-block_along a = record { name = a.blank.name; parts = a.blank.parts }

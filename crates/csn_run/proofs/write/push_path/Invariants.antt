@@ -1,6 +1,0 @@
-use Rattle.std.proofs.Common.{◌≡◌, ◌++◌, take}
-use Rattle.csn_run.specs.OutLine.{steps_text}
-use Rattle.csn_run.proofs.write.push_path.Given as goal
-
-abbrev pub invariant-loop-at : goal.invariant-loop-at
-invariant-loop-at l = l.out.items ≡ l.fn.out.items ++ steps_text (take l.at l.path)
