@@ -15,27 +15,13 @@ use std::alloc::{AllocError, Global};
 use std::collections::BTreeMap;
 
 #[cfg(test)]
-mod as_json;
-#[cfg(test)]
-mod certified;
-#[cfg(test)]
-mod compared;
-#[cfg(test)]
 mod failing;
 #[cfg(test)]
 mod replayed;
 #[cfg(test)]
-mod segmented;
-#[cfg(test)]
-mod shown;
-#[cfg(test)]
-mod soaked;
-#[cfg(test)]
 mod tests;
 #[cfg(test)]
 mod verified;
-#[cfg(test)]
-mod written;
 
 /// How a run over memory ended, and what it wrote.
 #[derive(Debug, Drop)]
