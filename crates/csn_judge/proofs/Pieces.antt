@@ -9,8 +9,8 @@ use Rattle.csn_judge.specs.declared.verdict.Verdict.TheVariants.{Going, Refused}
 use Rattle.csn_judge.specs.declared.verdict.Judged.{Judged}
 use Rattle.csn_judge.specs.declared.verdict.Judged.TheVariants.{Ok, Refused as no_string}
 use Rattle.csn_judge.specs.Judging.{JudgeV, JudgesFor, judges_no_more, Judges, Ends, refusal_of}
-use Rattle.csn_blocks.specs.declared.block.Piece.{Piece}
-use Rattle.csn_blocks.specs.Judging.{bits_of_piece, bits_of, bits_in, AreWithin, IsJudged}
+use Rattle.csn_judge.specs.declared.block.Piece.{Piece}
+use Rattle.csn_judge.specs.Blocks.{bits_of_piece, bits_of, bits_in, AreWithin, IsJudged}
 
 -- with the piece at a place
 pub bits_with : (ps : List Piece) (i : ℕ) (none : Piece) → i < length ps → bits_of (take (suc i) ps) ≡ bits_of (take i ps) ++ bits_of_piece (slice_index_or ps i none)

@@ -1,10 +1,10 @@
 use Rattle.std.proofs.Common.{◌≡◌, ℕ, suc, ◌+◌, ◌≤◌, List, [], take, refl, sym, subst, ◌∙◌, arith, take_all}
 use Rattle.csn_desc.specs.declared.moves.Move.{Move}
 use Rattle.csn_judge.specs.Judging.{JudgeV, JudgesFor}
-use Rattle.csn_blocks.specs.declared.block.Piece.{Piece}
-use Rattle.csn_blocks.specs.Judging.{bits_of, bits_in, IsJudged}
-use Rattle.csn_blocks.proofs.Pieces.{bits_with, count_with, few_with, within_at, fed, seen_with, judged}
-use Rattle.csn_blocks.proofs.block.judge_with.Goals as goal
+use Rattle.csn_judge.specs.declared.block.Piece.{Piece}
+use Rattle.csn_judge.specs.Blocks.{bits_of, bits_in, IsJudged}
+use Rattle.csn_judge.proofs.Pieces.{bits_with, count_with, few_with, within_at, fed, seen_with, judged}
+use Rattle.csn_judge.proofs.block.judge_with.Goals as goal
 
 abbrev no_piece : Piece
 no_piece = record { octets = record { ref_ptr = (0, 0); now = [] }; bits = 0 }

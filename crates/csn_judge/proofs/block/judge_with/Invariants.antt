@@ -1,8 +1,8 @@
 use Rattle.std.proofs.Common.{◌≡◌, ◌≤◌, List, take}
 use Rattle.csn_desc.specs.declared.moves.Move.{Move}
 use Rattle.csn_judge.specs.Judging.{JudgesFor}
-use Rattle.csn_blocks.specs.Judging.{bits_in, bits_of}
-use Rattle.csn_blocks.proofs.block.judge_with.Given as goal
+use Rattle.csn_judge.specs.Blocks.{bits_in, bits_of}
+use Rattle.csn_judge.proofs.block.judge_with.Given as goal
 
 abbrev pub invariant-loop-piece : goal.invariant-loop-piece
 invariant-loop-piece g l = record {

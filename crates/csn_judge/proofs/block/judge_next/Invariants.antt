@@ -1,4 +1,4 @@
-use Rattle.csn_blocks.proofs.block.judge_next.Given as goal
+use Rattle.csn_judge.proofs.block.judge_next.Given as goal
 
 -- the steps are counted on a ledger of their own
 abbrev pub ghosts-judge_with : goal.ghosts-judge_with

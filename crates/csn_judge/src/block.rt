@@ -1,11 +1,12 @@
 //! Blocks that are there as a whole.
 
 ghost use Rattle.std.specs.Prelude.{◌≡◌, ◌<◌};
-ghost use Rattle.csn_blocks.specs.Judging.{AreOfBlock, IsFresh, IsJudged, bits_of};
+ghost use Rattle.csn_judge.specs.Blocks.{AreOfBlock, IsFresh, IsJudged, bits_of};
 
+use crate::judge::Judge;
+use crate::verdict::Judged;
 use csn_bits::Bits;
 use csn_certify::{Plan, Steps};
-use csn_judge::{Judge, Judged};
 use std::marker::Brand;
 use std::sync::ledger::{Blank, Ledger};
 

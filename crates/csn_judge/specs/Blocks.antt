@@ -8,7 +8,7 @@ use Rattle.csn_desc.specs.Follows.{IsPlace}
 use Rattle.csn_judge.specs.declared.verdict.Judged.{Judged}
 use Rattle.csn_judge.specs.declared.verdict.Judged.TheVariants.{Ok, Refused}
 use Rattle.csn_judge.specs.Judging.{JudgeV, JudgesFor}
-use Rattle.csn_blocks.specs.declared.block.Piece.{Piece}
+use Rattle.csn_judge.specs.declared.block.Piece.{Piece}
 
 -- some tree has the bits; or none has, and this many of them can be followed
 abbrev pub IsJudged : DescV → List ℕ → Judged → Type 0
