@@ -1,4 +1,4 @@
-//! The whole program over memory, and the worked examples of it.
+//! The whole program over memory.
 #![tactic(auto)]
 
 ghost use Rattle.std.specs.Prelude.{◌≡◌, ◌≢◌, ◌↔◌, [], List, ℕ, Some, Err, IfOk, map};
@@ -13,15 +13,6 @@ use csn_replay::Watcher;
 use csn_run::{Ended, run};
 use std::alloc::{AllocError, Global};
 use std::collections::BTreeMap;
-
-#[cfg(test)]
-mod failing;
-#[cfg(test)]
-mod replayed;
-#[cfg(test)]
-mod tests;
-#[cfg(test)]
-mod verified;
 
 /// How a run over memory ended, and what it wrote.
 #[derive(Debug, Drop)]
