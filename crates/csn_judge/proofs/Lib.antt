@@ -47,3 +47,4 @@ pub mod PayingParts
 pub mod JudgingFacts
 pub mod NewJudges
 pub mod FollowingFacts
+mod Pieces

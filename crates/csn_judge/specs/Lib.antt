@@ -11,3 +11,4 @@ pub mod Reads
 pub mod Judging
 pub mod Following
 pub mod Picked
+pub mod Blocks

@@ -2,6 +2,7 @@
 //! memory.
 #![tactic(auto)]
 
+mod block;
 mod entry;
 mod fed;
 mod frame;
@@ -20,6 +21,7 @@ mod track;
 mod turn;
 mod verdict;
 
+pub use block::{Piece, judge_block, judge_next, judge_pieces};
 pub use csn_desc::Move;
 pub use fed::Fed;
 pub use judge::Judge;

@@ -1,7 +1,7 @@
 ghost use Rattle.std.specs.Prelude.{◌≡◌, ◌<◌, ◌≤◌, ◌+◌, ◌*◌, ◌++◌, ◌↔◌, IfOk, IsTrue, if◌then◌else◌, length, take, drop};
 ghost use Rattle.std.specs.Int.{to_be_bytes, w64};
 ghost use Rattle.csn_bits.specs.Octets.{bits_of_octets};
-ghost use Rattle.csn_blocks.specs.Judging.{AreOfBlock, IsFresh, bits_of};
+ghost use Rattle.csn_judge.specs.Blocks.{AreOfBlock, IsFresh, bits_of};
 ghost use Rattle.csn_soak.specs.declared.soaking.TheConstants.{MOST_BLOCKS};
 ghost use Rattle.csn_soak.specs.Generator.{is_cut};
 ghost use Rattle.csn_soak.specs.Soaking.{IsSoaked, IsString};
@@ -9,10 +9,9 @@ ghost use Rattle.csn_soak.specs.Soaking.{IsSoaked, IsString};
 use crate::generator::next;
 use crate::template::Template;
 use csn_bits::NoMemory;
-use csn_blocks::{Piece, judge_next};
 use csn_catalogue::{Entry, Sample, sample_of};
 use csn_certify::Plan;
-use csn_judge::{Judge, Judged};
+use csn_judge::{Judge, Judged, Piece, judge_next};
 use std::alloc::Global;
 
 /// The most blocks of a run.

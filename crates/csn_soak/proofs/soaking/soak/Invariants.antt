@@ -1,5 +1,5 @@
 use Rattle.std.proofs.Common.{◌≡◌}
-use Rattle.csn_blocks.specs.Judging.{IsFresh}
+use Rattle.csn_judge.specs.Blocks.{IsFresh}
 use Rattle.csn_soak.specs.Generator.{number}
 use Rattle.csn_soak.specs.Soaking.{IsSoaked}
 use Rattle.csn_soak.proofs.soaking.soak.Given as goal
