@@ -458,11 +458,12 @@ def several(maker, name, most, many):
 
 
 def main(words):
-    """usage: csn1.py FILE NAME MANY SEED: prints blocks that a sender may write, each with its tree."""
-    file, name, many, seed = words
+    """usage: csn1.py FILE NAME MANY SEED [OCTETS]: prints blocks that a sender may write, each with its tree."""
+    file, name, many, seed, *octets = words
+    most = 8 * (int(octets[0]) if octets else 22)
     with open(file, encoding="ascii") as source:
         maker = Maker(rules_of(source.read()), random.Random(seed))
-    for bits, tree, _ in several(maker, name, 8 * 22, int(many)):
+    for bits, tree, _ in several(maker, name, most, int(many)):
         print(f"{line(bits)}\tok {tree}")
 
 
