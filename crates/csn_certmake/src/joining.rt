@@ -13,8 +13,8 @@ use csn_cert::laws::texts_are_of_one_pattern;
 use csn_cert::{MOST_MARKS, Pattern};
 use std::alloc::Global;
 
-/// So many first patterns are joined with all that stands behind them as soon as that is cut.
-const FEW: usize = 8;
+/// Where there are no more first patterns, to cut what stands behind them costs more than it spares.
+const FEW: usize = 1;
 
 /// Adds the first marks of another pattern.
 fn push_marks(pattern: &mut Pattern, from: &Pattern, count: u8)
