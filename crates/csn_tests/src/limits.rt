@@ -14,9 +14,9 @@ const SHOW: &[&str] = &["show", "F", "M", "received"];
 /// How many bytes the lines of such an input have, each with its line feed.
 const LINE: usize = 65_536;
 
-/// Lines of so many bytes in all, of which none spells anything.
-pub(crate) fn lines(alloc: Global, count: usize) -> Result<Vec<u8>, AllocError> {
-    let mut bytes = vec![in alloc; b'x'; count]?;
+/// Lines of so many bytes in all, each of this byte as often as it has room for it.
+pub(crate) fn lines(alloc: Global, byte: u8, count: usize) -> Result<Vec<u8>, AllocError> {
+    let mut bytes = vec![in alloc; byte; count]?;
     for line in bytes.chunks_mut(LINE) {
         if let Some(last) = line.last_mut() {
             *last = b'\n';
@@ -34,7 +34,8 @@ pub(crate) fn repeated(alloc: Global, text: &[u8], times: usize) -> Result<Vec<u
     Ok(all)
 }
 
-/// A run of `show` over the description of fields and lines of so many bytes in all, which ends with this status.
+/// A run of `show` over the description of fields and lines of an odd number of digits, of so many bytes in all, which ends
+/// with this status.
 fn expect_shown(
     rt: &impl Abort,
     alloc: Global,
@@ -42,9 +43,9 @@ fn expect_shown(
     status: u8,
 ) -> Result<(), AllocError> {
     let files = file(alloc, FIELDS)?;
-    let ran = ran_unwatched(alloc, SHOW, files, lines(alloc, count)?)?;
-    let text = repeated(alloc, b"bad 1 0\n", MOST / LINE)?;
-    expect(rt, &ran, &text, status, "lines without blocks");
+    let ran = ran_unwatched(alloc, SHOW, files, lines(alloc, b'0', count)?)?;
+    let text = repeated(alloc, b"bad 2\n", MOST / LINE)?;
+    expect(rt, &ran, &text, status, "lines of an odd number of digits");
     Ok(())
 }
 
@@ -70,7 +71,7 @@ fn expect_migrated(
     status: u8,
 ) -> Result<(), AllocError> {
     let mut input = Vec::from_slice(alloc, b"b\n")?;
-    input.extend_from_slice(&lines(alloc, MOST - 3)?)?;
+    input.extend_from_slice(&lines(alloc, b'x', MOST - 3)?)?;
     input.extend_from_slice(end)?;
     let ran = ran_unwatched(alloc, &["migrate"], BTreeMap::new(alloc), input)?;
     let mut text = Vec::from_slice(alloc, b"ok b\n")?;

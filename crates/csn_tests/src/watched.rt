@@ -505,7 +505,7 @@ fn two_counting(alloc: Global, drops: &Rc<Cell<u32>>) -> Result<Vec<Box<dyn Watc
 /// A refused block, and lines of no entry, of more bytes in all than an input may have.
 fn long_capture(alloc: Global) -> Result<Vec<u8>, AllocError> {
     let mut input = Vec::from_slice(alloc, b"downlink FF\n")?;
-    input.extend_from_slice(&lines(alloc, 16_777_216)?)?;
+    input.extend_from_slice(&lines(alloc, b'x', 16_777_216)?)?;
     Ok(input)
 }
 

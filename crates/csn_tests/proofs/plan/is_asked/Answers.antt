@@ -1,4 +1,4 @@
-use Rattle.std.proofs.Common.{◌≡◌, Some, ap, sym, ◌∙◌}
+use Rattle.std.proofs.Common.{Some, ap, sym, ◌∙◌}
 use Rattle.csn_certify.specs.Picks.{asked_choice, asked_many}
 use Rattle.csn_tests.proofs.plan.is_asked.Goals as goal
 
