@@ -161,8 +161,8 @@ class Pcapng:
                 break
             try:
                 packet = self.packet_in(kind, bytes(buffer[at + 8:at + length - 4]))
-            except (struct.error, IndexError, CaptureFault) as fault:
-                return packets, f"a block of kind {kind} is damaged: {fault}", at
+            except (struct.error, IndexError):
+                return packets, f"a block of kind {kind} is damaged", at
             if packet is not None:
                 packets.append(packet)
             at += length
@@ -188,7 +188,7 @@ class Pcapng:
 
 def packet_of(link: int, time: int | None, octets: bytes, length: int) -> Packet:
     if length > len(octets):
-        raise CaptureFault(f"{length} octets of a packet do not fit in")
+        raise IndexError("the packet is longer than its block")
     return Packet(link, time, octets[:length])
 
 

@@ -93,7 +93,8 @@ def options_of(words: list[str]) -> argparse.Namespace:
     form = parser.add_mutually_exclusive_group()
     form.add_argument("--only", metavar="JOB")
     form.add_argument("--answer", metavar="READING", choices=["received", "sent"])
-    parser.add_argument("--bin", metavar="PATH", default=str(PROGRAM), help="the program, if not the repository's own")
+    parser.add_argument("--bin", metavar="PATH", default=os.environ.get("CSN_CLI", str(PROGRAM)),
+                        help="the program, where it is neither what CSN_CLI names nor the repository's own")
     parser.add_argument("capture", metavar="CAPTURE")
     return parser.parse_args(words)
 

@@ -17,6 +17,7 @@ from collections import Counter
 from pathlib import Path
 
 from distributed import Client
+from distributed.scheduler import KilledWorker
 
 PROGRAM = Path(__file__).resolve().parent.parent / "crates/csn_cli/out/csn_cli"
 COUNTS = 9                     # lines, at the end of what a run prints
@@ -36,20 +37,31 @@ def answer(program: str, reading: str, file: str) -> dict[str, int]:
     return {name: int(count) for name, _, count in counts}
 
 
-def main() -> None:
+def summed(scheduler: str, program: str, reading: str, files: list[str]) -> Counter[str]:
+    """Has the workers answer the files, and sums their counts."""
+    sums: Counter[str] = Counter()
+    with Client(scheduler) as client:
+        many = len(files)
+        for counts in client.gather(client.map(answer, [program] * many, [reading] * many, files)):
+            sums.update(counts)
+    return sums
+
+
+def main() -> int:
     parser = argparse.ArgumentParser(description=__doc__, formatter_class=argparse.RawDescriptionHelpFormatter)
     parser.add_argument("--bin", metavar="PATH", default=str(PROGRAM))
     parser.add_argument("scheduler")
     parser.add_argument("reading", choices=["received", "sent"])
     parser.add_argument("files", nargs="+", metavar="FILE")
     options = parser.parse_args()
-    sums: Counter[str] = Counter()
-    with Client(options.scheduler) as client:
-        files = [str(Path(file).resolve()) for file in options.files]
-        for counts in client.gather(client.map(answer, [options.bin] * len(files), [options.reading] * len(files), files)):
-            sums.update(counts)
+    try:
+        sums = summed(options.scheduler, options.bin, options.reading, [str(Path(file).resolve()) for file in options.files])
+    except (OSError, KilledWorker) as fault:
+        print(f"on_dask.py: {fault}", file=sys.stderr)
+        return 2
     for name, count in sums.items():
         print(name, count)
+    return 0
 
 
 if __name__ == "__main__":

@@ -4,18 +4,21 @@ from __future__ import annotations
 import random
 import shutil
 import subprocess
+import sys
 
 from made import FIRST, SECOND
-from tried import EXAMPLES, Tried
+from tried import TOOLS, Tried
 
+POLLING = "10B00000006B2B2B2B2B2B2B2B2B2B2B2B2B2B2B2B2B"
 SI3 = "si3 6EAB2B2B"
 UPLINK = "uplink 04000000032B2B2B2B2B2B2B2B2B2B2B2B2B2B2B2B2B"
 LINES = [SI3, UPLINK, "si1 83", "si4 2B2B2B2B2B2B2B2B2B2B", "si13 900058406FA2A00F512B2B2B2B2B2B2B2B2B2B2B",
-         "ia D0000000002B2B2B2B2B2B", FIRST]
+         "ia D0000000002B2B2B2B2B2B", FIRST, f"downlink {POLLING}"]
 # How tshark's summary of each ends.
 SUMMARIES = ["System Information Type 3", "PACKET_CONTROL_ACKNOWLEDGEMENT", "System Information Type 1",
-             "System Information Type 4", "System Information Type 13", "Immediate Assignment", "PACKET_POLLING_REQUEST"]
-FIELDS = ["gsmtap.arfcn", "gsmtap.ts", "gsmtap.chan_type", "frame.time_epoch", "_ws.expert"]
+             "System Information Type 4", "System Information Type 13", "Immediate Assignment", "PACKET_POLLING_REQUEST",
+             "PACKET_POLLING_REQUEST"]
+FIELDS = ["gsmtap.arfcn", "gsmtap.ts", "gsmtap.chan_type"]
 
 
 def shown_by_tshark(file: object, *words: str) -> list[str]:
@@ -27,27 +30,27 @@ def try_capture_of_blocks(tried: Tried) -> None:
     text = "".join(line + "\n" for line in LINES)
     file = tried.folder / "blocks.pcap"
     with open(file, "wb") as capture:
-        ran = subprocess.run([shutil.which("python3") or "python3", "to_pcap.py", "--arfcn", "871", "--slot", "6"], input=text.encode(),
-                             stdout=capture, cwd=EXAMPLES.parent.parent / "tools", check=False)
+        words = [sys.executable, str(TOOLS / "to_pcap.py"), "--arfcn", "871", "--slot", "6"]
+        ran = subprocess.run(words, input=text.encode(), stdout=capture, check=False)
     tried.same("blocks to a capture", ran.returncode, 0)
     status, rows, fault = tried.tool("gsmtap.py", file)
-    jobs = ["replay"] * 6 + ["871/6"]
+    jobs = ["replay"] * 6 + ["871/6"] * 2
     wanted = [f"{number}\t0.{(number - 1) * 20:03}000000\t{job}\t{line}"
-              for number, (job, line) in enumerate(zip(jobs, LINES), 1)]
+              for number, (job, line) in enumerate(zip(jobs, [*LINES[:7], f"40{POLLING}"]), 1)]
     tried.same("and back", (status, rows.splitlines(), fault), (0, wanted, ""))
     with open(tried.folder / "again.pcap", "wb") as capture:
-        subprocess.run(["python3", "to_pcap.py"], input=rows.replace("\t0.", "\t1700000000.").encode(), stdout=capture,
-                       cwd=EXAMPLES.parent.parent / "tools", check=False)
+        later = rows.replace("\t0.", "\t1700000000.")
+        subprocess.run([sys.executable, str(TOOLS / "to_pcap.py")], input=later.encode(), stdout=capture, check=False)
     status, again, fault = tried.tool("gsmtap.py", tried.folder / "again.pcap")
-    tried.same("rows to a capture and back", (status, again, fault), (0, rows.replace("\t0.", "\t1700000000."), ""))
+    tried.same("rows to a capture and back", (status, again, fault), (0, later, ""))
     if not shutil.which("tshark"):
         return tried.skip("whether Wireshark opens a capture of blocks", "tshark is not installed")
     told = shown_by_tshark(file)
     tried.same("what tshark shows", [line.endswith(end) for line, end in zip(told, SUMMARIES)], [True] * len(LINES))
     told = shown_by_tshark(file, "-o", "ip.check_checksum:TRUE", "-Y", "ip.checksum.status == \"Good\"")
     tried.same("checksums that tshark finds good", len(told), len(LINES))
-    told = shown_by_tshark(file, "-T", "fields", *(word for field in FIELDS[:3] for word in ("-e", field)))
-    tried.same("channels that tshark shows", told, [f"871\t6\t{channel}" for channel in (1, 13, 1, 1, 1, 4, 13)])
+    told = shown_by_tshark(file, "-T", "fields", *(word for field in FIELDS for word in ("-e", field)))
+    tried.same("channels that tshark shows", told, [f"871\t6\t{channel}" for channel in (1, 13, 1, 1, 1, 4, 13, 13)])
 
 
 def try_lines_refused(tried: Tried) -> None:

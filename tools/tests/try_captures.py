@@ -105,6 +105,8 @@ def try_answers(tried: Tried) -> None:
     wanted = answers_wanted(tried)
     status, told, fault = tried.tool("gsmtap.py", "--bin", tried.program, "--answer", "received", file)
     tried.same("answers beside frames", (status, told.splitlines(), fault), (1, wanted, ""))
+    shown = [line[4:] for line in (TOOLS / "README.md").read_text().splitlines() if line.startswith("    1")]
+    tried.same("rows that the page shows", (len(shown), set(shown) <= set(told.splitlines())), (3, True))
     columns = [line.split("\t") for line in told.splitlines()]
     joined = [row[3] for row in columns if len(row) == 4 and row[2] != "replay"]
     tried.same("which segments are joined", [answer if answer[0] in "wb" else answer[:2] for answer in joined], JOINED)

@@ -16,12 +16,13 @@ from collections import Counter
 from dataclasses import dataclass
 from pathlib import Path
 
-from made import HEADS, LINKS, pcap, tap
+from made import HEADS, LINKS, pcap, pcapng, tap
 from tried import EXAMPLES, TOOLS, Tried
 from try_back import segment_lines
 
 COUNT = re.compile(r"(entry \w+|refused|bits) (\d+)")
 PAGE = TOOLS / "README.md"
+STATUSES = range(124)          # of engines: how many runs ended by another status than 0, and 123 of xargs
 
 
 @dataclass
@@ -76,14 +77,16 @@ class Place:
     tried: Tried
     folder: Path
 
-    def run(self, command: str) -> None:
-        """Runs a command as it stands in the page."""
+    def run(self, command: str, file: str = "") -> None:
+        """Runs a command as it stands in the page; what it prints goes into a file, where one is named."""
         self.tried.same(f"the page has {command}", f"    $ {command}\n" in PAGE.read_text(), True)
         command = command.replace("gsmtap.py ", f"gsmtap.py --bin '{self.tried.program}' ")
         path = f"{self.folder}:{os.environ['PATH']}"
         ran = subprocess.run(["sh", "-c", command], cwd=self.folder, stdin=subprocess.DEVNULL, capture_output=True,
                              env={**os.environ, "PATH": path}, check=False)
-        if ran.returncode not in (0, 1, 123):
+        if file:
+            (self.folder / file).write_bytes(ran.stdout)
+        if ran.returncode not in STATUSES:
             self.tried.same(f"the status of {command}", (ran.returncode, ran.stderr), 0)
 
     def text(self, file: str) -> str:
@@ -119,6 +122,24 @@ def framed(line: str) -> bytes:
     if entry in HEADS:
         return tap(1, HEADS[entry] + block)
     return tap(13, "40" + block, uplink=True)
+
+
+def try_one_downlink(place: Place) -> None:
+    """The lines of one downlink by gsmtap.py, and without it where tshark is at hand."""
+    lines = [line for line in segment_lines(random.Random(9), 500) if len(line) == 46]
+    number, packet = LINKS["Ethernet"]
+    frames = [packet(tap(13, line, slot=6)) for line in lines]
+    (place.folder / "capture.pcapng").write_bytes(pcapng(number, frames))
+    controls = [line for line in lines if line[0] in "48B"]
+    wanted = wanted_of(place.tried, "segments", controls)
+    place.run("tools/gsmtap.py --only 871/6 capture.pcapng | csn_cli segments received", "found")
+    place.tried.same("one downlink by gsmtap.py", found_in(place.text("found")), wanted)
+    if shutil.which("tshark"):
+        place.run("tshark -r capture.pcapng -Y 'gsmtap.chan_type==13 && gsmtap.uplink==0' -T fields -e udp.payload"
+                  " | cut -c33- | csn_cli segments received", "found")
+        place.tried.same("one downlink by tshark", found_in(place.text("found")), wanted_of(place.tried, "segments", lines))
+    else:
+        place.tried.skip("the downlink by tshark", "it is not installed")
 
 
 def try_xargs(place: Place, wanted: Wanted) -> None:
@@ -211,6 +232,7 @@ def try_all(tried: Tried) -> None:
         try_segments(place)
     else:
         tried.skip("GNU parallel", "it is not installed")
+    try_one_downlink(place)
     try_xargs(place, wanted)
     python = python_with_distributed()
     if python:
