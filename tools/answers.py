@@ -130,7 +130,9 @@ class Answers:
             self.counts[name] = self.counts.get(name, 0) + int(count)
 
     def close(self) -> dict[str, int]:
-        """Ends all runs, and gives the counts of `replay`."""
+        """Ends all runs, and gives the counts of `replay`, which has at least one run."""
+        if not self.counts:
+            self.run(REPLAY, 0)
         for job in list(self.runs):
             self.end(job)
         return self.counts

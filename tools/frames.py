@@ -5,7 +5,7 @@ from typing import NamedTuple
 
 from captures import Packet
 
-PORT = 4729
+PORT = (4729).to_bytes(2, "big")
 VERSION, UM = 2, 1             # of the GSMTAP header, and its type for the radio interface
 PACCH, PDCH = 11, 13           # channels of packet data, whose blocks have 23 octets
 BROADCAST = {1, 2, 4, 5}       # BCCH, CCCH, AGCH and PCH
@@ -13,7 +13,8 @@ BLOCK_OCTETS = 23
 CONTROL, SEGMENTED = 1, 2      # payload types of the MAC header
 RADIO_RESOURCE = 6             # protocol discriminator
 REST_OCTETS = {0x00: "si13", 0x19: "si1", 0x1B: "si3", 0x1C: "si4", 0x3F: "ia"}    # by message type
-# Where the IP header begins, by link type: BSD loopback, raw IP (three numbers), OpenBSD loopback, SLL, IPv4, IPv6, SLL2.
+# Where the IP header begins, by link type: BSD loopback, raw IP (three numbers), OpenBSD loopback, SLL, IPv4, IPv6 and
+# SLL2.
 IP_BEGINS = {0: 4, 12: 0, 14: 0, 101: 0, 108: 4, 113: 16, 228: 0, 229: 0, 276: 20}
 ETHERNET, GSMTAP = 1, 217      # further link types
 VLAN_TAGS = {b"\x81\x00", b"\x88\xa8"}
@@ -70,12 +71,9 @@ def gsmtap_in(link: int, packet: bytes) -> bytes:
         return b""
     source, target = packet[at:at + 2], packet[at + 2:at + 4]
     length = int.from_bytes(packet[at + 4:at + 6], "big")
-    if PORT_OCTETS not in (source, target) or at + length > len(packet):
+    if PORT not in (source, target) or at + length > len(packet):
         return b""
     return packet[at + 8:at + length]
-
-
-PORT_OCTETS = PORT.to_bytes(2, "big")
 
 
 def ip_begin(link: int, packet: bytes) -> int:

@@ -55,7 +55,8 @@ def main() -> int:
     parser.add_argument("files", nargs="+", metavar="FILE")
     options = parser.parse_args()
     try:
-        sums = summed(options.scheduler, options.bin, options.reading, [str(Path(file).resolve()) for file in options.files])
+        files = [str(Path(file).resolve()) for file in options.files]
+        sums = summed(options.scheduler, options.bin, options.reading, files)
     except (OSError, KilledWorker) as fault:
         print(f"on_dask.py: {fault}", file=sys.stderr)
         return 2

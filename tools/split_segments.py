@@ -23,7 +23,7 @@ def parts(lines: Iterable[str], octets: int) -> Iterator[tuple[list[str], int]]:
     waiting = Waiting()
     part: list[str] = []
     again = used = 0
-    for line in filter(None, map(str.strip, lines)):
+    for line in filter(None, (line.removesuffix("\n").removesuffix("\r") for line in lines)):
         if used + len(line) >= octets and len(part) > again:
             yield part, again
             part = list(waiting.lines.values())
@@ -40,13 +40,14 @@ def main() -> int:
     parser.add_argument("--octets", type=int, default=8 << 20)
     parser.add_argument("folder", type=Path)
     options = parser.parse_args()
+    sys.stdin.reconfigure(encoding="latin-1", newline="\n")
     try:
         options.folder.mkdir(parents=True, exist_ok=True)
         for number, (part, again) in enumerate(parts(sys.stdin, options.octets)):
             file = options.folder / f"{number:04}"
-            file.write_text("\n".join(part) + "\n")
+            file.write_bytes(("\n".join(part) + "\n").encode("latin-1"))
             print(file, again + 1, flush=True)
-    except (UnicodeDecodeError, OSError) as fault:
+    except OSError as fault:
         print(f"split_segments.py: {fault}", file=sys.stderr)
         return 2
     return 0

@@ -16,7 +16,7 @@ import struct
 import sys
 from typing import BinaryIO, Iterable, NamedTuple
 
-from frames import BLOCK_OCTETS, PDCH, PORT_OCTETS
+from frames import BLOCK_OCTETS, PDCH, PORT
 
 IPV4 = 228                     # the link type
 BCCH, AGCH = 1, 4              # channels
@@ -62,7 +62,7 @@ def tap(where: Where, channel: int, is_uplink: bool, octets: bytes) -> bytes:
 
 def ip_of(payload: bytes) -> bytes:
     """A payload in UDP in IPv4, from and to 127.0.0.1."""
-    udp = struct.pack(">2s2sHH", PORT_OCTETS, PORT_OCTETS, 8 + len(payload), 0) + payload
+    udp = struct.pack(">2s2sHH", PORT, PORT, 8 + len(payload), 0) + payload
     head = struct.pack(">BBHHHBBH4s4s", 0x45, 0, 20 + len(udp), 0, 0, 64, 17, 0, b"\x7f\0\0\1", b"\x7f\0\0\1")
     total = sum(struct.unpack(">10H", head))
     total = (total & 0xFFFF) + (total >> 16)

@@ -75,7 +75,8 @@ def segment_lines(source: random.Random, many: int) -> list[str]:
     for _ in range(many):
         head = source.choice([0x80, 0x80, 0x80, 0xBF, 0x40, 0x00, 0xC0])
         control = source.randrange(8) << 2 | source.choice([0, 0, 0x82, 0x82, 0x80, 0x02])
-        lines.append(f"{head:02X}{control:02X}{body}" if source.randrange(30) else source.choice(["4G", "80", "."]))
+        line = f"{head:02X}{control:02X}{body}"
+        lines.append(source.choice([line] * 60 + [f"{line}\r", f" {line}", f"{line} ", "4G", "80", "."]))
     return lines
 
 
@@ -91,8 +92,8 @@ def try_parts(tried: Tried) -> None:
         joined = []
         for row in told.splitlines():
             file, first = row.split(" ")
-            with open(file, encoding="ascii") as part:
-                answers = tried.csn_cli(["segments", "received"], part.read().splitlines())
+            with open(file, encoding="ascii", newline="\n") as part:
+                answers = tried.csn_cli(["segments", "received"], part.read().split("\n"))
             tried.same("first segments that wait", {answer[:5] for answer in answers[:int(first) - 1]} <= {"wait "}, True)
             joined += answers[int(first) - 1:]
         tried.same("how many parts", len(told.splitlines()) > 18000 // octets, True)

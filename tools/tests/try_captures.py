@@ -119,6 +119,13 @@ def try_answers(tried: Tried) -> None:
     tried.same("answers of the standard input", (status, told.splitlines()), (1, wanted))
 
 
+def try_no_blocks(tried: Tried) -> None:
+    """A capture without blocks has counts all the same."""
+    status, told, fault = tried.tool("gsmtap.py", "--bin", tried.program, "--answer", "received", "-", given=pcap(1, []))
+    tried.same("no blocks", (status, told.splitlines(), fault), (0, tried.csn_cli(["replay", "received"], []), ""))
+    tried.same("counts of no blocks", told.count(" 0\n"), 9)
+
+
 def try_many_runs(tried: Tried) -> None:
     """Runs that end early, and few at a time, answer as those that stay."""
     wanted = answers_wanted(tried)
@@ -138,7 +145,8 @@ def try_growing(tried: Tried) -> None:
     length = int.from_bytes(octets[32:36], "little")
     begun = 24 + 16 + length + 9               # the first packet, and a part of the head of the second
     words = [sys.executable, str(TOOLS / "gsmtap.py"), "--bin", tried.program, "--answer", "received", "-"]
-    with subprocess.Popen(words, stdin=subprocess.PIPE, stdout=subprocess.PIPE) as ran:
+    environment = {name: value for name, value in os.environ.items() if name != "PYTHONUNBUFFERED"}
+    with subprocess.Popen(words, stdin=subprocess.PIPE, stdout=subprocess.PIPE, env=environment) as ran:
         ran.stdin.write(octets[:begun])
         ran.stdin.flush()
         came = bool(select.select([ran.stdout], [], [], 20)[0])
@@ -249,6 +257,6 @@ def try_memory(tried: Tried) -> None:
 
 def try_all(tried: Tried) -> None:
     assert time_of(1).startswith(str(BEGIN + 1))
-    for one in (try_forms, try_pieces, try_beside_tshark, try_answers, try_many_runs, try_growing, try_faults,
+    for one in (try_forms, try_pieces, try_beside_tshark, try_answers, try_no_blocks, try_many_runs, try_growing, try_faults,
                 try_damaged, try_memory):
         one(tried)
