@@ -36,6 +36,7 @@ def main():
         failed = [
             run("show.py"),
             run("migrate.py"),
+            run("tools.py"),
             run("descriptions.py"),
             run("certify.py", catalogue.name, *beside),
             run("judge.py", catalogue.name, *beside),
