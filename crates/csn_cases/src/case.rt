@@ -9,7 +9,7 @@ use std::alloc::{AllocError, Global};
 
 /// A run, and what it must come to.
 #[derive(Drop)]
-pub struct Case {
+pub(crate) struct Case {
     /// The line of the file that begins it.
     pub line: usize,
     pub words: Vec<String>,
@@ -22,14 +22,14 @@ pub struct Case {
 
 /// What a run came to.
 #[derive(Drop)]
-pub struct Came {
+pub(crate) struct Came {
     pub text: Vec<u8>,
     pub status: u8,
 }
 
 impl Came {
     /// Whether another run came to the same.
-    pub fn is_same(&self, other: &Came) -> bool {
+    pub(crate) fn is_same(&self, other: &Came) -> bool {
         self.status == other.status && self.text.as_slice() == other.text.as_slice()
     }
 }
@@ -58,7 +58,7 @@ impl Case {
 
     /// Runs it over the files, with an outside that moves so many bytes in a call and with the watchers of the program:
     /// one for each entry in order, one for refused blocks and one for bits.
-    pub fn run(&self, alloc: Global, files: &Shelf, most: u32) -> Result<Came, AllocError>
+    pub(crate) fn run(&self, alloc: Global, files: &Shelf, most: u32) -> Result<Came, AllocError>
         requires { 1 ≤ most }
     {
         let mut watchers: Vec<Box<dyn Watcher>> = Vec::new(alloc);
@@ -83,7 +83,7 @@ impl Case {
     }
 
     /// Whether a run came to what it must.
-    pub fn wants(&self, came: &Came) -> bool {
+    pub(crate) fn wants(&self, came: &Came) -> bool {
         let text = if self.begins {
             came.text.starts_with(&self.output)
         } else {

@@ -6,7 +6,7 @@ use std::alloc::{AllocError, Global};
 
 /// What a line of the file comes to.
 #[derive(Drop)]
-pub enum Step {
+pub(crate) enum Step {
     /// Nothing more is to be done for it.
     Going,
     /// A case is whole.
@@ -17,7 +17,7 @@ pub enum Step {
 
 /// The cases of a file, of which one line is taken after the other.
 #[derive(Drop)]
-pub struct Cases {
+pub(crate) struct Cases {
     shelf: Shelf,
     /// The case that is begun.
     open: Option<Case>,
@@ -28,7 +28,7 @@ pub struct Cases {
 }
 
 impl Cases {
-    pub fn new(alloc: Global) -> Cases {
+    pub(crate) fn new(alloc: Global) -> Cases {
         Cases {
             shelf: Shelf::new(alloc),
             open: None,
@@ -37,11 +37,11 @@ impl Cases {
         }
     }
 
-    pub fn shelf(&self) -> &Shelf {
+    pub(crate) fn shelf(&self) -> &Shelf {
         &self.shelf
     }
 
-    pub fn keep_output(&mut self, came: Came) {
+    pub(crate) fn keep_output(&mut self, came: Came) {
         self.last = came.text;
     }
 
@@ -91,7 +91,12 @@ impl Cases {
     }
 
     /// Takes the line with this number.
-    pub fn take(&mut self, alloc: Global, number: usize, line: Line) -> Result<Step, LineFault> {
+    pub(crate) fn take(
+        &mut self,
+        alloc: Global,
+        number: usize,
+        line: Line,
+    ) -> Result<Step, LineFault> {
         match line {
             Line::Silent => {}
             Line::File(name, bytes) => self.shelf.set(alloc, name, bytes)?,
@@ -120,7 +125,7 @@ impl Cases {
     }
 
     /// What is wrong at the end of the file, and at which line.
-    pub fn fault_at_end(&self) -> Option<(usize, LineFault)> {
+    pub(crate) fn fault_at_end(&self) -> Option<(usize, LineFault)> {
         if let Some(case) = &self.open {
             return Some((case.line, LineFault::NoEnd));
         }

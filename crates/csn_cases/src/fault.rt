@@ -3,7 +3,7 @@ use std::fmt;
 
 /// What is wrong with a line of a case file.
 #[derive(Clone, Copy, Debug, Drop)]
-pub enum LineFault {
+pub(crate) enum LineFault {
     /// It does not begin with a word of a case file, or its text is not understood.
     Unknown,
     /// It belongs to a case, and none is begun.

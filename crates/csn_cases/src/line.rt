@@ -6,7 +6,7 @@ use std::alloc::{AllocError, Global};
 
 /// What a line says.
 #[derive(Drop)]
-pub enum Line<'a> {
+pub(crate) enum Line<'a> {
     /// Nothing: it is empty or a comment.
     Silent,
     /// The file of the name has these bytes.
@@ -66,7 +66,7 @@ fn cut(text: &str) -> (&str, &str) {
 }
 
 /// What a line says.
-pub fn line_of(alloc: Global, line: &str) -> Result<Line<'_>, LineFault> {
+pub(crate) fn line_of(alloc: Global, line: &str) -> Result<Line<'_>, LineFault> {
     if line.is_empty() || line.starts_with('#') {
         return Ok(Line::Silent);
     }

@@ -120,7 +120,7 @@ fn digit_of(byte: u8, base: u8) -> Result<u8, LineFault> {
 }
 
 /// The bytes of a text.
-pub fn bytes_of(alloc: Global, text: &str) -> Result<Vec<u8>, LineFault> {
+pub(crate) fn bytes_of(alloc: Global, text: &str) -> Result<Vec<u8>, LineFault> {
     let mut unescaped = Unescaped {
         next: Next::Plain,
         bytes: Vec::new(alloc),
