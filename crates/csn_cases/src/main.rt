@@ -1,13 +1,22 @@
 //! Runs the cases of case files over memory, and compares what each run writes, and how it ends, with what the file wants.
-//! The words are the names of the files; where there are none, one file is read from the standard input.
+//! The words are the names of the files; where there are none, one file is read from the standard input. What no text can
+//! say of a run is a test here: an outside that fails, watchers of one's own, and inputs near 16 MiB.
 #![tactic(auto)]
 
 mod case;
 mod cases;
+#[cfg(test)]
+mod failing;
 mod fault;
+#[cfg(test)]
+mod limits;
 mod line;
+#[cfg(test)]
+mod runs;
 mod shelf;
 mod text;
+#[cfg(test)]
+mod watched;
 
 use crate::case::{Came, Case};
 use crate::cases::{Cases, Step};

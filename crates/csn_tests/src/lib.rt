@@ -1,6 +1,5 @@
-//! Tests alone, and no library: each public call at an example of its own, the outside where it fails, blocks and lines
-//! in pieces, watchers of one's own, and the limits near 16 MiB. What a whole run shows stands as text in the data of
-//! csn_cases.
+//! Tests alone, and no library: each public call at an example of its own, the outside where it fails, and blocks and
+//! lines in pieces. What a whole run shows is a case of csn_cases.
 #![tactic(auto)]
 
 #[cfg(test)]
@@ -24,15 +23,11 @@ mod desc;
 #[cfg(test)]
 mod encode;
 #[cfg(test)]
-mod failing;
-#[cfg(test)]
 mod json;
 #[cfg(test)]
 mod judged;
 #[cfg(test)]
 mod lexer;
-#[cfg(test)]
-mod limits;
 #[cfg(test)]
 mod line_text;
 #[cfg(test)]
@@ -46,8 +41,6 @@ mod plan;
 #[cfg(test)]
 mod real;
 #[cfg(test)]
-mod runs;
-#[cfg(test)]
 mod segments;
 #[cfg(test)]
 mod sets;
@@ -57,5 +50,3 @@ mod spans;
 mod texts;
 #[cfg(test)]
 mod tree_text;
-#[cfg(test)]
-mod watched;
