@@ -85,6 +85,16 @@ pub fn compile(alloc: Global, text: &[u8], name: &[u8], reading: Reading) -> Com
     plan_by(alloc, &rules, name, reading)
 }
 
+/// The plan of a named rule of a text alone, for who shows no blocks.
+pub fn plan_text(alloc: Global, text: &[u8], name: &[u8], reading: Reading) -> Compiled<Plan>
+    requires fits { length text.now ≤ MOST_DESCRIPTION }
+    ensures plan { IfOk result (λ plan. (rules : RulesV) × IsCompiled text.now name.now reading rules plan) }
+    ensures none { IfErr result (IsReason text.now name.now reading) }
+{
+    let rules = rules_of(alloc, text)?;
+    certified(alloc, &rules, name, reading)
+}
+
 /// The description of a named rule of a text, which need not be certified.
 pub fn described_text(alloc: Global, text: &[u8], name: &[u8], reading: Reading) -> Compiled<Desc>
     requires fits { length text.now ≤ MOST_DESCRIPTION }
@@ -181,10 +191,10 @@ pub fn push_reason(reason: &NoPlan, out: &mut Vec<u8>) -> Result<Ended, AllocErr
 }
 
 /// Writes the line that tells how many nodes a certified description has, without a line feed.
-pub fn push_certified(plan: &TextPlan, out: &mut Vec<u8>) -> Result<Ended, AllocError>
+pub fn push_certified(plan: &Plan, out: &mut Vec<u8>) -> Result<Ended, AllocError>
     ensures ok { IfOk result (λ ended. (ended ≡ Ended.Done) × (out.new.items ≡ out.old.items ++ certified_line plan.now)) }
 {
     out.extend_from_slice(b"certified")?;
-    push_numbers(&[plan.plan().len() as u32], out)?;
+    push_numbers(&[plan.len() as u32], out)?;
     Ok(Ended::Done)
 }

@@ -8,8 +8,8 @@ mod numbers;
 mod text_plan;
 
 pub use compiling::{
-    Compiled, MOST_DESCRIPTION, NoPlan, certified_text, compile, described_text, push_certified,
-    push_reason,
+    Compiled, MOST_DESCRIPTION, NoPlan, certified_text, compile, described_text, plan_text,
+    push_certified, push_reason,
 };
 pub use ended::Ended;
 pub use entries::{plan_of_entry, plans_of_entries};

@@ -10,10 +10,11 @@ ghost use Rattle.csn_run.specs.Job.{IsDescription, IsLonger, IsWhole};
 ghost use Rattle.csn_run.specs.Outside.{CannotRead, LeftByFetch};
 ghost use Rattle.csn_run.specs.Planned.{IsPlanned, IsWhy, Refuses};
 
+use csn_certify::{CertifyFault, Plan};
 use csn_command::RuleWords;
 use csn_io::{Shelf, ShelfFault};
 use csn_lines::{Fault, LINE_FEED};
-use csn_plan::{Ended, MOST_DESCRIPTION, NoPlan, TextPlan, compile, push_reason};
+use csn_plan::{Ended, MOST_DESCRIPTION, NoPlan, TextPlan, plan_text, push_reason};
 use std::alloc::{AllocError, Global};
 
 /// Why a run has no plan.
@@ -89,7 +90,7 @@ pub fn plan_of<B: Shelf>(
     alloc: Global,
     shelf: &mut B,
     rule: RuleWords<'_>,
-) -> Result<TextPlan, Unplanned>
+) -> Result<Plan, Unplanned>
     ensures plan { IfOk result (IsPlanned (B.files shelf.old) rule.entry) }
     ensures none { IfErr result (IsWhy (B.files shelf.old) rule.entry) }
     ensures read { result ≡ Err (Unplanned.File Fault.Read)
@@ -100,7 +101,29 @@ pub fn plan_of<B: Shelf>(
     ensures shelf { Keeps (B.steady shelf.old) (B.steady shelf.new) (B.faults shelf.old) (B.faults shelf.new) (result ≡ Err (Unplanned.File Fault.Read)) }
 {
     let text = description(alloc, shelf, rule.file)?;
-    Ok(compile(alloc, &text, rule.name.as_bytes(), rule.reading)?)
+    Ok(plan_text(alloc, &text, rule.name.as_bytes(), rule.reading)?)
+}
+
+/// The same, with what its nodes write of a tree, by which lines are answered.
+pub fn text_plan_of<B: Shelf>(
+    alloc: Global,
+    shelf: &mut B,
+    rule: RuleWords<'_>,
+) -> Result<TextPlan, Unplanned>
+    ensures plan { IfOk result (IsPlanned (B.files shelf.old) rule.entry) }
+    ensures none { IfErr result (IsWhy (B.files shelf.old) rule.entry) }
+    ensures read { result ≡ Err (Unplanned.File Fault.Read)
+        → CannotRead (B.files shelf.old) (B.faults shelf.old) (B.faults shelf.new) (B.last_fault shelf.new) rule.entry.file.now }
+    ensures missing { LacksFile (B.files shelf.old) rule.entry.file.now
+        → (result ≡ Err (Unplanned.File Fault.Read)) ⊎ (result ≡ Err (Unplanned.File Fault.Memory)) }
+    ensures fetched { LeftByFetch (B.fetch_gives shelf.old rule.entry.file.now) shelf.new }
+    ensures shelf { Keeps (B.steady shelf.old) (B.steady shelf.new) (B.faults shelf.old) (B.faults shelf.new) (result ≡ Err (Unplanned.File Fault.Read)) }
+{
+    let plan = plan_of(alloc, shelf, rule)?;
+    match TextPlan::new(alloc, plan) {
+        Ok(made) => Ok(made),
+        Err(_) => Err(Unplanned::Text(NoPlan::Plan(CertifyFault::NoMemory))),
+    }
 }
 
 /// Writes a line feed behind a line, or forgets the line where there was no memory for it.

@@ -9,14 +9,15 @@ ghost use Rattle.csn_run.specs.Result.{Reports};
 use crate::planned::end_line;
 use csn_bits::NoMemory;
 use csn_cert::write_certificate;
+use csn_certify::Plan;
 use csn_certmake::make_certificate;
 use csn_command::RuleReport;
 use csn_lines::Fault;
-use csn_plan::{Ended, TextPlan, push_certified};
+use csn_plan::{Ended, push_certified};
 use std::alloc::Global;
 
 /// Writes the line that tells of a certified description.
-fn tell_certified(plan: TextPlan, pending: &mut Vec<u8>) -> Result<Ended, Fault>
+fn tell_certified(plan: Plan, pending: &mut Vec<u8>) -> Result<Ended, Fault>
     requires { pending.old.items ≡ [] }
     ensures ok { IfOk result (λ ended. (ended ≡ Ended.Done) × (pending.new.items ≡ certified_line plan ++ LINE_FEED ∷ [])) }
     ensures err { IfErr result (λ fault. (fault ≡ Fault.Memory) × (pending.new.items ≡ [])) }
@@ -26,15 +27,15 @@ fn tell_certified(plan: TextPlan, pending: &mut Vec<u8>) -> Result<Ended, Fault>
 }
 
 /// The text of the certificate of a certified description.
-fn certificate_text(alloc: Global, plan: TextPlan) -> Result<Vec<u8>, NoMemory>
+fn certificate_text(alloc: Global, plan: Plan) -> Result<Vec<u8>, NoMemory>
     ensures { IfOk result (λ text. IsCertificateText plan text.items) }
 {
-    let certificate = make_certificate(alloc, plan.into_plan())?;
+    let certificate = make_certificate(alloc, plan)?;
     write_certificate(alloc, &certificate)
 }
 
 /// Writes the certificate of a certified description.
-fn tell_certificate(alloc: Global, plan: TextPlan, pending: &mut Vec<u8>) -> Result<Ended, Fault>
+fn tell_certificate(alloc: Global, plan: Plan, pending: &mut Vec<u8>) -> Result<Ended, Fault>
     requires { pending.old.items ≡ [] }
     ensures ok { IfOk result (λ ended. (ended ≡ Ended.Done) × IsCertificateText plan pending.new.items) }
     ensures err { IfErr result (λ fault. (fault ≡ Fault.Memory) × (pending.new.items ≡ [])) }
@@ -50,7 +51,7 @@ fn tell_certificate(alloc: Global, plan: TextPlan, pending: &mut Vec<u8>) -> Res
 pub fn report_plan(
     alloc: Global,
     report: RuleReport,
-    plan: TextPlan,
+    plan: Plan,
     pending: &mut Vec<u8>,
 ) -> Result<Ended, Fault>
     requires { pending.old.items ≡ [] }

@@ -19,7 +19,7 @@ ghost use Rattle.csn_lines.specs.Jobs.{LineJob};
 
 use crate::comparing::compare_files;
 use crate::laws::{known, lines_have_one_answer};
-use crate::planned::{Unplanned, plan_of, refuse};
+use crate::planned::{Unplanned, plan_of, refuse, text_plan_of};
 use crate::reporting::report_plan;
 use crate::soaking::soak_entry;
 use crate::verifying::verify_file;
@@ -118,7 +118,7 @@ fn answer_by_rule<B: Shelf, S: Source, K: Sink>(
         (S.steady input.old) (S.steady input.new) (S.faults input.old) (S.faults input.new)
         (K.steady out.old) (K.steady out.new) (K.faults out.old) (K.faults out.new) }
 {
-    let plan = match plan_of(alloc, shelf, rule) {
+    let plan = match text_plan_of(alloc, shelf, rule) {
         Ok(plan) => plan,
         Err(why) => return refuse(why, &mut lines.pending),
     };
